@@ -10,8 +10,8 @@
 "use strict";
 
 var SecondCheck = (function () {
-    const PROTOCOLS = ["mpcp", "fmlp+", "dpcp", "dflp", "dpcp-w", "spin", "fmlp+-c", "mpcp-c"];
-    const AT_HOMES = ["dpcp", "dflp", "dpcp-w"];
+    const PROTOCOLS = ["mpcp", "fmlp+", "dpcp", "dflp", "dpcp-w", "spin", "fmlp+-c", "spin-c", "dpcp-c", "dflp-c", "mpcp-c"];
+    const AT_HOMES = ["dpcp", "dflp", "dpcp-w", "dpcp-c", "dflp-c"];
     const BY_CEILINGS = ["mpcp", "mpcp-c"];
     const MOST_BYTES = 67108864;
     const MOST_LEVELS = 127;
@@ -350,7 +350,7 @@ var SecondCheck = (function () {
     // What the columns and rows of task i's program ask of the set. Tasks and resources go by their places, from 0; a lower place is higher.
     class View {
         constructor(set, protocol, i) {
-            Object.assign(this, { set, protocol, i, me: set.tasks[i], bounds: [] });
+            Object.assign(this, { set, protocol, i, me: set.tasks[i], bounds: [], is_spinning: protocol.startsWith("spin") });
             this.all = set.tasks.map((_, x) => x);
             this.resources = set.resources.map((_, q) => q);
             this.own = this.resources.filter((q) => this.uses(i, q));
@@ -363,6 +363,7 @@ var SecondCheck = (function () {
         beside(x) { return this.all.filter((y) => y !== x && y !== this.i && this.processor(y) === this.processor(x)); }
         ceiling(q) { return this.all.find((x) => this.uses(x, q)); }
         own_at(k) { return this.own.filter((q) => this.home(q) === k); }
+        own_away() { return this.own.filter((q) => this.home(q) !== this.processor(this.i)); }
         own_requests(among) { return sum_of(among, (q) => this.me.count[q]); }
 
         // The highest user of q that isn't on processor k, or where there is none the highest one.
@@ -395,11 +396,11 @@ var SecondCheck = (function () {
         ways(x, q) {
             const requested = this.uses(this.i, q), is_lower = x > this.i;
             if (AT_HOMES.includes(this.protocol)) {
-                const is_barred = this.protocol !== "dflp" && is_lower && this.ceiling(q) > this.i;
+                const is_barred = !["dflp", "dflp-c"].includes(this.protocol) && is_lower && this.ceiling(q) > this.i;
                 return [requested, !is_barred && this.own_at(this.home(q)).some((r) => r !== q), this.home(q) === this.processor(this.i)];
             }
-            if (this.is_local(x) && (!is_lower || this.protocol === "spin")) return [false, false, is_lower];
-            if (this.protocol === "spin") return [requested, this.beside(this.i).some((y) => this.uses(y, q)), false];
+            if (this.is_local(x) && (!is_lower || this.is_spinning)) return [false, false, is_lower];
+            if (this.is_spinning) return [requested, this.beside(this.i).some((y) => this.uses(y, q)), false];
             return [requested, this.has_path(x, q), this.is_local(x)];
         }
 
@@ -462,13 +463,31 @@ var SecondCheck = (function () {
         is_shared_out(x, q) { return this.all.some((y) => this.uses(y, q) && this.processor(y) !== this.processor(x)); }
         shared_out() { return this.own.filter((q) => this.is_shared_out(this.i, q)); }
 
+        // For which resources lower tasks of i's processor may spin while a task of processor k holds them; and their requests by i and by
+        // higher tasks there.
+        spun_below(k) {
+            const lower = this.beside(this.i).filter((y) => y > this.i), there = this.all.filter((x) => this.processor(x) === k);
+            const is_used = (q, among) => among.some((x) => this.uses(x, q));
+            return k === this.processor(this.i) ? [] : this.resources.filter((q) => is_used(q, lower) && is_used(q, there));
+        }
+
+        spins_above(among) { return sum_of(among, (q) => this.me.count[q] + this.holds(this.i, q, 0n)); }
+
+        // Which of these rows, each of several resources of one processor, a column of that processor or of a lower request stands in.
+        together(column, rows) {
+            const is_in = ({ k, among }) => (is_open(column) ? this.processor(column.x) === k && among.includes(column.q) : !among.includes(column.q));
+            return rows.filter((row) => row.among.length > 1 && is_in(row)).map(({ whom }) => whom);
+        }
+
+        processors() { return [...new Set(this.set.tasks.map((task) => Number(task.processor)))]; }
+
         // How many requests of i, of these resources, one of these tasks may hold up.
         held_up(among, holders) { return this.own_requests(among.filter((q) => holders.some((y) => this.uses(y, q)))); }
     }
 
     const is_open = (column) => column.way !== PREEMPTION;
 
-    // Each kind of row: which row a column stands in, if any, how often where that isn't once, and the limit of that row.
+    // Each kind of row: which row a column stands in, if any, or which ones, how often where that isn't once, and the limit of that row.
     const KINDS = {
         requests: { row: (view, { x, q }) => [x, q], limit: (view, x, q) => view.requests(x, q) },
         time: { row: (view, { x }) => [x], times: (column) => column.cost, limit: (view, x) => view.set.tasks[x].cost * view.jobs(x) },
@@ -491,6 +510,19 @@ var SecondCheck = (function () {
         lower_tasks: { row: (view, { x }) => x > view.i && view.is_local(x) && [x], limit: (view) => 1n + view.own_requests(view.shared_out()) },
         local_preemption: { row: (view, column) => !is_open(column) && !view.is_shared_out(view.i, column.q) && [0], limit: (view) => 1n + view.own_requests(view.shared_out()) },
         local_waits: { row: (view, { q, way }) => way === DIRECT && !view.is_shared_out(view.i, q) && [0], limit: () => 0n },
+        closer_spinning: {
+            rows: (view, column) => (is_open(column) ? [[view.processor(column.x), column.q]]
+                : view.processors().flatMap((k) => view.spun_below(k).filter((q) => q !== column.q).map((q) => [k, q]))),
+            limit: (view, k, q) => view.me.count[q] + view.holds(view.i, q, 1n),
+        },
+        lower_spinning: {
+            rows: (view, column) => view.together(column, view.processors().map((k) => ({ k, among: view.spun_below(k), whom: [k] }))),
+            limit: (view, k) => 1n + view.spins_above(view.spun_below(k)),
+        },
+        other_lower_spinning: {
+            rows: (view, column) => view.together(column, view.processors().flatMap((k) => view.spun_below(k).map((q, at, spun) => ({ k, among: spun.filter((r) => r !== q), whom: [k, q] })))),
+            limit: (view, k, q) => 1n + view.spins_above(view.spun_below(k).filter((r) => r !== q)),
+        },
         shared_holdings: { row: (view, { x, way }) => way === INDIRECT && [x], limit: (view, x) => view.shared_holds(x, view.resources.filter((q) => view.uses(x, q))) },
         holdings_by_resource: { row: (view, { x, q, way }) => way === INDIRECT && [x, q], limit: (view, x, q) => view.shared_holds(x, [q]) },
         away_holdings: { row: (view, column) => is_open(column) && [column.x], limit: (view, x) => view.runs_beside(x) },
@@ -500,6 +532,13 @@ var SecondCheck = (function () {
         },
         lower_waits: { row: (view, { x, way }) => way === DIRECT && x > view.i && view.is_local(x) && [0], limit: () => 0n },
         local_runners: { row: (view, { x, q, way }) => way === INDIRECT && !view.is_shared_out(x, q) && [0], limit: () => 0n },
+        home_tasks: {
+            row: (view, column) => is_open(column) && view.processor(column.x) === view.home(column.q) && [view.home(column.q)],
+            limit: (view, k) => (k === view.processor(view.i) ? 0n : view.own_requests(view.own_at(k))),
+        },
+        lower_home_tasks: { row: (view, { x }) => x > view.i && view.is_local(x) && [x], limit: (view) => 1n + view.own_requests(view.own_away()) },
+        lower_preemption: { row: (view, { x, way }) => way === PREEMPTION && x > view.i && view.is_local(x) && [0], limit: (view) => 1n + view.own_requests(view.own_away()) },
+        lower_home_waits: { row: (view, column) => is_open(column) && column.x > view.i && view.home(column.q) === view.processor(view.i) && [0], limit: () => 0n },
     };
 
     const KINDS_OF = {
@@ -511,18 +550,21 @@ var SecondCheck = (function () {
         spin: ["requests", "time", "lower_requests", "spinning", "own_spinning"],
     };
     KINDS_OF["fmlp+-c"] = [...KINDS_OF["fmlp+"], "holders", "other_holders", "lower_tasks", "local_preemption", "local_waits", "local_runners"];
+    KINDS_OF["spin-c"] = ["requests", "time", "lower_requests", "closer_spinning", "own_spinning", "lower_spinning", "other_lower_spinning"];
+    KINDS_OF["dpcp-c"] = [...KINDS_OF["dpcp-w"], "home_tasks", "lower_home_tasks", "lower_preemption", "lower_home_waits"];
+    KINDS_OF["dflp-c"] = [...KINDS_OF.dflp, "home_tasks", "lower_home_tasks", "lower_preemption"];
     KINDS_OF["mpcp-c"] = [...KINDS_OF.mpcp, "shared_holdings", "holdings_by_resource", "away_holdings", "shared_intervals", "local_preemption", "lower_waits"];
 
     // The rows of a kind, in rising order of whom each is for: its cells, each a column and how often that counts, and its limit.
-    function rows_of(view, columns, { row, times, limit }) {
-        const rows = new Map();
+    function rows_of(view, columns, { row, rows, times, limit }) {
+        const found = new Map();
         columns.forEach((column, at) => {
-            const whom = row(view, column);
-            if (!whom) return;
-            if (!rows.has(`${whom}`)) rows.set(`${whom}`, { whom, cells: [], limit: () => limit(view, ...whom) });
-            rows.get(`${whom}`).cells.push([at, times ? times(column) : 1n]);
+            for (const whom of rows ? rows(view, column) : [row(view, column)].filter(Boolean)) {
+                if (!found.has(`${whom}`)) found.set(`${whom}`, { whom, cells: [], limit: () => limit(view, ...whom) });
+                found.get(`${whom}`).cells.push([at, times ? times(column) : 1n]);
+            }
         });
-        return [...rows.values()].sort(({ whom: [a, b = 0] }, { whom: [c, d = 0] }) => a - c || b - d);
+        return [...found.values()].sort(({ whom: [a, b = 0] }, { whom: [c, d = 0] }) => a - c || b - d);
     }
 
     // Task i's program. Its limits are those at the bounds that `view` has when they are asked for.

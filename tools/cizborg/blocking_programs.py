@@ -309,6 +309,45 @@ class Shape:
             for q in range(len(self.s.resources)):
                 self.add_own(columns, q, lambda c: True)
 
+    def add_closer_spinning(self) -> None:
+        """Of a processor and a resource: one request for each that spins, or in place of the lower one a request of another resource that runs."""
+        for k in self.processors:
+            spun = self.spun_below(k)
+            for q in range(len(self.s.resources)):
+                self.add_closer_spinning_of(k, q, q in spun)
+
+    def add_closer_spinning_of(self, k: int, q: int, is_spun_below: bool) -> None:
+        """The row of k and q."""
+        processor = self.s.processor
+        self.add(lambda r: self.spins(r, q), self.every,
+                 lambda c: int(is_spun_below and c.resource != q if c.way == "preemption" else processor[c.task] == k and c.resource == q))
+
+    def add_lower_spinning(self) -> None:
+        """Of a processor: of all that lower local tasks spin for there, one request for each that spins, or a lower one of others that runs."""
+        for k in self.processors:
+            self.add_together(k, self.spun_below(k))
+
+    def add_other_lower_spinning(self) -> None:
+        """Of a processor and a resource: the same of the others of these."""
+        for k in self.processors:
+            spun = self.spun_below(k)
+            for q in spun:
+                self.add_together(k, [r for r in spun if r != q])
+
+    def add_together(self, k: int, resources: list[int]) -> None:
+        """The row of these resources, which is there if they are two or more."""
+        if len(resources) > 1:
+            processor = self.s.processor
+            self.add(lambda r: 1 + sum(self.spins_above(r, q) for q in resources), self.every,
+                     lambda c: int(c.resource not in resources if c.way == "preemption" else processor[c.task] == k and c.resource in resources))
+
+    def spun_below(self, k: int) -> list[int]:
+        """The resources which both a lower task of i's processor and a task of k, another processor, request."""
+        s, here = self.s, self.s.processor[self.i]
+        lower = [x for x in range(self.i + 1, s.n) if s.processor[x] == here]
+        there = [x for x in range(s.n) if s.processor[x] == k != here]
+        return [q for q in range(len(s.resources)) if any(q in s.count[x] for x in lower) and any(q in s.count[x] for x in there)]
+
     def add_holders(self) -> None:
         """Of a task: one request before each of i that its processor may hold up."""
         for x in self.others:
@@ -345,6 +384,37 @@ class Shape:
     def add_local_runners(self) -> None:
         """No request of what only its task's processor requests runs before what i waits for."""
         self.add(lambda r: 0, self.every, lambda c: int(c.way == "indirect" and not self.s.is_shared_out(c.task, c.resource)))
+
+    def add_home_tasks(self) -> None:
+        """Of a processor: one request of its own tasks before each of i there, and none where it is i's."""
+        for k in self.processors:
+            self.add_home_tasks_of(k)
+
+    def add_home_tasks_of(self, k: int) -> None:
+        """The row of k."""
+        s = self.s
+        here = [(c, column) for c, column in self.every if s.processor[column.task] == k == s.home[column.resource]]
+        self.add(lambda r: 0 if k == s.processor[self.i] else self.requests_at(k), here, lambda c: int(c.way != "preemption"))
+
+    def add_lower_home_tasks(self) -> None:
+        """Of a lower local task: one request in each interval that a release or a request elsewhere begins."""
+        for x in self.others:
+            if x > self.i and self.s.processor[x] == self.s.processor[self.i]:
+                self.add(lambda r: 1 + self.requests_away(), self.of_task[x], lambda c: 1)
+
+    def add_lower_preemption(self) -> None:
+        """One request of all lower local tasks in each of these intervals."""
+        lower = [(c, column) for c, column in self.every if column.task > self.i and self.s.processor[column.task] == self.s.processor[self.i]]
+        self.add(lambda r: 1 + self.requests_away(), lower, lambda c: int(c.way == "preemption"))
+
+    def add_lower_home_waits(self) -> None:
+        """No request of a lower task is waited for on i's processor."""
+        here = [(c, column) for c, column in self.every if column.task > self.i and self.s.home[column.resource] == self.s.processor[self.i]]
+        self.add(lambda r: 0, here, lambda c: int(c.way != "preemption"))
+
+    def requests_away(self) -> int:
+        """The requests of i that run on other processors."""
+        return self.requests() - self.requests_at(self.s.processor[self.i])
 
     def add_shared_holdings(self) -> None:
         """Of a task: one request in each holding that is shared out, before which it may run one."""
@@ -398,9 +468,13 @@ class Shape:
     def spins(self, bounds: Bounds, q: int) -> int:
         """How many requests of q from i's processor may spin while a job of i is there."""
         s, i = self.s, self.i
-        beside = [x for x in s.users(q) if x != i and s.processor[x] == s.processor[i]]
-        higher = sum(s.count[h][q] * s.jobs(bounds, i, h) for h in beside if h < i)
-        return s.count[i].get(q, 0) + higher + int(any(x > i for x in beside))
+        return self.spins_above(bounds, q) + int(any(x > i and s.processor[x] == s.processor[i] for x in s.users(q)))
+
+    def spins_above(self, bounds: Bounds, q: int) -> int:
+        """Those of them by i and by higher tasks."""
+        s, i = self.s, self.i
+        higher = [h for h in s.users(q) if h < i and s.processor[h] == s.processor[i]]
+        return s.count[i].get(q, 0) + sum(s.count[h][q] * s.jobs(bounds, i, h) for h in higher)
 
     def requests_met(self, bounds: Bounds, x: int, q: int) -> int:
         """The requests of q by x that i waits for at its home: no more than run within the windows of i's own requests there."""
@@ -446,6 +520,15 @@ KINDS["fmlp+-c"] = (
     Shape.add_local_waits,
     Shape.add_local_runners,
 )
+KINDS["spin-c"] = (
+    Shape.add_requests,
+    Shape.add_time,
+    Shape.add_lower_requests,
+    Shape.add_closer_spinning,
+    Shape.add_own_spinning,
+    Shape.add_lower_spinning,
+    Shape.add_other_lower_spinning,
+)
 KINDS["mpcp-c"] = (
     *KINDS["mpcp"],
     Shape.add_shared_holdings,
@@ -468,3 +551,5 @@ def as_lp(costs: Sequence[int], rows: Sequence[tuple[Row, int]]) -> str:
     lines = ["Maximize", " worth: " + (" + ".join(f"{cost} y{c}" for c, cost in enumerate(costs)) or "0 y0"), "Subject To"]
     lines += [f" r{k}: " + " + ".join(f"{weight} y{c}" for c, weight in row) + f" <= {limit}" for k, (row, limit) in enumerate(rows)]
     return "\n".join(lines + ["End", ""])
+KINDS["dpcp-c"] = (*KINDS["dpcp-w"], Shape.add_home_tasks, Shape.add_lower_home_tasks, Shape.add_lower_preemption, Shape.add_lower_home_waits)
+KINDS["dflp-c"] = (*KINDS["dflp"], Shape.add_home_tasks, Shape.add_lower_home_tasks, Shape.add_lower_preemption)

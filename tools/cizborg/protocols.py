@@ -28,6 +28,9 @@ PROTOCOLS = {
         Protocol("dpcp-w", "DPCP with windows of requests", True, "dpcp"),
         Protocol("spin", "spin locks", False, "spin"),
         Protocol("fmlp+-c", "FMLP+ with the closer analysis", False, "fmlp+"),
+        Protocol("spin-c", "spin locks with the closer analysis", False, "spin"),
+        Protocol("dpcp-c", "DPCP with the closer analysis", True, "dpcp"),
+        Protocol("dflp-c", "the distributed FIFO protocol with the closer analysis", True, "dflp"),
         Protocol("mpcp-c", "MPCP with the closer analysis", False, "mpcp"),
     )
 }

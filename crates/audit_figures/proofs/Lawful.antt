@@ -12,7 +12,7 @@ use Rattle.program_sources.specs.Recurrence.{SourceDef}
 use Rattle.program_sources.specs.Valid.{IsValid}
 use Rattle.charge_laws.specs.Charges.{Charge}
 use Rattle.charge_laws.specs.Windows.{AreBounds}
-use Rattle.fragments.specs.declared.columns.Class.TheVariants.{Direct, Indirect, Preemption}
+use Rattle.blocking_columns.specs.declared.columns.Class.TheVariants.{Direct, Indirect, Preemption}
 use Rattle.soundness_laws.specs.Sound.{KeepsBounds}
 use Rattle.soundness_laws.proofs.MeasuresKept.{measured_response, measured_blocking}
 use Rattle.charge.specs.declared.item.ChargeItem.{ChargeItem}

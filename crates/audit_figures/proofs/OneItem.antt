@@ -13,9 +13,9 @@ use Rattle.number_laws.specs.Sums.{flag}
 use Rattle.number_laws.specs.Tests.{count_below}
 use Rattle.number_laws.proofs.SumLaws.{sum_below-one}
 use Rattle.number_laws.proofs.CountLaws.{count_below-none, flag-of_false}
-use Rattle.fragments.specs.ClassOrder.{class_rank}
-use Rattle.fragments.specs.declared.columns.Class.{Class}
-use Rattle.fragments.specs.declared.columns.Class.TheVariants.{Direct}
+use Rattle.blocking_columns.specs.ClassOrder.{class_rank}
+use Rattle.blocking_columns.specs.declared.columns.Class.{Class}
+use Rattle.blocking_columns.specs.declared.columns.Class.TheVariants.{Direct}
 use Rattle.charge_laws.specs.Fractions.{is_same_class}
 use Rattle.charge.specs.Requests.{ChargedRequest}
 use Rattle.charge.specs.Table.{ItemDef, is_of, item_cmp}

@@ -2,8 +2,8 @@
 use Rattle.std.specs.Prelude.{ℕ, ◌+◌, ◌-◌, ◌^◌, ◌==◌, ◌&&◌, min, List, slice_index_or, sum_by}
 use Rattle.number_laws.specs.Sums.{only_if}
 use Rattle.schedule_model.specs.JobDef.{JobDef, job_of}
-use Rattle.fragments.specs.declared.columns.Class.{Class}
-use Rattle.fragments.specs.declared.columns.Class.TheVariants.{Direct, Indirect, Preemption}
+use Rattle.blocking_columns.specs.declared.columns.Class.{Class}
+use Rattle.blocking_columns.specs.declared.columns.Class.TheVariants.{Direct, Indirect, Preemption}
 use Rattle.charge.specs.declared.item.ChargeItem.{ChargeItem}
 use Rattle.charge_laws.specs.Fractions.{is_same_class}
 use Rattle.audit_figures.specs.declared.sums.ClassSums.{ClassSums}

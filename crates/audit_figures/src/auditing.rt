@@ -1,5 +1,4 @@
-ghost use Rattle.std.specs.Prelude.{◌≡◌, ℕ, ◌<◌, true, length, slice_index, slice_index_or, IfOk};
-ghost use Rattle.std.specs.List.{All};
+ghost use Rattle.std.specs.Prelude.{◌≡◌, true, length, slice_index};
 ghost use Rattle.program_form.specs.Certificate.{certificate_seen};
 ghost use Rattle.sporadic_model.specs.Homes.{HasHomesFor};
 ghost use Rattle.program_sources.specs.Recurrence.{source_at};
@@ -8,11 +7,9 @@ ghost use Rattle.schedule_model.specs.RowDef.{trace_in, ticks_of};
 ghost use Rattle.schedule_model.specs.Fitting.{is_fitting};
 ghost use Rattle.schedule_model.specs.ByProtocol.{rules_of, interference_of};
 ghost use Rattle.charge_laws.specs.Windows.{AreBounds};
-ghost use Rattle.charged_protocols.specs.ByProtocol.{charges_of};
+ghost use Rattle.charge_laws.specs.ByProtocol.{charges_of};
 ghost use Rattle.dual_check.specs.Answers.{HasDenominators};
-ghost use Rattle.schedule_answers.specs.TaskAnswers.{no_figures};
-ghost use Rattle.figure_laws.specs.Figures.{blocked_sum, blocked_ticks};
-ghost use Rattle.figure_laws.specs.Audited.{Audits, LieWithin, charged_ticks};
+ghost use Rattle.figure_laws.specs.Audited.{IsAudited};
 ghost use Rattle.audit_figures.specs.Walked.{HasFigures};
 
 use crate::beside::figures;
@@ -77,23 +74,9 @@ pub fn audit_rows_with<P: ChargedProtocol, R: RowReader>(
     requires denominators { HasDenominators (certificate_seen certificate.now) }
     requires fits { is_fitting (R.rows rows.old) jobs.now ≡ true }
     requires start { R.at rows.old ≡ 0 }
-
-    // The figures; or why the certificate is not valid; or else the first row that breaks a rule.
-    ensures audits { Audits (P.keeps protocol.now) (P.interferes protocol.now) (P.charges protocol.now)
+    ensures { IsAudited (P.keeps protocol.now) (P.interferes protocol.now) (P.charges protocol.now)
         (source_at (P.source protocol.now) jobs.now.set) (certificate_seen certificate.now)
         (trace_in jobs.now (R.rows rows.old).runs) (ticks_of (R.rows rows.old).runs) result }
-
-    // The response of each task is at most its bound, and its blocking at most its value.
-    ensures within { IfOk result (λ v. All LieWithin v.items) }
-
-    // The ticks of the three classes are all those at which the task's jobs are blocked in their windows.
-    ensures adds_up { IfOk result (λ v. (x : ℕ) → x < length jobs.now.set.tasks → charged_ticks (slice_index_or v.items x no_figures)
-        ≡ blocked_sum (P.interferes protocol.now) (trace_in jobs.now (R.rows rows.old).runs) (slice_index certificate.now.bounds.items)
-        (ticks_of (R.rows rows.old).runs) x) }
-
-    // And all those at which they are blocked at all.
-    ensures adds_up_to_all { IfOk result (λ v. (x : ℕ) → x < length jobs.now.set.tasks → charged_ticks (slice_index_or v.items x no_figures)
-        ≡ blocked_ticks (P.interferes protocol.now) (trace_in jobs.now (R.rows rows.old).runs) (ticks_of (R.rows rows.old).runs) x) }
 {
     jobs.set().keeps_the_model();
     jobs.keeps_its_rules();
@@ -122,23 +105,9 @@ pub fn audit_with<P: ChargedProtocol>(
     requires suits { P.suits protocol.now jobs.now.set }
     requires denominators { HasDenominators (certificate_seen certificate.now) }
     requires fits { is_fitting rows.now jobs.now ≡ true }
-
-    // The figures; or why the certificate is not valid; or else the first row that breaks a rule.
-    ensures audits { Audits (P.keeps protocol.now) (P.interferes protocol.now) (P.charges protocol.now)
+    ensures { IsAudited (P.keeps protocol.now) (P.interferes protocol.now) (P.charges protocol.now)
         (source_at (P.source protocol.now) jobs.now.set) (certificate_seen certificate.now)
         (trace_in jobs.now rows.now.runs) (ticks_of rows.now.runs) result }
-
-    // The response of each task is at most its bound, and its blocking at most its value.
-    ensures within { IfOk result (λ v. All LieWithin v.items) }
-
-    // The ticks of the three classes are all those at which the task's jobs are blocked in their windows.
-    ensures adds_up { IfOk result (λ v. (x : ℕ) → x < length jobs.now.set.tasks → charged_ticks (slice_index_or v.items x no_figures)
-        ≡ blocked_sum (P.interferes protocol.now) (trace_in jobs.now rows.now.runs) (slice_index certificate.now.bounds.items)
-        (ticks_of rows.now.runs) x) }
-
-    // And all those at which they are blocked at all.
-    ensures adds_up_to_all { IfOk result (λ v. (x : ℕ) → x < length jobs.now.set.tasks → charged_ticks (slice_index_or v.items x no_figures)
-        ≡ blocked_ticks (P.interferes protocol.now) (trace_in jobs.now rows.now.runs) (ticks_of rows.now.runs) x) }
 {
     audit_rows_with(
         alloc,
@@ -161,14 +130,8 @@ pub fn audit_rows<R: RowReader>(
     requires denominators { HasDenominators (certificate_seen certificate.now) }
     requires fits { is_fitting (R.rows rows.old) jobs.now ≡ true }
     requires start { R.at rows.old ≡ 0 }
-    ensures audits { Audits (rules_of protocol) (interference_of protocol) (charges_of protocol) (source_of protocol jobs.now.set)
+    ensures { IsAudited (rules_of protocol) (interference_of protocol) (charges_of protocol) (source_of protocol jobs.now.set)
         (certificate_seen certificate.now) (trace_in jobs.now (R.rows rows.old).runs) (ticks_of (R.rows rows.old).runs) result }
-    ensures within { IfOk result (λ v. All LieWithin v.items) }
-    ensures adds_up { IfOk result (λ v. (x : ℕ) → x < length jobs.now.set.tasks → charged_ticks (slice_index_or v.items x no_figures)
-        ≡ blocked_sum (interference_of protocol) (trace_in jobs.now (R.rows rows.old).runs) (slice_index certificate.now.bounds.items)
-        (ticks_of (R.rows rows.old).runs) x) }
-    ensures adds_up_to_all { IfOk result (λ v. (x : ℕ) → x < length jobs.now.set.tasks → charged_ticks (slice_index_or v.items x no_figures)
-        ≡ blocked_ticks (interference_of protocol) (trace_in jobs.now (R.rows rows.old).runs) (ticks_of (R.rows rows.old).runs) x) }
 {
     match protocol {
         Protocol::Mpcp => audit_rows_with(alloc, &Mpcp, certificate, jobs, rows),
@@ -188,14 +151,8 @@ pub fn audit(
     requires homes { HasHomesFor protocol jobs.now.set }
     requires denominators { HasDenominators (certificate_seen certificate.now) }
     requires fits { is_fitting rows.now jobs.now ≡ true }
-    ensures audits { Audits (rules_of protocol) (interference_of protocol) (charges_of protocol) (source_of protocol jobs.now.set)
+    ensures { IsAudited (rules_of protocol) (interference_of protocol) (charges_of protocol) (source_of protocol jobs.now.set)
         (certificate_seen certificate.now) (trace_in jobs.now rows.now.runs) (ticks_of rows.now.runs) result }
-    ensures within { IfOk result (λ v. All LieWithin v.items) }
-    ensures adds_up { IfOk result (λ v. (x : ℕ) → x < length jobs.now.set.tasks → charged_ticks (slice_index_or v.items x no_figures)
-        ≡ blocked_sum (interference_of protocol) (trace_in jobs.now rows.now.runs) (slice_index certificate.now.bounds.items)
-        (ticks_of rows.now.runs) x) }
-    ensures adds_up_to_all { IfOk result (λ v. (x : ℕ) → x < length jobs.now.set.tasks → charged_ticks (slice_index_or v.items x no_figures)
-        ≡ blocked_ticks (interference_of protocol) (trace_in jobs.now rows.now.runs) (ticks_of rows.now.runs) x) }
 {
     audit_rows(
         alloc,

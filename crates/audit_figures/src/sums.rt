@@ -2,8 +2,8 @@ ghost use Rattle.std.specs.Prelude.{◌≡◌, ℕ, ◌<◌, length, slice_set, 
 ghost use Rattle.std.specs.List.{All};
 ghost use Rattle.audit_figures.specs.Sums.{sums_at, no_sums, sums_with, item_sums};
 
+use blocking_columns::Class;
 use charge::{ChargeItem, ChargeTable};
-use fragments::Class;
 use schedule_model::JobList;
 use std::alloc::{AllocError, Global};
 

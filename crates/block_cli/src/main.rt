@@ -1,5 +1,4 @@
-//! The program: it answers the words after its name by the one call of `block_top::answered`, over the system's files
-//! and standard output.
+//! The program: it answers the words after its name by one call of `block_top::answered`, over the system's files and standard output.
 #![tactic(auto)]
 
 use block_top::{Ended, ProcessWords, answered};

@@ -14,7 +14,7 @@ ghost use Rattle.cert_json.specs.File.{file_seen};
 ghost use Rattle.command_inputs.specs.Halts.{reply_seen, Answered};
 
 use crate::judging::invalid_reply;
-use crate::tying::untied;
+use crate::tying::untied_reply;
 use crate::work::broken_reply;
 use audit_figures::{AuditStop, TaskFigures};
 use cert_json::CertFile;
@@ -48,7 +48,7 @@ fn kept_reply(
 }
 
 /// The figures of the rows of a text.
-fn figured(
+fn figures_of_text(
     alloc: Global,
     protocol: ProtocolName,
     certificate: &Certificate,
@@ -66,7 +66,7 @@ fn figured(
 }
 
 /// Audits the rows against the certificate.
-fn audited_rows(
+fn audit_reply(
     alloc: Global,
     protocol: ProtocolName,
     certificate: &Certificate,
@@ -79,7 +79,7 @@ fn audited_rows(
     ensures { Answered result (IsAuditOf protocol jobs.now rows.now (certificate_seen certificate.now)) }
 {
     let ticks = rows.ticks();
-    match figured(alloc, protocol, certificate, jobs, rows) {
+    match figures_of_text(alloc, protocol, certificate, jobs, rows) {
         Ok(figures) => Ok(kept_reply(alloc, jobs.set(), ticks, &figures)?),
         Err(AuditStop::Invalid(failure)) => Ok(invalid_reply(alloc, jobs.set(), failure)?),
         Err(AuditStop::Broken(breach)) => Ok(broken_reply(alloc, breach)?),
@@ -88,7 +88,7 @@ fn audited_rows(
 }
 
 /// The work of `audit`, on the set of this digest.
-pub fn audited(
+pub fn audit(
     alloc: Global,
     protocol: ProtocolName,
     digest: &[u8; 32],
@@ -101,8 +101,8 @@ pub fn audited(
     requires made { IsMadeFor rows.now jobs.now }
     ensures { Answered result (IfTied digest.now (file_seen file.now) (IsAuditOf protocol jobs.now rows.now)) }
 {
-    match untied(alloc, file, digest)? {
+    match untied_reply(alloc, file, digest)? {
         Some(reply) => Ok(reply),
-        None => audited_rows(alloc, protocol, &file.certificate, jobs, rows),
+        None => audit_reply(alloc, protocol, &file.certificate, jobs, rows),
     }
 }

@@ -2,7 +2,7 @@ ghost use Rattle.std.specs.Prelude.{◌≤◌, IfOk};
 ghost use Rattle.sporadic_model.specs.declared.limits.TheConstants.{MOST_TICKS};
 ghost use Rattle.named_laws.specs.Named.{HasHomes};
 ghost use Rattle.command_words.specs.Words.{words_seen};
-ghost use Rattle.command_words.specs.FormSeen.{form_on, form_seen, HasFittingNumbers};
+ghost use Rattle.command_words.specs.FormSeen.{plain_form, tied_form, form_seen, HasFittingNumbers};
 ghost use Rattle.run_plans.specs.Commands.{check_of, full_table_of, upgrading, with_certificate, judging_rows, judging_jobs};
 ghost use Rattle.run_plans.specs.Commands.{simulating_jobs, plan_of, auditing_rows, auditing_jobs, auditing, confirming};
 ghost use Rattle.program_form.specs.Certificate.{certificate_seen};
@@ -14,17 +14,18 @@ ghost use Rattle.command_inputs.specs.Got.{Keeps};
 ghost use Rattle.command_inputs.specs.Halts.{reply_seen};
 ghost use Rattle.run_plans.specs.Replies.{AnswersPlan};
 
-use crate::auditing::audited;
+use crate::auditing::audit;
 use crate::judging::{judgement, proved_table};
 use crate::refusing::{confirmation, refutation};
-use crate::study::counted;
-use crate::upgrading::upgraded;
+use crate::study::study_counts;
+use crate::upgrading::upgrade;
 use crate::work::{analysis, conformance, no_form, simulation, table};
 use cert_json::CertFile;
 use command_inputs::{
-    CertFor, Halt, JobsOf, OldCertFor, RefusalFor, Reply, get, get_rows, get_tied_set, settled,
+    CertFor, Halt, JobsOf, OldCertFor, RefusalFor, Reply, SetFor, get, get_rows, get_tied_set,
+    reply_of,
 };
-use command_words::{Command, Work, command_of};
+use command_words::{AuditInputs, Command, PlainWork, TiedWork, Work, command_of};
 use outside_ports::Shelf;
 use protocol_names::ProtocolName;
 use schedule_model::JobList;
@@ -82,7 +83,7 @@ fn upgraded_reply<S: Shelf>(
     ensures keeps { Keeps (S.seen shelf.old) (S.seen shelf.new) }
 {
     let certificate = get(alloc, shelf, &OldCertFor { protocol }, certificate)?;
-    upgraded(alloc, protocol, digest, set, &certificate)
+    upgrade(alloc, protocol, digest, set, &certificate)
 }
 
 /// Reads the certificate of `report`, once its set is read, and does its work.
@@ -172,7 +173,7 @@ fn audited_rows_reply<S: Shelf>(
     ensures keeps { Keeps (S.seen shelf.old) (S.seen shelf.new) }
 {
     let rows = get_rows(alloc, shelf, jobs, rows)?;
-    audited(alloc, protocol, digest, file, jobs, &rows)
+    audit(alloc, protocol, digest, file, jobs, &rows)
 }
 
 /// Reads the jobs and the rows of `audit`, once its set and its certificate are read, and does its work.
@@ -203,68 +204,79 @@ fn audited_reply<S: Shelf>(
     protocol: ProtocolName,
     digest: &[u8; 32],
     set: &TaskSet,
-    certificate: &str,
-    jobs: &str,
-    rows: &str,
+    inputs: AuditInputs<'_>,
 ) -> Result<Reply, Halt>
     requires { HasHomes protocol set.now }
     ensures reply { AnswersPlan result (S.seen shelf.old) (S.seen shelf.new)
-        (auditing protocol certificate.now jobs.now rows.now digest.now set.now) }
+        (auditing protocol inputs.entry.certificate.now inputs.entry.jobs.now inputs.entry.rows.now digest.now set.now) }
     ensures keeps { Keeps (S.seen shelf.old) (S.seen shelf.new) }
 {
-    let file = get(alloc, shelf, &CertFor { protocol }, certificate)?;
-    audited_jobs_reply(alloc, shelf, protocol, digest, set, &file, jobs, rows)
+    let file = get(alloc, shelf, &CertFor { protocol }, inputs.certificate)?;
+    audited_jobs_reply(
+        alloc,
+        shelf,
+        protocol,
+        digest,
+        set,
+        &file,
+        inputs.jobs,
+        inputs.rows,
+    )
 }
 
 /// Reads the set of this name, and then what else the work asks for, and does it.
-#[tactic(auto, using(crate::proofs::SetPlans::ungot_set))]
-fn set_reply<R: Threads + Sync, S: Shelf>(
+#[tactic(auto, using(crate::proofs::SetPlans::ungot_plain))]
+fn plain_reply<S: Shelf>(
+    alloc: Global,
+    shelf: &mut S,
+    protocol: ProtocolName,
+    name: &str,
+    work: PlainWork<'_>,
+) -> Result<Reply, Halt>
+    requires { HasFittingNumbers (plain_form protocol name.now work) }
+    ensures reply { AnswersPlan result (S.seen shelf.old) (S.seen shelf.new) (plan_of (plain_form protocol name.now work.entry)) }
+    ensures keeps { Keeps (S.seen shelf.old) (S.seen shelf.new) }
+{
+    let set = get(alloc, shelf, &SetFor { protocol }, name)?;
+    match work {
+        PlainWork::Report => table(alloc, &set),
+        PlainWork::Conform { jobs, rows } => jobs_reply(alloc, shelf, protocol, &set, jobs, rows),
+        PlainWork::Simulate { jobs, ticks } => {
+            simulated_reply(alloc, shelf, protocol, &set, jobs, ticks)
+        }
+    }
+}
+
+/// The same of a work with certificates, which carry the digest of the set's bytes.
+#[tactic(auto, using(crate::proofs::SetPlans::ungot_tied))]
+fn tied_reply<R: Threads + Sync, S: Shelf>(
     rt: &R,
     alloc: Global,
     shelf: &mut S,
     protocol: ProtocolName,
     name: &str,
-    work: Work<'_>,
+    work: TiedWork<'_>,
 ) -> Result<Reply, Halt>
-    requires { HasFittingNumbers (form_on protocol name.now work) }
-    ensures reply { AnswersPlan result (S.seen shelf.old) (S.seen shelf.new) (plan_of (form_on protocol name.now work.entry)) }
+    ensures reply { AnswersPlan result (S.seen shelf.old) (S.seen shelf.new) (plan_of (tied_form protocol name.now work.entry)) }
     ensures keeps { Keeps (S.seen shelf.old) (S.seen shelf.new) }
 {
     let (set, digest) = get_tied_set(alloc, shelf, protocol, name)?;
     match work {
-        Work::Analyse { allowance } => analysis(rt, alloc, &digest, &set, protocol, allowance),
-        Work::Refute { allowance } => refutation(alloc, &digest, &set, protocol, allowance),
-        Work::Check { certificate } => {
+        TiedWork::Analyse { allowance } => analysis(rt, alloc, &digest, &set, protocol, allowance),
+        TiedWork::Refute { allowance } => refutation(alloc, &digest, &set, protocol, allowance),
+        TiedWork::Check { certificate } => {
             judgement_reply(alloc, shelf, protocol, &digest, &set, certificate)
         }
-        Work::Confirm { refusal } => {
+        TiedWork::Confirm { refusal } => {
             confirmation_reply(rt, alloc, shelf, protocol, &digest, &set, refusal)
         }
-        Work::Upgrade { certificate } => {
+        TiedWork::Upgrade { certificate } => {
             upgraded_reply(alloc, shelf, protocol, &digest, &set, certificate)
         }
-        Work::Report => table(alloc, &set),
-        Work::FullReport { certificate } => {
+        TiedWork::FullReport { certificate } => {
             proved_table_reply(alloc, shelf, protocol, &digest, &set, certificate)
         }
-        Work::Conform { jobs, rows } => jobs_reply(alloc, shelf, protocol, &set, jobs, rows),
-        Work::Simulate { jobs, ticks } => {
-            simulated_reply(alloc, shelf, protocol, &set, jobs, ticks)
-        }
-        Work::Audit {
-            certificate,
-            jobs,
-            rows,
-        } => audited_reply(
-            alloc,
-            shelf,
-            protocol,
-            &digest,
-            &set,
-            certificate,
-            jobs,
-            rows,
-        ),
+        TiedWork::Audit(inputs) => audited_reply(alloc, shelf, protocol, &digest, &set, inputs),
     }
 }
 
@@ -284,8 +296,11 @@ fn command_reply<R: Threads + Sync, S: Shelf>(
             protocol,
             set,
             work,
-        } => set_reply(rt, alloc, shelf, protocol, set, work),
-        Command::Study { seed, sets } => counted(rt, alloc, seed, sets),
+        } => match work {
+            Work::Plain(work) => plain_reply(alloc, shelf, protocol, set, work),
+            Work::Tied(work) => tied_reply(rt, alloc, shelf, protocol, set, work),
+        },
+        Command::Study { seed, sets } => study_counts(rt, alloc, seed, sets),
     }
 }
 
@@ -301,7 +316,7 @@ pub fn reply_to<R: Threads + Sync, S: Shelf>(
     ensures keeps { Keeps (S.seen shelf.old) (S.seen shelf.new) }
 {
     match command_of(words) {
-        Some(command) => settled(command_reply(rt, alloc, shelf, command)),
-        None => settled(no_form(alloc)),
+        Some(command) => reply_of(command_reply(rt, alloc, shelf, command)),
+        None => reply_of(no_form(alloc)),
     }
 }

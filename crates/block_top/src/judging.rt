@@ -11,7 +11,7 @@ ghost use Rattle.command_inputs.specs.Known.{Answer};
 ghost use Rattle.command_inputs.specs.Halts.{reply_seen, HaltsWith, Answered};
 ghost use Rattle.reply_texts.specs.Failing.{FailsTask};
 
-use crate::tying::untied;
+use crate::tying::untied_reply;
 use cert_json::CertFile;
 use command_inputs::{Halt, Reply, Status};
 use dual_check::{Invalid, Valid};
@@ -50,7 +50,7 @@ fn valid_reply(alloc: Global) -> Result<Reply, AllocError>
 
 /// What the certificate proves, where it is valid. Else halts with the reply that names its first failure, which is the judgement whatever
 /// a valid one is told.
-pub(crate) fn validated(
+pub(crate) fn validity(
     alloc: Global,
     protocol: ProtocolName,
     set: &TaskSet,
@@ -69,7 +69,7 @@ pub(crate) fn validated(
 }
 
 /// Judges the certificate.
-fn judged(
+fn certificate_judgement(
     alloc: Global,
     protocol: ProtocolName,
     set: &TaskSet,
@@ -79,7 +79,7 @@ fn judged(
     requires denominators { HasDenominators (certificate_seen certificate.now) }
     ensures { Answered result (IsCheck protocol set.now (certificate_seen certificate.now)) }
 {
-    validated(alloc, protocol, set, certificate)?;
+    validity(alloc, protocol, set, certificate)?;
     Ok(valid_reply(alloc)?)
 }
 
@@ -95,14 +95,14 @@ pub fn judgement(
     requires denominators { HasDenominators (certificate_seen file.now.certificate) }
     ensures { Answered result (IfTied digest.now (file_seen file.now) (IsCheck protocol set.now)) }
 {
-    match untied(alloc, file, digest)? {
+    match untied_reply(alloc, file, digest)? {
         Some(reply) => Ok(reply),
-        None => judged(alloc, protocol, set, &file.certificate),
+        None => certificate_judgement(alloc, protocol, set, &file.certificate),
     }
 }
 
 /// Judges the certificate, and tells what it proves.
-fn tabled(
+fn full_table_reply(
     alloc: Global,
     protocol: ProtocolName,
     set: &TaskSet,
@@ -112,7 +112,7 @@ fn tabled(
     requires denominators { HasDenominators (certificate_seen certificate.now) }
     ensures { Answered result (IsFullTable protocol set.now (certificate_seen certificate.now)) }
 {
-    let valid = validated(alloc, protocol, set, certificate)?;
+    let valid = validity(alloc, protocol, set, certificate)?;
     Ok(Reply {
         status: Status::Done,
         text: full_table(alloc, set, certificate, &valid.values)?,
@@ -131,8 +131,8 @@ pub fn proved_table(
     requires denominators { HasDenominators (certificate_seen file.now.certificate) }
     ensures { Answered result (IfTied digest.now (file_seen file.now) (IsFullTable protocol set.now)) }
 {
-    match untied(alloc, file, digest)? {
+    match untied_reply(alloc, file, digest)? {
         Some(reply) => Ok(reply),
-        None => tabled(alloc, protocol, set, &file.certificate),
+        None => full_table_reply(alloc, protocol, set, &file.certificate),
     }
 }

@@ -111,7 +111,7 @@ fn unconfirmed_reply(alloc: Global, fault: Fault) -> Result<Reply, AllocError>
 }
 
 /// Judges the refusal.
-fn confirmed<R: Threads + Sync>(
+fn refusal_judgement<R: Threads + Sync>(
     rt: &R,
     alloc: Global,
     protocol: ProtocolName,
@@ -146,5 +146,5 @@ pub fn confirmation<R: Threads + Sync>(
     if !are_same(own, digest) {
         return Ok(other_set_reply(alloc)?);
     }
-    confirmed(rt, alloc, protocol, set, refusal)
+    refusal_judgement(rt, alloc, protocol, set, refusal)
 }

@@ -11,7 +11,7 @@ use std::thread::Threads;
 use study_gen::study;
 
 /// The work of `study`.
-pub fn counted<R: Threads + Sync>(
+pub fn study_counts<R: Threads + Sync>(
     rt: &R,
     alloc: Global,
     seed: u64,

@@ -27,7 +27,7 @@ pub(crate) fn are_same(own: &[u8; 32], digest: &[u8; 32]) -> bool
 }
 
 /// The reply that the certificate is of another set than that of this digest; none where it is of it.
-pub(crate) fn untied(
+pub(crate) fn untied_reply(
     alloc: Global,
     file: &CertFile,
     digest: &[u8; 32],

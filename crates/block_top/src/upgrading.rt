@@ -6,7 +6,7 @@ ghost use Rattle.dual_check.specs.Answers.{HasDenominators};
 ghost use Rattle.run_plans.specs.Commands.{IsJudgement, upgraded_answer};
 ghost use Rattle.command_inputs.specs.Halts.{Answered};
 
-use crate::judging::validated;
+use crate::judging::validity;
 use crate::work::certificate_reply;
 use command_inputs::{Halt, Reply};
 use program_form::Certificate;
@@ -15,7 +15,7 @@ use sporadic_model::TaskSet;
 use std::alloc::Global;
 
 /// The work of `upgrade`, on the set of this digest.
-pub fn upgraded(
+pub fn upgrade(
     alloc: Global,
     protocol: ProtocolName,
     digest: &[u8; 32],
@@ -27,6 +27,6 @@ pub fn upgraded(
     ensures { Answered result (IsJudgement protocol set.now (certificate_seen certificate.now)
         (upgraded_answer protocol digest.now (certificate_seen certificate.now))) }
 {
-    validated(alloc, protocol, set, certificate)?;
+    validity(alloc, protocol, set, certificate)?;
     Ok(certificate_reply(alloc, protocol, digest, certificate)?)
 }

@@ -170,7 +170,7 @@ pub(crate) fn broken_reply(alloc: Global, breach: Breach) -> Result<Reply, Alloc
 }
 
 /// Judges the rows of a text.
-fn conformed(
+fn measures_of_text(
     alloc: Global,
     protocol: ProtocolName,
     jobs: &JobList<'_>,
@@ -197,7 +197,7 @@ pub fn conformance(
         (trace_in jobs.now rows.now.runs) (ticks_of rows.now.runs)) }
 {
     let ticks = rows.ticks();
-    match conformed(alloc, protocol, jobs, rows) {
+    match measures_of_text(alloc, protocol, jobs, rows) {
         Ok(measured) => Ok(lawful_reply(alloc, jobs.set(), ticks, &measured.tasks)?),
         Err(Unlawful::Broken(breach)) => Ok(broken_reply(alloc, breach)?),
         Err(Unlawful::Memory) => Err(Halt::Memory),

@@ -20,7 +20,7 @@ lexemes_of (boolean b) = token (boolean b) ∷ []
 lexemes_of null = token null ∷ []
 lexemes_of bad = []
 
--- After a value stands a comma, a closing bracket or the end, also where a line end follows.
+-- After a value comes a comma, a closing bracket or the end, also if a line end follows.
 value_ends : (ts : List Token) → ends_word (print_from true ts) ≡ true
 unfolding print_from
 value_ends [] = refl

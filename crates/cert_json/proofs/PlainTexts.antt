@@ -93,7 +93,7 @@ mutual
   members-outlined no_members h = tt
   members-outlined (member name d ms) h = (numbers-outlined d h.1.0, members-outlined ms h.1.1)
 
--- Where the members of each object stand in order, and nothing is nested too deep.
+-- If the members of each object are in order, and nothing is nested too deep.
 line_read : (d : Data) → IsPlain d → of_json (outline d) ≡ Some d → tree.depth (outline d) ≤ max_depth
     → read (compact_text d ++ codes "\n") ≡ Some d
 line_read d plain again flat =

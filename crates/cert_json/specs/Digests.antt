@@ -11,7 +11,7 @@ size_of_digest = 32
 abbrev pub size_of_text : ℕ
 size_of_text = 64
 
--- What has the form of a digest.
+-- Has the list the form of a digest?
 pub record IsDigest (digest : List ℕ) : Type 0 where
   pub size : length digest ≡ size_of_digest
   pub bytes : IsBytes digest
@@ -28,6 +28,6 @@ is_digit c = (nat_le 48 c && nat_le c 57) || (nat_le 97 c && nat_le c 102)
 abbrev pub is_digest_text : List ℕ → Bool
 is_digest_text text = (length text == size_of_text) && list_all is_digit text
 
--- The digest that the text writes, where it is the text of one.
+-- The digest of the text, if it is the text of one.
 abbrev pub digest_of : List ℕ → Option (List ℕ)
 digest_of text = if is_digest_text text then result_ok (decode_of text) else None

@@ -1,4 +1,4 @@
--- What a certificate's file holds: the certificate, and the digest of its set's bytes.
+-- The contents of a certificate's file: the certificate, and the digest of its set's bytes.
 use Rattle.std.specs.Prelude.{ℕ, List}
 use Rattle.program_form.specs.Certificate.{CertificateDef}
 

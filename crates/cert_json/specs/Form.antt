@@ -11,7 +11,7 @@ use Rattle.taskset_json.specs.Members.{whole, whole_at, text_at, list_at}
 use Rattle.taskset_json.specs.Form.{MemberDef, must, is_object_of}
 use Rattle.cert_json.specs.Digests.{is_digest_text}
 
--- The members of a certificate, and of a dual. No other may be given.
+-- The members of a certificate, and of a dual. There may be no others.
 abbrev pub certificate_form : List MemberDef
 certificate_form =
     must (codes "set") kind.Text
@@ -28,18 +28,18 @@ dual_form =
     ∷ must (codes "num") kind.List
     ∷ []
 
--- Is the value a whole number from the least to the greatest that a program may hold?
+-- Is the value a whole number, from `least` to the greatest that a program may hold?
 abbrev pub is_from : ℕ → Data → Bool
 is_from least d = option_map_or (λ n. nat_le least n && nat_le n MOST_NUMBER) (whole d) false
 
--- Is the value a dual: an object of a dual's members, with a denominator of at least 1?
+-- Is the value a dual: an object of a dual's form, with a denominator of at least 1?
 abbrev pub is_dual : Data → Bool
 is_dual d =
     is_object_of dual_form d
     && (option_map_or (is_from 1) (get (codes "den") d) false && list_all (is_from 0) (list_at (codes "num") d))
 
--- Has the value the form of a certificate for the protocol of this word? It is of version 2, an object of a certificate's members with
--- the text of a digest and the verdict's word, its bounds are whole numbers, its duals are duals, and its protocol is of the word.
+-- Has the value the form of a certificate for the protocol of this word? It is of version 2. It is an object of a certificate's form, with
+-- the text of a digest and the verdict's word. Its bounds are whole numbers, its duals are duals, and its protocol has this word.
 abbrev pub has_form : List ℕ → Data → Bool
 has_form word d =
     option_map_or (λ n. n == 2) (whole_at (codes "version") d) false

@@ -10,7 +10,7 @@ use Rattle.cert_json.specs.Digests.{is_digest_text}
 use Rattle.cert_json.specs.Words.{is_verdict_word}
 use Rattle.cert_json.specs.Form.{certificate_form, is_dual}
 
--- Is the version, where there is one, this one?
+-- Is the version this one, if there is one?
 abbrev pub is_version : ℕ → Data → Bool
 is_version version d = option_map_or (λ n. n == version) (whole_at (codes "version") d) false
 
@@ -24,11 +24,11 @@ is_certificate d =
 abbrev pub is_whole : Data → Bool
 is_whole d = is_some (whole d)
 
--- Is the value's protocol of this word?
+-- Has the value's protocol this word?
 abbrev pub is_for : List ℕ → Data → Bool
 is_for word d = bytes_eq (text_at (codes "protocol") d) word
 
--- Are the bounds whole numbers and the duals duals, and is all for the protocol of this word?
+-- Are the bounds whole numbers and the duals duals, and has the protocol this word?
 abbrev pub lists_for : List ℕ → Data → Bool
 lists_for word d =
     list_all is_whole (list_at (codes "bounds") d) && (list_all is_dual (list_at (codes "duals") d) && is_for word d)

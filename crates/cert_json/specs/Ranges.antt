@@ -12,7 +12,7 @@ pub record IsSmallDual (d : DualDef) : Type 0 where
 abbrev pub HasSmallDuals : CertificateDef → Type 0
 HasSmallDuals c = All IsSmallDual c.duals
 
--- Does the text of the certificate have the form? Each bound has 64 bits, and the duals are small.
+-- Does the text of the certificate have the form? It does if each bound has 64 bits, and the duals are small.
 pub record IsWritable (c : CertificateDef) : Type 0 where
   pub bounds : All (λ n. n < 2 ^ 64) c.bounds
   pub duals : HasSmallDuals c

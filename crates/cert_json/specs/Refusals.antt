@@ -12,7 +12,7 @@ use Rattle.cert_json.specs.Form.{is_dual}
 use Rattle.cert_json.specs.FormParts.{is_whole, is_for}
 use Rattle.cert_json.specs.Versions.{number_of, is_certificate_of}
 
--- No version that is a whole number, or another one.
+-- There is no version that is a whole number, or it is another version.
 abbrev pub version_refusal : Version → Option ℕ → Option CertRefusal
 version_refusal v None = Some (refusal.Shape place.Root)
 version_refusal v (Some n) = if n == number_of v then None else Some refusal.Version
@@ -21,7 +21,7 @@ abbrev pub refused_unless : Bool → CertRefusal → Option CertRefusal
 refused_unless true r = None
 refused_unless false r = Some r
 
--- The place of the first value that is no dual.
+-- The position of the first value that is no dual.
 abbrev pub first_bad_dual : Data → Option ℕ
 first_bad_dual d = position (λ e. not (is_dual e)) (list_at (codes "duals") d)
 

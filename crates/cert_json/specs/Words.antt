@@ -1,4 +1,4 @@
--- The words that stand in a certificate.
+-- The words in a certificate.
 use Rattle.std.specs.Prelude.{ℕ, Bool, List, codes}
 use Rattle.std.specs.Str.{bytes_eq}
 

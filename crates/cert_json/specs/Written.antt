@@ -1,5 +1,5 @@
--- The certificate that a value of the form writes, and the file with its set's digest. A number that the form asks for is
--- there, and so is the digest, so the zeros that would stand for them are not used.
+-- The certificate of a value of the form, and the file with its set's digest. All numbers that the form requires are there, and so is the
+-- digest. So the zeros for missing ones are never used.
 use Rattle.std.specs.Prelude.{ℕ, List, map, codes, unwrap_or, replicate}
 use Rattle.serde_json.specs.Data.{Data}
 use Rattle.program_form.specs.Certificate.{DualDef, CertificateDef}

@@ -30,14 +30,14 @@ fn are_digits(text: &[u8]) -> bool
         .all(|digit| matches!(*digit, b'0'..=b'9' | b'a'..=b'f'))
 }
 
-/// Is it the text of a digest?
+/// Is the text that of a digest?
 pub fn is_digest_text(text: &str) -> bool
     ensures { result ≡ is_digest_text text.now }
 {
     text.len() == 64 && are_digits(text.as_bytes())
 }
 
-/// The digest that the text writes; none where it is the text of none.
+/// The digest of the text; none if it is the text of no digest.
 pub fn digest_of(text: &str) -> Option<[u8; 32]>
     ensures { result ≡ digest_of text.now }
 {
@@ -47,7 +47,7 @@ pub fn digest_of(text: &str) -> Option<[u8; 32]>
     <[u8; 32]>::from_hex(text).ok()
 }
 
-/// What `sha256` of `sha2` gives is a digest; the text of one is UTF-8, and is read as that digest.
+/// `sha256` of `sha2` gives a digest. The text of a digest is UTF-8, and is read as that digest.
 pub fn digests_have_texts()
     ensures digests { (bytes : List ℕ) → IsDigest (sha256 bytes) }
     ensures texts { (digest : List ℕ) → IsUtf8 (digest_text digest) }

@@ -1,10 +1,10 @@
 use program_form::Certificate;
 
-/// What a certificate's file holds.
+/// The contents of a certificate's file.
 #[derive(Debug, Drop)]
 pub struct CertFile {
     /// The certificate.
     pub certificate: Certificate,
-    /// The SHA-256 digest of the bytes of the set that it is of.
+    /// The SHA-256 digest of the bytes of the certificate's set.
     pub digest: [u8; 32],
 }

@@ -69,7 +69,7 @@ pub(crate) fn are_whole(values: &[Value]) -> bool
     values.iter().all(|value| is_whole(value))
 }
 
-/// Is the value a whole number from `least` to the greatest that a program may hold?
+/// Is the value a whole number, from `least` to the greatest that a program may hold?
 fn is_from(least: u64, value: &Value) -> bool
     ensures { result ≡ is_from least (view value.now) }
 {
@@ -98,14 +98,14 @@ fn has_dual_members(value: &Value) -> bool
     is_object_of(value, &form)
 }
 
-/// Is the value a dual: an object of a dual's members, with a denominator of at least 1?
+/// Is the value a dual: an object of a dual's form, with a denominator of at least 1?
 pub fn is_dual(value: &Value) -> bool
     ensures { result ≡ is_dual (view value.now) }
 {
     has_dual_members(value) && has_denominator(value) && are_numerators(list_at(value, "num"))
 }
 
-/// Is the value's protocol of this word?
+/// Has the value's protocol this word?
 pub fn is_for(value: &Value, word: &str) -> bool
     ensures { result ≡ is_for word.now (view value.now) }
 {

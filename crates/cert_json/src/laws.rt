@@ -16,13 +16,13 @@ use crate::file::CertFile;
 use crate::refusal::CertRefusal;
 use crate::version::Version;
 
-/// A value has the form of a certificate of a version, for the protocol of a word, exactly where there is no cause to refuse it.
+/// A value has the form of a certificate of a version, for the protocol of a word, exactly if there is no cause to refuse it.
 pub fn form_is_exact()
     ensures { (v : Version) (word : List ℕ) (d : Data) → (first_refusal v word d ≡ None) ↔ (has_form_of v word d ≡ true) }
 {}
 
-/// The text of a certificate is the JSON text of its value, and what is read of it for the same word is
-/// the same certificate with the same digest, but for want of memory.
+/// The text of a certificate is the JSON text of its value. If you read it for the same word, you get the same certificate with the same
+/// digest, except for want of memory.
 pub fn what_is_written_is_read()
     ensures value { (word : List ℕ) (f : FileDef) → IsUtf8 word → IsWritable f.certificate
         → IsValue (certificate_text word f.digest f.certificate) (certificate_data word f.digest f.certificate) }

@@ -1,6 +1,5 @@
-//! The text of certificates: one compact JSON object, which `write` gives and `read` reads again, free in white
-//! space and in the order of members. A certificate carries the digest of its set's bytes; `read_old` reads the
-//! version before, which doesn't.
+//! The text of certificates: one compact JSON object, which `write` gives. `read` reads it, with any white space and any order of members.
+//! A certificate has the digest of its set's bytes. `read_old` reads the version before, which has none.
 #![tactic(auto)]
 
 mod digests;

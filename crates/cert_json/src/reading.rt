@@ -17,7 +17,7 @@ use program_form::Certificate;
 use serde_json::Value;
 use std::alloc::Global;
 
-/// Why the value is refused as a certificate of the version, for the protocol of the word; none where it has its form.
+/// Why the value is refused as a certificate of the version, for the protocol of the word; none if it has the form.
 fn refusal_of(value: &Value, version: Version, word: &str) -> Option<CertRefusal>
     requires { size (view value.now) < 2 ^ 32 }
     ensures cause { result ≡ cause_of version word.now (view value.now) }
@@ -46,11 +46,14 @@ fn judged_old(alloc: Global, value: &Value, word: &str) -> Result<Certificate, C
     Ok(certificate_of(alloc, value)?)
 }
 
-/// Reads a certificate for the protocol of the word from fewer than 2^31 bytes of JSON, or says why they are refused
-/// first: they are no JSON text ([`CertRefusal::NotJson`]); the value is no object with a whole number as
-/// version ([`CertRefusal::Shape`] at the root); the version is not 2 ([`CertRefusal::Version`]); a member,
-/// the digest or the verdict is not of the form, then a bound, then a dual ([`CertRefusal::Shape`] with the place);
-/// the certificate is for another protocol ([`CertRefusal::OtherProtocol`]).
+/// Reads a certificate for the protocol of the word from fewer than 2^31 bytes of JSON, or says why it is refused. The first of these is
+/// named:
+///
+/// - [`CertRefusal::NotJson`]: the bytes are no JSON text.
+/// - [`CertRefusal::Shape`] at the root: the value is no object with a whole number as version.
+/// - [`CertRefusal::Version`]: the version is not 2.
+/// - [`CertRefusal::Shape`] with the place: a member, the digest or the verdict is not of the form, then a bound, then a dual.
+/// - [`CertRefusal::OtherProtocol`]: the certificate is for another protocol.
 pub fn read(alloc: Global, bytes: &[u8], word: &str) -> Result<CertFile, CertRefusal>
     requires { length bytes.now < 2 ^ 31 }
     ensures reads { Reads result word.now bytes.now }
@@ -63,7 +66,7 @@ pub fn read(alloc: Global, bytes: &[u8], word: &str) -> Result<CertFile, CertRef
     }
 }
 
-/// Reads a certificate of version 1, which has no digest, as [`read`] does one of version 2.
+/// Reads a certificate of version 1, which has no digest, as [`read`] reads one of version 2.
 pub fn read_old(alloc: Global, bytes: &[u8], word: &str) -> Result<Certificate, CertRefusal>
     requires { length bytes.now < 2 ^ 31 }
     ensures reads { ReadsOld result word.now bytes.now }

@@ -17,17 +17,17 @@ pub enum CertPlace {
 /// Why bytes are not read as a certificate for a protocol.
 #[derive(Clone, Copy, Debug, PartialEq, Eq, Error)]
 pub enum CertRefusal {
-    /// The bytes are no JSON text that `serde_json` reads: not UTF-8, not of JSON's grammar, nested
-    /// deeper than 127 levels, or with a number past the range of a float.
+    /// The bytes are no JSON text that `serde_json` reads: they are not UTF-8, break JSON's grammar, are nested deeper than 127 levels, or
+    /// have a number beyond the range of a float.
     #[error("the certificate is no JSON text")]
     NotJson,
-    /// The value at the place does not have its form. The version is looked at before all else of the object.
+    /// The value at the place doesn't have its form. Of the object itself, the version is tried first.
     #[error("the certificate does not have its form")]
     Shape(CertPlace),
-    /// The version is a whole number and not the one that is read.
+    /// The version is a whole number, but not the one that is read.
     #[error("the certificate has another version")]
     Version,
-    /// The certificate is for another protocol than the one asked for.
+    /// The certificate is for another protocol than the one that you asked for.
     #[error("the certificate is for another protocol")]
     OtherProtocol,
     /// Memory was refused.

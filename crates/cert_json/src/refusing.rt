@@ -10,7 +10,7 @@ use crate::version::{Version, number_of};
 use serde_json::Value;
 use taskset_json::{list_at, whole_at};
 
-/// The version is tried before the members: a certificate of another version may have others.
+/// The version is tried before the members, since a certificate of another version may have others.
 fn version_refusal(version: Version, given: Option<u64>) -> Option<CertRefusal>
     ensures { result ≡ version_refusal version given }
 {
@@ -46,7 +46,7 @@ fn first_bad_dual(value: &Value) -> Option<u32>
     first_misshapen(list_at(value, "duals"))
 }
 
-/// Why the value is refused first as a certificate of the version, for the protocol of the word.
+/// The first cause to refuse the value as a certificate of the version, for the protocol of the word.
 pub(crate) fn first_refusal(value: &Value, version: Version, word: &str) -> Option<CertRefusal>
     requires { size (view value.now) < 2 ^ 32 }
     ensures { result ≡ first_refusal version word.now (view value.now) }

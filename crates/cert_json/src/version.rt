@@ -6,11 +6,11 @@ ghost use Rattle.cert_json.specs.Versions.{number_of};
 pub enum Version {
     /// Without the set's digest.
     First,
-    /// With it.
+    /// With the set's digest.
     Second,
 }
 
-/// The number that stands for a version.
+/// The number of a version.
 pub(crate) fn number_of(version: Version) -> u64
     ensures { result ≡ number_of version }
 {

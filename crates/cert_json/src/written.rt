@@ -27,7 +27,7 @@ fn numbers_of(alloc: Global, values: &[Value]) -> Result<Vec<u64>, AllocError>
     Ok(numbers)
 }
 
-/// The dual that a value of the form writes.
+/// The dual of a value of the form.
 pub fn dual_of(alloc: Global, value: &Value) -> Result<Dual, AllocError>
     ensures { IfOk result (λ d. dual_seen d ≡ dual_written (view value.now)) }
 {
@@ -47,8 +47,7 @@ fn duals_of(alloc: Global, values: &[Value]) -> Result<Vec<Dual>, AllocError>
     Ok(duals)
 }
 
-/// The certificate that a value of the form writes. A number that the form asks for is there, so that 0
-/// stands for none.
+/// The certificate of a value of the form. All numbers that the form requires are there, so the 0 for a missing number is never used.
 pub(crate) fn certificate_of(alloc: Global, value: &Value) -> Result<Certificate, AllocError>
     ensures { IfOk result (λ c. certificate_seen c ≡ certificate_written (view value.now)) }
 {
@@ -58,14 +57,14 @@ pub(crate) fn certificate_of(alloc: Global, value: &Value) -> Result<Certificate
     })
 }
 
-/// The digest that a value of the form writes.
+/// The digest of a value of the form.
 pub fn digest_at(value: &Value) -> [u8; 32]
     ensures { result ≡ digest_written (view value.now) }
 {
     digest_of(text_at(value, "set")).unwrap_or([0; 32])
 }
 
-/// The file that a value of the form writes.
+/// The file of a value of the form.
 pub(crate) fn file_of(alloc: Global, value: &Value) -> Result<CertFile, AllocError>
     ensures { IfOk result (λ f. file_seen f ≡ file_written (view value.now)) }
 {

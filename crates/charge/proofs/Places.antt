@@ -14,15 +14,15 @@ use Rattle.schedule_model.specs.RowDef.{Trace}
 use Rattle.schedule_model.specs.Phase.{phase_of}
 use Rattle.schedule_model.specs.Phase.Phase.{Asking}
 use Rattle.schedule_laws.proofs.Ticks.{one_resource}
-use Rattle.fragments.specs.ClassOrder.{class_rank, class_cmp}
-use Rattle.fragments.specs.contracts.columns.ClassOrd.TheImpl.Laws as class_laws
-use Rattle.fragments.specs.declared.columns.Class.{Class}
-use Rattle.fragments.specs.declared.columns.Class.TheVariants.{Direct, Indirect, Preemption}
+use Rattle.blocking_columns.specs.ClassOrder.{class_rank, class_cmp}
+use Rattle.blocking_columns.specs.contracts.columns.ClassOrd.TheImpl.Laws as class_laws
+use Rattle.blocking_columns.specs.declared.columns.Class.{Class}
+use Rattle.blocking_columns.specs.declared.columns.Class.TheVariants.{Direct, Indirect, Preemption}
 use Rattle.charge.specs.declared.tally.ChargePlace.{ChargePlace}
 use Rattle.charge.specs.Table.{item_cmp}
 use Rattle.charge.specs.Tally.{place_cmp, by_class, is_same_place, item_of}
 
--- As keys, classes stand as they are ranked.
+-- As keys, classes are in the order of their ranks.
 classes_ordered : (a b : Class) → by_class a b ≡ class_cmp a b
 classes_ordered Direct Direct = refl
 classes_ordered Direct Indirect = refl

@@ -16,7 +16,7 @@ use Rattle.schedule_model.specs.Phase.{Phase, phase_of}
 use Rattle.schedule_model.specs.Phase.Phase.{Local, Asking, Finished}
 use Rattle.schedule_model.specs.BlockedTicks.{is_blocked}
 use Rattle.schedule_laws.proofs.ActiveJobs.{active_listed}
-use Rattle.fragments.specs.ClassOrder.{class_rank}
+use Rattle.blocking_columns.specs.ClassOrder.{class_rank}
 use Rattle.charge_laws.specs.Charges.{Charge, Executes}
 use Rattle.charge_laws.specs.Windows.{bound_end, window_end}
 use Rattle.charge.specs.declared.tally.ChargePlace.{ChargePlace}

@@ -16,7 +16,7 @@ use Rattle.number_laws.proofs.OnlyIfLaws.{only_if-nothing}
 use Rattle.number_laws.proofs.CountLaws.{flag-at_most, flag-of_true}
 use Rattle.schedule_model.specs.RowDef.{Trace}
 use Rattle.schedule_model.specs.BlockedTicks.{is_blocked}
-use Rattle.fragments.specs.ClassOrder.{class_rank}
+use Rattle.blocking_columns.specs.ClassOrder.{class_rank}
 use Rattle.row_laws.proofs.ColumnSums.{sum_by-swap, sum_by-element}
 use Rattle.charge_laws.specs.Charges.{Charge}
 use Rattle.charge_laws.specs.Windows.{window_end}
@@ -44,7 +44,7 @@ sum_nothing f (x ∷ xs) h = omega (arith, sum_by-cons f x xs, h x, sum_nothing 
 abbrev counts : Charges → Trace → ℕ → ℕ → ItemDef → Bool
 counts charges w t j item = (item.blocked == j) && is_of item (charged_request charges w t j)
 
--- What is counted in two items stands at one place of the table.
+-- What counts for two items is at one place of the table.
 record Parts (j : ℕ) (r : ChargedRequest) (item : ItemDef) : Type 0 where
   blocked : item.blocked ≡ j
   blocker : r.job ≡ item.blocker
@@ -79,7 +79,7 @@ one_place charges w t j a b = go (charged_request charges w t j) where
       let q : Parts j r b = parts_of j r b g in
       same_cmp a b (p.blocked ∙ sym q.blocked) (sym p.blocker ∙ q.blocker) (sym p.request ∙ q.request) (sym p.class ∙ q.class)
 
--- In a list in order, at most one of those that stand at one place.
+-- In a list in order, at most one item is at a place.
 none_after : (m : ItemDef → Bool) (x : ItemDef) (xs : List ItemDef) → ((y : ItemDef) → m y ≡ true → item_cmp x y ≡ Equal)
     → AllByRecursion (λ y. item_cmp x y ≡ Less) xs → sum_by (λ i. flag (m i)) xs ≡ 0
 none_after m x [] same h = refl

@@ -1,4 +1,4 @@
--- What the answer on the charges of a schedule says.
+-- What does the answer on the charges of a schedule say?
 use Rattle.std.specs.Prelude.{◌≡◌, ℕ, ◌<◌, Bool, List, length, map, slice_index, Option, None, Some, Result, Ok, Err}
 use Rattle.program_form.specs.Program.{ProgramDef}
 use Rattle.program_form.specs.Points.{IsScaledPoint}
@@ -6,7 +6,7 @@ use Rattle.schedule_model.specs.RowDef.{Trace}
 use Rattle.schedule_model.specs.Activity.{task_of}
 use Rattle.schedule_model.specs.Keeping.{KeepsBefore, IsFirstUnlawful}
 use Rattle.schedule_model.specs.declared.rule.Rule.{Rule}
-use Rattle.fragments.specs.ColumnDef.{ColumnDef}
+use Rattle.blocking_columns.specs.ColumnDef.{ColumnDef}
 use Rattle.charge_laws.specs.Charges.{Charge}
 use Rattle.charge_laws.specs.Fractions.{product_of_lengths, fractions_of}
 use Rattle.charge.specs.declared.item.ChargeTable.{ChargeTable}
@@ -15,9 +15,9 @@ use Rattle.charge.specs.declared.item.ChargeStop.TheVariants as stop
 use Rattle.charge.specs.Passed.{first_passed}
 use Rattle.charge.specs.Table.{item_seen, IsChargeTable}
 
--- Each of the n rows keeps the rules, no job has passed its bound, and this is the table; or the first row is named that breaks a
--- rule, and its first broken rule; or each row keeps them, and the first job is named that has passed its bound. Only want of memory
--- says nothing of the schedule.
+-- There are three cases. Each of the n rows keeps the rules, no job has passed its bound, and this is the table. Or the answer names the
+-- first row that breaks a rule, and the first rule that it breaks. Or each row keeps the rules, and the answer names the first job that has
+-- passed its bound. Only want of memory says nothing of the schedule.
 abbrev pub Charged : (Rule → Trace → ℕ → Type 0) → (Trace → ℕ → ℕ → Bool) → (Trace → ℕ → ℕ → Option Charge) → Trace → (ℕ → ℕ) → ℕ
     → Result ChargeTable ChargeStop → Type 0
 Charged keeps interferes charges w bound n (Ok table) =

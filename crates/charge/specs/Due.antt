@@ -1,15 +1,15 @@
--- Whose bounds end at the tick at which a machine stands.
+-- Which jobs' bounds end at a machine's tick?
 use Rattle.std.specs.Prelude.{◌≡◌, ℕ, ◌+◌, ◌<◌, ◌≤◌, ◌==◌, ◌&&◌, Bool, nat_lt, nat_le, if◌then◌else◌, List, slice_index}
 use Rattle.std.specs.Prelude.{Option, None, Some}
 use Rattle.schedule_model.specs.JobDef.{job_of}
 use Rattle.phase_machine.specs.MachineDef.{MachineDef, task_in}
 use Rattle.phase_machine.specs.Now.{active_now, current_now}
 
--- By when is job j to be finished: its release plus its task's bound.
+-- By when is job j to be finished? By its release plus its task's bound.
 abbrev pub end_now : MachineDef → List ℕ → ℕ → ℕ
 end_now m bounds j = (job_of m.list.jobs j).release + slice_index bounds (task_in m.list.jobs j)
 
--- Is job j active, so not finished, at the machine's tick, at which its bound ends?
+-- Does job j's bound end at the machine's tick, while j is still active, so not finished?
 abbrev pub is_due : MachineDef → List ℕ → ℕ → Bool
 is_due m bounds j = (end_now m bounds j == m.tick) && active_now m j
 
@@ -17,17 +17,18 @@ is_due m bounds j = (end_now m bounds j == m.tick) && active_now m j
 unfoldable pub is_due_below : MachineDef → List ℕ → ℕ → ℕ → Bool
 is_due_below m bounds x j = nat_lt (task_in m.list.jobs j) x && is_due m bounds j
 
--- Which job is due, where this one, if there is one, is its task's active one: it, where its bound ends now.
+-- The active job of a task, if there is one and its bound ends now.
 abbrev pub due_of : MachineDef → List ℕ → Option ℕ → Option ℕ
 due_of m bounds None = None
 due_of m bounds (Some j) = if end_now m bounds j == m.tick then Some j else None
 
--- The lower number of the two, or the one that is there.
+-- The lower of the two numbers, or the only one.
 abbrev pub least_of : Option ℕ → Option ℕ → Option ℕ
 least_of None o = o
 least_of (Some i) None = Some i
 least_of (Some i) (Some j) = if nat_le i j then Some i else Some j
 
--- Do n ticks from the machine's on lie before the end of each bound, of the active jobs of the first x tasks, that hasn't ended yet?
+-- Take the active jobs of the first x tasks whose bounds haven't ended yet. Are the next n ticks of the machine all before the ends of
+-- these bounds?
 abbrev pub IsClearBelow : MachineDef → List ℕ → ℕ → ℕ → Type 0
 IsClearBelow m bounds n x = (y j : ℕ) → y < x → current_now m y ≡ Some j → m.tick < end_now m bounds j → m.tick + n ≤ end_now m bounds j

@@ -9,6 +9,6 @@ use Rattle.charge_laws.specs.Windows.{bound_end}
 unfoldable pub has_passed : Trace → (ℕ → ℕ) → ℕ → ℕ → Bool
 has_passed w bound n j = nat_le (bound_end w bound j) n && not (is_finished (phase_of w (bound_end w bound j) j))
 
--- The first job that has, where one has.
+-- The first job that has, if any has.
 abbrev pub first_passed : Trace → (ℕ → ℕ) → ℕ → Option ℕ
 first_passed w bound n = found_below (length w.jobs) (has_passed w bound n)

@@ -8,14 +8,14 @@ use Rattle.std.specs.declared.cmp.Ordering.{Ordering}
 use Rattle.number_laws.specs.Tests.{count_below}
 use Rattle.schedule_model.specs.RowDef.{Trace}
 use Rattle.schedule_model.specs.BlockedTicks.{is_blocked}
-use Rattle.fragments.specs.ClassOrder.{class_rank, class_cmp}
-use Rattle.fragments.specs.declared.columns.Class.{Class}
+use Rattle.blocking_columns.specs.ClassOrder.{class_rank, class_cmp}
+use Rattle.blocking_columns.specs.declared.columns.Class.{Class}
 use Rattle.charge_laws.specs.Charges.{Charge}
 use Rattle.charge_laws.specs.Windows.{window_end}
 use Rattle.charge.specs.declared.item.ChargeItem.{ChargeItem}
 use Rattle.charge.specs.Requests.{ChargedRequest, charged_request}
 
--- So many ticks of job `blocked`, charged to this request of job `blocker`, in this way.
+-- A number of ticks of job `blocked` that are charged to this request of job `blocker`, in this way.
 pub record ItemDef : Type 0 where
   pub blocked : ℕ
   pub blocker : ℕ
@@ -41,7 +41,7 @@ is_of item named =
     option_map_or (λ r. (r.job == item.blocker) && ((r.number == item.request)
     && ((r.resource == item.resource) && (class_rank r.class == class_rank item.class)))) named false
 
--- At how many ticks of its window, in a schedule of n rows, is the item's blocked job charged to the item's request?
+-- How many ticks of its window is the item's blocked job charged to the item's request, in a schedule of n rows?
 unfoldable pub charged_ticks : (Trace → ℕ → ℕ → Option Charge) → Trace → (ℕ → ℕ) → ℕ → ItemDef → ℕ
 charged_ticks charges w bound n item =
     count_below (window_end w bound n item.blocked) (λ t. is_of item (charged_request charges w t item.blocked))
@@ -52,8 +52,8 @@ item_cmp a b =
     ordering_then (nat_cmp a.blocked b.blocked) (ordering_then (nat_cmp a.blocker b.blocker)
     (ordering_then (nat_cmp a.request b.request) (class_cmp a.class b.class)))
 
--- Is it the table of a schedule of n rows: strictly in order, each item of a listed job with all its ticks and at least one, and
--- an item for each blocked tick of each job's window?
+-- Is it the table of a schedule of n rows? It is strictly in order. Each item is of a listed job, and has all its ticks, at least one. Each
+-- blocked tick of each job's window has an item.
 pub record IsChargeTable (charges : Trace → ℕ → ℕ → Option Charge) (interferes : Trace → ℕ → ℕ → Bool) (w : Trace) (bound : ℕ → ℕ)
     (n : ℕ) (items : List ItemDef) : Type 0 where
   pub sorted : IsStrictlySortedBy item_cmp items

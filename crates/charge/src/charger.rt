@@ -9,7 +9,7 @@ use schedule_model::RowReader;
 use std::alloc::AllocError;
 use trace_walk::Keeper;
 
-/// Keeps, of a schedule that is walked, to which requests its blocked ticks are charged, and the first job that has passed its bound.
+/// A keeper of a schedule's charges: to which requests its blocked ticks are charged, and which job passed its bound first.
 #[derive(Clone, Copy, Debug)]
 pub struct Charger<'a> {
     /// The bounds, in ticks: one for each task of the set, and at most its latest bound.

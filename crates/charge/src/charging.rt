@@ -3,10 +3,10 @@ ghost use Rattle.sporadic_model.specs.Homes.{HasHomesFor};
 ghost use Rattle.schedule_model.specs.RowDef.{trace_in, ticks_of};
 ghost use Rattle.schedule_model.specs.Fitting.{is_fitting};
 ghost use Rattle.charge_laws.specs.Windows.{AreBounds};
-ghost use Rattle.fragments.specs.Columns.{columns_of};
+ghost use Rattle.blocking_columns.specs.Columns.{columns_of};
 ghost use Rattle.program_laws.specs.Programs.{program_of};
 ghost use Rattle.schedule_model.specs.ByProtocol.{rules_of, interference_of};
-ghost use Rattle.charged_protocols.specs.ByProtocol.{charges_of};
+ghost use Rattle.charge_laws.specs.ByProtocol.{charges_of};
 ghost use Rattle.charge.specs.Charging.{Charged, MeetRows};
 
 use crate::charger::Charger;
@@ -24,9 +24,8 @@ use sporadic_model::Protocol;
 use std::alloc::Global;
 use trace_walk::walk;
 
-/// The charges of each job at each blocked tick within its bound, where these are the bounds, in ticks, one for each task and at most
-/// its latest bound. The rows are read from the first on, at which the reader stands, and judged first: see [`ChargeStop`] for what
-/// stops them.
+/// The charges of each job at each blocked tick within its bound. You give the bounds in ticks, one for each task and at most its latest
+/// bound. The reader has to be at the first run. The rows are judged as they are read: [`ChargeStop`] says what stops them.
 pub fn charge_rows_with<P: ChargedProtocol, R: RowReader>(
     alloc: Global,
     protocol: &P,
@@ -64,7 +63,7 @@ pub fn charge_rows_with<P: ChargedProtocol, R: RowReader>(
     Ok(table_of::<P>(alloc, &ledger)?)
 }
 
-/// The same of a list of rows.
+/// The same for a list of rows.
 pub fn charge_with<P: ChargedProtocol>(
     alloc: Global,
     protocol: &P,

@@ -2,21 +2,19 @@ ghost use Rattle.std.specs.Prelude.{◌≡◌, ℕ, ◌+◌, ◌<◌, ◌≤◌,
 ghost use Rattle.std.specs.Option.{option_and_then};
 ghost use Rattle.sporadic_model.specs.declared.limits.TheConstants.{MOST_TICKS};
 ghost use Rattle.schedule_model.specs.RowDef.{row_in};
-ghost use Rattle.schedule_model.specs.Keeping.{KeepsRow};
 ghost use Rattle.phase_machine.specs.MachineDef.{under};
 ghost use Rattle.phase_machine.specs.Now.{phase_now, current_now};
-ghost use Rattle.phase_machine.specs.Shows.{Shows};
-ghost use Rattle.fragments.specs.declared.columns.Class.{Class as ClassDef};
+ghost use Rattle.blocking_columns.specs.declared.columns.Class.{Class as ClassDef};
 ghost use Rattle.charge_laws.specs.Charges.{Charge};
 ghost use Rattle.charge_laws.specs.Windows.{AreBounds};
-ghost use Rattle.trace_walk.specs.Runs.{IsAtRun};
+ghost use Rattle.trace_walk.specs.LawfulRow.{IsAtLawfulRow};
 ghost use Rattle.charge.specs.Requests.{request_in};
 ghost use Rattle.charge.specs.Tally.{IsTally, AreCountedAlike, place_of, place_at, ticks_before};
 
 use crate::due::end_of;
 use crate::tally::{ChargePlace, add_named};
+use blocking_columns::Class;
 use charged_protocols::ChargedProtocol;
-use fragments::Class;
 use phase_machine::lookup::tasks_of;
 use phase_machine::{Machine, Phase};
 use schedule_model::{JobId, RowReader};
@@ -24,7 +22,7 @@ use sporadic_model::TaskId;
 use std::alloc::AllocError;
 use std::collections::BTreeMap;
 
-/// The place of the request that the blocker is in.
+/// The place of the blocker's request in the table.
 fn place_of(machine: &Machine, j: JobId, y: JobId, class: Class) -> Option<ChargePlace>
     requires { y.0 < length machine.now.list.jobs }
     ensures { result ≡ option_map (place_of j.0) (request_in (record { job = y.0; class = class }) (phase_now machine.now y.0)) }
@@ -42,7 +40,7 @@ fn place_of(machine: &Machine, j: JobId, y: JobId, class: Class) -> Option<Charg
     }
 }
 
-/// The place to which the tick that the machine stands at is counted for the job, in a row that keeps the rules: none where it is not
+/// The place to which the tick at the machine's position is counted for the job, in a row that keeps the rules. None if the job isn't
 /// blocked, or its window has ended.
 fn place_at<P: ChargedProtocol, R: RowReader>(
     protocol: &P,
@@ -52,9 +50,7 @@ fn place_at<P: ChargedProtocol, R: RowReader>(
     j: JobId,
 ) -> Option<ChargePlace>
     requires suits { P.suits protocol.now machine.now.list.set }
-    requires at { IsAtRun (R.rows rows.now) (R.at rows.now) machine.now }
-    requires shows { Shows machine.now (row_in (R.rows rows.now).runs) }
-    requires keeps { KeepsRow (P.keeps protocol.now) (under machine.now (row_in (R.rows rows.now).runs)) machine.now.tick }
+    requires row { IsAtLawfulRow (P.keeps protocol.now) (R.rows rows.now) (R.at rows.now) machine.now }
     requires listed { j.0 < length machine.now.list.jobs }
     requires one_each { length bounds.now ≡ length machine.now.list.set.tasks }
     requires bounds { AreBounds machine.now.list.set (slice_index bounds.now) }
@@ -70,7 +66,7 @@ fn place_at<P: ChargedProtocol, R: RowReader>(
     }
 }
 
-/// The same for the task's active job, where it has one.
+/// The same for the task's active job, if it has one.
 fn place_in<P: ChargedProtocol, R: RowReader>(
     protocol: &P,
     rows: &R,
@@ -79,9 +75,7 @@ fn place_in<P: ChargedProtocol, R: RowReader>(
     x: TaskId,
 ) -> Option<ChargePlace>
     requires suits { P.suits protocol.now machine.now.list.set }
-    requires at { IsAtRun (R.rows rows.now) (R.at rows.now) machine.now }
-    requires shows { Shows machine.now (row_in (R.rows rows.now).runs) }
-    requires keeps { KeepsRow (P.keeps protocol.now) (under machine.now (row_in (R.rows rows.now).runs)) machine.now.tick }
+    requires row { IsAtLawfulRow (P.keeps protocol.now) (R.rows rows.now) (R.at rows.now) machine.now }
     requires task { x.0 < length machine.now.list.set.tasks }
     requires one_each { length bounds.now ≡ length machine.now.list.set.tasks }
     requires bounds { AreBounds machine.now.list.set (slice_index bounds.now) }
@@ -95,8 +89,8 @@ fn place_in<P: ChargedProtocol, R: RowReader>(
     }
 }
 
-/// Counts so many ticks as the one that the machine stands at, in a row that keeps the rules: one job of each task is active, or
-/// none, and no other is blocked.
+/// Counts this many ticks like the one at the machine's position, in a row that keeps the rules. At most one job of each task is active,
+/// and no other job is blocked.
 pub(crate) fn charge_ticks<P: ChargedProtocol, R: RowReader>(
     protocol: &P,
     rows: &R,
@@ -106,11 +100,9 @@ pub(crate) fn charge_ticks<P: ChargedProtocol, R: RowReader>(
     ticks: &mut BTreeMap<ChargePlace, u64>,
 ) -> Result<(), AllocError>
     requires suits { P.suits protocol.now machine.now.list.set }
-    requires at { IsAtRun (R.rows rows.now) (R.at rows.now) machine.now }
+    requires row { IsAtLawfulRow (P.keeps protocol.now) (R.rows rows.now) (R.at rows.now) machine.now }
     requires some { 1 ≤ more }
     requires early { machine.now.tick + more ≤ MOST_TICKS }
-    requires shows { Shows machine.now (row_in (R.rows rows.now).runs) }
-    requires keeps { KeepsRow (P.keeps protocol.now) (under machine.now (row_in (R.rows rows.now).runs)) machine.now.tick }
     requires one_each { length bounds.now ≡ length machine.now.list.set.tasks }
     requires bounds { AreBounds machine.now.list.set (slice_index bounds.now) }
     requires alike { AreCountedAlike (P.charges protocol.now) (under machine.now (row_in (R.rows rows.now).runs)) (slice_index bounds.now)

@@ -10,7 +10,7 @@ use phase_machine::lookup::{task_of, tasks_of};
 use schedule_model::JobId;
 use sporadic_model::TaskId;
 
-/// By when the job is to be finished: its release plus its task's bound.
+/// By when the job is to be finished: by its release plus its task's bound.
 pub(crate) fn end_of(machine: &Machine, bounds: &[u64], j: JobId) -> u64
     requires listed { j.0 < length machine.now.list.jobs }
     requires one_each { length bounds.now ≡ length machine.now.list.set.tasks }
@@ -20,7 +20,7 @@ pub(crate) fn end_of(machine: &Machine, bounds: &[u64], j: JobId) -> u64
     machine.jobs().job(j).release + bounds[task_of(machine, j).0 as usize]
 }
 
-/// The task's active job, where its bound ends at the tick at which the machine stands.
+/// The task's active job, if its bound ends at the machine's tick.
 fn due_of(machine: &Machine, bounds: &[u64], x: TaskId) -> Option<JobId>
     requires task { x.0 < length machine.now.list.set.tasks }
     requires one_each { length bounds.now ≡ length machine.now.list.set.tasks }
@@ -33,7 +33,7 @@ fn due_of(machine: &Machine, bounds: &[u64], x: TaskId) -> Option<JobId>
     }
 }
 
-/// The lower of the two, or the one that is there.
+/// The lower of the two, or the only one.
 fn least_of(first: Option<JobId>, second: Option<JobId>) -> Option<JobId>
     ensures { place_seen result ≡ least_of (place_seen first) (place_seen second) }
 {
@@ -44,7 +44,7 @@ fn least_of(first: Option<JobId>, second: Option<JobId>) -> Option<JobId>
     }
 }
 
-/// The first of some jobs and of those that are active at the tick at which their bound ends.
+/// The first of these two: the given job, and the first active job whose bound ends at the machine's tick.
 pub(crate) fn first_of_due(machine: &Machine, bounds: &[u64], first: Option<JobId>) -> Option<JobId>
     requires one_each { length bounds.now ≡ length machine.now.list.set.tasks }
     requires bounds { AreBounds machine.now.list.set (slice_index bounds.now) }
@@ -58,7 +58,7 @@ pub(crate) fn first_of_due(machine: &Machine, bounds: &[u64], first: Option<JobI
     least
 }
 
-/// So many ticks, or fewer where the bound of the task's active job ends sooner: as many as there are until then.
+/// This many ticks. Or, if the bound of the task's active job ends sooner, the ticks until then.
 fn sooner_due(machine: &Machine, bounds: &[u64], x: TaskId, ticks: u64) -> u64
     requires task { x.0 < length machine.now.list.set.tasks }
     requires one_each { length bounds.now ≡ length machine.now.list.set.tasks }
@@ -76,7 +76,7 @@ fn sooner_due(machine: &Machine, bounds: &[u64], x: TaskId, ticks: u64) -> u64
     }
 }
 
-/// So many ticks, or as many as there are until the bound of an active job ends, where one ends sooner and hasn't ended yet.
+/// This many ticks. Or, if the bound of an active job ends sooner and hasn't ended yet, the ticks until then.
 pub(crate) fn until_due(machine: &Machine, bounds: &[u64], ticks: u64) -> u64
     requires one_each { length bounds.now ≡ length machine.now.list.set.tasks }
     requires bounds { AreBounds machine.now.list.set (slice_index bounds.now) }

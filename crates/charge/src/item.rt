@@ -1,20 +1,20 @@
 ghost use Rattle.std.specs.Prelude.{◌≡◌};
 
-use fragments::Class;
+use blocking_columns::Class;
 use schedule_answers::Breach;
 use schedule_model::JobId;
 use sporadic_model::ResourceId;
 use std::alloc::AllocError;
 use thiserror::Error;
 
-/// So many ticks at which a job was blocked, all charged to one request of another job, in one way.
+/// A number of ticks at which a job was blocked, all charged to one request of another job, in one way.
 #[derive(Clone, Copy, Debug, PartialEq, Eq)]
 pub struct ChargeItem {
     /// The blocked job.
     pub blocked: JobId,
     /// The job whose request executed.
     pub blocker: JobId,
-    /// The number of its request: that of its segment in the job's script, counted from 0.
+    /// The number of its request: the position of the request's segment in the job's script, counted from 0.
     pub request: u32,
     /// The resource that was requested.
     pub resource: ResourceId,
@@ -31,13 +31,13 @@ pub struct ChargeTable {
     pub charges: Vec<ChargeItem>,
 }
 
-/// Why a schedule is not charged. The causes are tried in the order in which they stand here.
+/// Why a schedule is not charged. The causes are tried in the order in which they are listed here.
 #[derive(Clone, Copy, Debug, PartialEq, Eq, Error)]
 pub enum ChargeStop {
     /// A row breaks a rule.
     #[error("a row breaks a rule")]
     Unlawful(Breach),
-    /// All rows keep the rules, and a job, the first of these, was not finished at its release plus its bound.
+    /// All rows keep the rules, but a job was not finished at its release plus its bound. It is the first such job.
     #[error("a job has passed its bound")]
     BoundPassed(JobId),
     /// Memory was refused.

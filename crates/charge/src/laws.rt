@@ -1,4 +1,4 @@
-//! What follows from the laws of charged protocols for tables, bounds and stretches. Each function is a law: it does nothing.
+//! What follows for tables, bounds and stretches from the laws of charged protocols. Each function is a law: it does nothing.
 
 ghost use Rattle.std.specs.Prelude.{◌≡◌, ℕ, ◌+◌, ◌≤◌, ◌<◌, Bool, List, None, length, slice_index, sum_by};
 ghost use Rattle.number_laws.specs.Sums.{sum_below, only_if};
@@ -20,8 +20,8 @@ ghost use Rattle.charge.specs.Table.{ItemDef, IsChargeTable};
 use charged_protocols::ChargedProtocol;
 use schedule_model::BlockingProtocol;
 
-/// Under every protocol no job of a lawful schedule passes a sound bound: each job whose release plus bound lies within the
-/// schedule is finished by then.
+/// Under every protocol no job of a lawful schedule passes a sound bound. Each job whose release plus bound is within the schedule is
+/// finished by then.
 pub fn sound_bounds_are_never_passed<P: BlockingProtocol>()
     ensures finished { (p : P) (set : SetDef) (bounds values : List ℕ) (w : Trace) (n j : ℕ)
         → Sound (P.keeps p) (P.interferes p) set bounds values → IsLawfulSchedule (P.keeps p) set w n → j < length w.jobs
@@ -31,7 +31,7 @@ pub fn sound_bounds_are_never_passed<P: BlockingProtocol>()
         → first_passed w (slice_index bounds) n ≡ None }
 {}
 
-/// The ticks of a table's items add up, for whichever blocked jobs, to the blocked ticks within these jobs' windows.
+/// For any choice of blocked jobs, the ticks of their items add up to the blocked ticks within these jobs' windows.
 pub fn charges_add_up<P: ChargedProtocol>()
     ensures { (p : P) (w : Trace) (bound : ℕ → ℕ) (n : ℕ) (items : List ItemDef) (those : ℕ → Bool)
         → IsChargeTable (P.charges p) (P.interferes p) w bound n items
@@ -40,8 +40,8 @@ pub fn charges_add_up<P: ChargedProtocol>()
         only_if (those j) (count_below (window_end w bound n j) (λ t. is_blocked (P.interferes p) w t j))) }
 {}
 
-/// Under every protocol: through a steady stretch that begins with a row that keeps the rules, a job is blocked at each tick or at
-/// none, and each tick is charged to the same request, in the same way.
+/// Take a steady stretch that begins with a row that keeps the rules, under any charged protocol. A job is blocked at each of its ticks, or
+/// at none. Each tick is charged to the same request, in the same way.
 pub fn steady_ticks_are_charged_alike<P: ChargedProtocol>()
     ensures blocked { (p : P) (w : Trace) (t n : ℕ) → P.suits p w.set → AreLawfulJobs (jobs_of w) → IsSteady w t n
         → KeepsRow (P.keeps p) w t → (i j : ℕ) → i < n → is_blocked (P.interferes p) w (t + i) j ≡ is_blocked (P.interferes p) w t j }

@@ -15,7 +15,7 @@ use sporadic_model::ResourceId;
 use std::alloc::{AllocError, Global};
 use std::collections::BTreeMap;
 
-/// The item of a place with so many ticks.
+/// The item of a place with this many ticks.
 fn item_of(place: &ChargePlace, ticks: u64) -> ChargeItem
     ensures { item_seen result ≡ item_of (place.now, ticks) }
 {
@@ -44,7 +44,7 @@ fn items_of(
     Ok(items)
 }
 
-/// The table of the charges of a schedule, by the ledger of all its rows, where these keep the rules of the protocol.
+/// The table of the charges of a lawful schedule, from the ledger of all its rows.
 pub fn table_of<P: ChargedProtocol>(
     alloc: Global,
     ledger: &Ledger,

@@ -6,13 +6,13 @@ ghost use Rattle.charge_laws.specs.Charges.{Charge};
 ghost use Rattle.charge.specs.Ledgers.{IsLedger};
 ghost use Rattle.charge.specs.Tally.{IsTally, count_at, is_same_place, is_place};
 
-use fragments::Class;
+use blocking_columns::Class;
 use schedule_model::JobId;
 use std::alloc::{AllocError, Global};
 use std::collections::BTreeMap;
 
-/// Where in the table ticks are counted: the numbers of the blocked job, the blocker, its request and the resource, and the class.
-/// Their order is that of the table.
+/// A place of the table, to which ticks are counted: the numbers of the blocked job, the blocker, its request and the resource, and the
+/// class. Places are in the order of the table.
 #[derive(Clone, Copy, Debug, PartialEq, Eq, PartialOrd, Ord)]
 pub struct ChargePlace {
     pub blocked: u32,
@@ -22,12 +22,12 @@ pub struct ChargePlace {
     pub class: Class,
 }
 
-/// What is charged of a schedule so far, and which job has passed its bound.
+/// What is charged of a schedule so far, and which job passed its bound first.
 #[derive(Drop)]
 pub struct Ledger {
-    /// The ticks that are counted at each place.
+    /// The ticks at each place.
     pub ticks: BTreeMap<ChargePlace, u64>,
-    /// The first job that was not finished at its release plus its bound, where that was before the last row.
+    /// The first job that was not finished at its release plus its bound, if that was before the last row.
     pub passed: Option<JobId>,
 }
 
@@ -43,7 +43,7 @@ impl Ledger {
     }
 }
 
-/// Counts so many ticks more at the place.
+/// Counts this many more ticks at the place.
 fn add_ticks(
     ticks: &mut BTreeMap<ChargePlace, u64>,
     place: ChargePlace,

@@ -1,4 +1,4 @@
--- Worked schedules and what their ticks are charged to.
+-- Worked schedules, and to what their ticks are charged.
 use Rattle.std.proofs.Common.{◌≡◌, ℕ, true, List, [], ◌∷◌, refl, Option, Some, None}
 use Rattle.schedule_model.specs.JobDef.{JobsDef}
 use Rattle.sporadic_model.specs.SetDef.{SetDef}
@@ -18,9 +18,9 @@ use Rattle.schedule_model.proofs.DpcpTests.{passes_dpcp, dpcp_from}
 use Rattle.schedule_model.proofs.KeepingTests.{keeps_from}
 use Rattle.schedule_model.proofs.WorkedFiles.{task, once, resource, then_request, local_only, job, run, trace_a}
 use Rattle.schedule_model.proofs.WorkedFiles.{set_home, trace_home, trace_one}
-use Rattle.fragments.specs.declared.columns.Class.{Class}
-use Rattle.fragments.specs.declared.columns.Class.TheVariants.{Direct, Indirect, Preemption}
-use Rattle.fragments.specs.ColumnDef.{ColumnDef}
+use Rattle.blocking_columns.specs.declared.columns.Class.{Class}
+use Rattle.blocking_columns.specs.declared.columns.Class.TheVariants.{Direct, Indirect, Preemption}
+use Rattle.blocking_columns.specs.ColumnDef.{ColumnDef}
 use Rattle.charge_laws.specs.Charges.{Charge, shared_charge, dpcp_charge}
 use Rattle.charge_laws.specs.Interferers.{interferes_with_some, is_interference_of}
 use Rattle.charge_laws.specs.Fractions.{ticks_in, product_of_lengths, fractions_of}
@@ -28,7 +28,7 @@ use Rattle.charge_laws.specs.Fractions.{ticks_in, product_of_lengths, fractions_
 abbrev pub by : ℕ → Class → Option Charge
 by j class = Some (record { job = j; class = class })
 
--- Two jobs on processors of their own: the first waits at ticks 1 and 2 for what the second holds and runs with.
+-- Two jobs on processors of their own. The first waits at ticks 1 and 2 for the resource that the second holds while it runs.
 pub waits_for_runner :
     shared_charge trace_a 0 0 ∷ shared_charge trace_a 1 0 ∷ shared_charge trace_a 2 0 ∷ shared_charge trace_a 3 0
     ∷ shared_charge trace_a 1 1 ∷ []
@@ -37,8 +37,8 @@ unfolding phase_of phase_from executed runs_in is_pending is_next is_active is_a
     is_delayed runs_higher is_shared_interference is_blocked shared_charge
 waits_for_runner = refl
 
--- Four tasks on three processors, and two resources (named 97 and 98): the first two use one, the last two the other. The
--- second and the third are on one processor.
+-- Four tasks on three processors, and two resources (named 97 and 98). The first two tasks use one, and the last two the other. The second
+-- and the third are on one processor.
 abbrev pub set_path : SetDef
 set_path = record {
   processors = 3;
@@ -98,8 +98,7 @@ unfolding phase_of phase_from executed runs_in is_pending is_next is_active is_a
     is_delayed runs_higher is_shared_interference is_blocked shared_charge
 preempted_by_holder = refl
 
--- At tick 1 the third waits, while the second, of a higher task, runs on its processor: that is interference, which is charged
--- to nothing.
+-- At tick 1 the third waits, while the second, of a higher task, runs on its processor. That is interference, which is charged to nothing.
 pub interfered_not_charged :
     is_interferer is_shared_interference trace_path 1 2 1 ∷ is_interference_of is_shared_interference trace_path 1 2 1
     ∷ interferes_with_some is_shared_interference trace_path 1 1 ∷ []
@@ -113,7 +112,8 @@ unfolding phase_of phase_from executed runs_in is_pending is_next is_active is_a
     is_delayed runs_higher is_shared_interference is_blocked shared_charge
 interference_uncharged = refl
 
--- The first job's fractions: one tick of the third's requests, which are two ticks long, and one of the second's, of one tick.
+-- The first job's fractions: one tick of the third's requests, which are two ticks long, and one tick of the second's, which are one tick
+-- long.
 abbrev pub columns_path : List ColumnDef
 columns_path = record { task = 1; resource = 0; class = Direct } ∷ record { task = 2; resource = 1; class = Indirect } ∷ []
 
@@ -125,7 +125,7 @@ unfolding phase_of phase_from executed runs_in is_pending is_next is_active is_a
     is_delayed runs_higher is_shared_interference is_blocked shared_charge ticks_in
 fractions_path = refl
 
--- A window that ends at tick 4 has the first of both ticks alone.
+-- A window that ends at tick 4 has only the first of these two ticks.
 pub fractions_early :
     fractions_of shared_charge trace_path (λ x. 2) 6 0 columns_path 0
     ∷ fractions_of shared_charge trace_path (λ x. 2) 6 0 columns_path 1 ∷ [] ≡ 0 ∷ 1 ∷ []
@@ -133,14 +133,14 @@ unfolding phase_of phase_from executed runs_in is_pending is_next is_active is_a
     is_delayed runs_higher is_shared_interference is_blocked shared_charge ticks_in
 fractions_early = refl
 
--- Under DPCP: the first job waits at tick 2 while a request of another resource runs at its own one's home.
+-- Under DPCP: the first job waits at tick 2 while a request of another resource runs at the home of its own one.
 pub waits_at_home :
     dpcp_charge trace_home 1 0 ∷ dpcp_charge trace_home 2 0 ∷ dpcp_charge trace_home 3 0 ∷ [] ≡ None ∷ by 1 Indirect ∷ None ∷ []
 unfolding phase_of phase_from executed runs_in is_pending is_next is_active is_delayed runs_higher_local
     is_dpcp_interference is_blocked dpcp_charge
 waits_at_home = refl
 
--- Where both request one resource, it waits for that one.
+-- If both request one resource, it waits for that one.
 abbrev pub jobs_same : JobsDef
 jobs_same = record {
   set = set_home;
@@ -164,7 +164,7 @@ unfolding phase_of phase_from executed runs_in is_pending is_next is_active is_d
     is_dpcp_interference is_blocked dpcp_charge
 waits_for_same = refl
 
--- The request of the higher job runs on its own processor, which is the home: the lower job, which is Local, is preempted.
+-- The request of the higher job runs on its own processor, which is the home. The lower job, which is Local, is preempted.
 pub preempted_at_home :
     dpcp_charge trace_one 0 1 ∷ dpcp_charge trace_one 1 1 ∷ dpcp_charge trace_one 2 1 ∷ [] ≡ None ∷ by 0 Preemption ∷ None ∷ []
 unfolding phase_of phase_from executed runs_in is_pending is_next is_active is_delayed runs_higher_local

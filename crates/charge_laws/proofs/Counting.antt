@@ -1,6 +1,6 @@
--- How many ticks of a job's window are interference by jobs of one task. A job that was released before the window and
--- runs z ticks in it arrived no earlier than z less its bound and its jitter before it; so where one job too many runs, the
--- first and the last together run no longer than one.
+-- How many ticks of a job's window are interference by jobs of one task. A job that was released before the window, and runs z ticks in it,
+-- arrived no earlier than its bound and its jitter, less z, before it. So if one job too many runs, the first and the last together run no
+-- longer than one.
 use Rattle.std.proofs.Common.{◌≡◌, ◌⊎◌, ℕ, zero, suc, ◌+◌, ◌-◌, ◌*◌, ◌<◌, ◌≤◌, ◌==◌, Bool, true, false, length, refl}
 use Rattle.std.proofs.Common.{sym, ap, ◌∙◌, arith, inl, inr, suc-mul, Option, Some, None}
 use Rattle.std.specs.Int.{div_ceil}
@@ -26,8 +26,8 @@ use Rattle.charge_laws.proofs.Windows.{count_below-between, active_within}
 use Rattle.schedule_laws.proofs.Interferers.{Interferer, interferer_is, interferer_from}
 use Rattle.charge_laws.proofs.Interference.{interference_active}
 
--- What is known of the ticks f y that job y of task h runs in a window of bi ticks from r on, where a job of h may run
--- for g ticks and ends within bh ticks after it arrived.
+-- What is known of the ticks f y that job y of task h runs in a window of bi ticks from r on. A job of h may run for g ticks, and ends
+-- within bh ticks after it arrived.
 pub record InWindow (jobs : JobsDef) (h r bi bh g : ℕ) (f : ℕ → ℕ) (y : ℕ) : Type 0 where
   pub task : (job_of jobs.jobs y).task ≡ h
   pub cost : f y ≤ g
@@ -35,7 +35,7 @@ pub record InWindow (jobs : JobsDef) (h r bi bh g : ℕ) (f : ℕ → ℕ) (y : 
   pub before : f y + (job_of jobs.jobs y).arrival ≤ r + bi
   pub within : f y ≤ bi
 
--- Of the jobs before job n that run in the window there are c and one more, from the first to the last.
+-- Before job n there are c and one more jobs that run in the window, from the first to the last.
 record Carried (jobs : JobsDef) (h r bi bh g : ℕ) (f : ℕ → ℕ) (n c : ℕ) : Type 0 where
   first : ℕ
   last : ℕ
@@ -123,7 +123,7 @@ factor zero b g l = omega arith
 factor (suc a) zero g l = absurd (omega arith)
 factor (suc a) (suc b) g l = omega (arith, suc-mul a g, suc-mul b g, factor a b g (omega arith))
 
--- c and one more jobs, c periods apart, run at most k times g ticks, where k periods hold the window.
+-- If c and one more jobs are c periods apart, they run at most k times g ticks, where k periods cover the window.
 enough : (s c k p g bi bh : ℕ) → g ≤ bh → g ≤ p → bi + bh ≤ k * p + g → s ≤ suc c * g → s + c * p + g ≤ bh + bi + c * g → s ≤ k * g
 enough s c k p g bi bh less short holds total late = elim (cases_lt c k) [
   | inl few ↦ omega (arith, factor (suc c) k g (omega arith))
@@ -135,7 +135,7 @@ enough s c k p g bi bh less short holds total late = elim (cases_lt c k) [
       let costs : c * g ≡ k * g + d * g = ap (λ x. x * g) e ∙ add-mul k d g in
       omega (arith, periods, costs, product d g p short)
 
--- So the jobs of h run at most that often g ticks in the window.
+-- So the jobs of h run at most that many times g ticks in the window.
 pub counted : (jobs : JobsDef) (h r bi bh g : ℕ) (f : ℕ → ℕ) → AreLawfulJobs jobs → 0 < (task_at jobs.set h).period
     → g ≤ (task_at jobs.set h).period → g ≤ bh
     → ((y : ℕ) → y < length jobs.jobs → 0 < f y → InWindow jobs h r bi bh g f y)
@@ -220,7 +220,7 @@ pub record Interfering (interferes : Trace → ℕ → ℕ → Bool) (w : Trace)
   pub sound : (t : ℕ) → t < n → IsSoundRow interferes w t
   pub cost : (m y : ℕ) → m ≤ n → y < length w.jobs → count_below m (λ t. is_interferer interferes w t j y) ≤ g (task_of w y)
 
--- Where a tick of the window lies at which job y interferes with job j.
+-- If there is a tick of the window at which job y interferes with job j.
 record TickPlace (w : Trace) (bound : ℕ → ℕ) (t j y : ℕ) : Type 0 where
   released : (job_of w.jobs j).release ≤ t
   from : (job_of w.jobs y).release ≤ t
@@ -288,7 +288,7 @@ in_window interferes w bound g n j h y laws lawful ended l some = elim (cases_Bo
         within = omega arith;
       }
 
--- The ticks of a job's window that are interference by jobs of h are as few as the analysis counts.
+-- No more ticks of a job's window are interference by jobs of h than the analysis counts.
 pub interference_counted : (interferes : Trace → ℕ → ℕ → Bool) (w : Trace) (bound g : ℕ → ℕ) (n j h : ℕ) → Interfering interferes w n g j
     → AreLawfulJobs (jobs_of w)
     → EndedBefore w bound (bound_end w bound j) → 0 < (task_at w.set h).period → g h ≤ (task_at w.set h).period → g h ≤ bound h

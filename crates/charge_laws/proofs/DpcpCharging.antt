@@ -1,5 +1,5 @@
--- Charging where requests run on their resource's home: each blocked tick is charged to a request that runs where the blocked job
--- would. DPCP is an instance.
+-- Charging if requests run on their resource's home: each blocked tick is charged to a request that runs where the blocked job would run.
+-- DPCP is an instance.
 use Rattle.std.proofs.Common.{◌≡◌, ℕ, ◌<◌, ◌≤◌, ◌==◌, ◌&&◌, true, false, refl, sym, subst, ◌∙◌, arith, inl, inr, Some, None}
 use Rattle.std.specs.Option.{option_map_or}
 use Rattle.std.proofs.lemmas.Bool.{cases_lt, cases_Bool, both_ways, and_parts, and_from, eq-eqb, eqb-true}
@@ -19,9 +19,9 @@ use Rattle.schedule_laws.proofs.ActiveJobs.{Active, active_is, active_listed, on
 use Rattle.schedule_laws.proofs.Rows.{runs_from}
 use Rattle.schedule_laws.proofs.RuleUses.{locals_busy, requests_busy, request_among}
 use Rattle.schedule_laws.proofs.KindsOfTicks.{Blocked, blocked_is, delayed_from, higher_local_from}
-use Rattle.fragments.specs.declared.columns.Class.{Class}
+use Rattle.blocking_columns.specs.declared.columns.Class.{Class}
 use Rattle.charge_laws.specs.Charges.{Charge, class_at_home, dpcp_charge, Executes}
-use Rattle.fragments.specs.declared.columns.Class.TheVariants.{Direct, Indirect, Preemption}
+use Rattle.blocking_columns.specs.declared.columns.Class.TheVariants.{Direct, Indirect, Preemption}
 
 -- Job r runs on processor k, in a request of a resource that has its home there, and holds it.
 pub record RunsRequest (w : Trace) (t k r : ℕ) : Type 0 where
@@ -48,7 +48,7 @@ pub record HomeBlocked (w : Trace) (t j r : ℕ) : Type 0 where
   pub request : phase_of w t j ≡ Asking number resource
   pub runner : RunsRequest w t (home_of w resource) r
 
--- The request that runs is of the resource that is requested, and it is of another one.
+-- The request that runs is of the resource that is requested, or it is of another one.
 pub record DirectAtHome (w : Trace) (t j r : ℕ) : Type 0 where
   pub blocked : HomeBlocked w t j r
   pub same : blocked.runner.resource ≡ blocked.resource
@@ -57,8 +57,8 @@ pub record IndirectAtHome (w : Trace) (t j r : ℕ) : Type 0 where
   pub blocked : HomeBlocked w t j r
   pub other : (blocked.runner.resource ≡ blocked.resource) → ⊥
 
--- What a row keeps where requests run on their resource's home, whichever of the holders there runs: the rules Run and Idle of DPCP,
--- and of its Priority that a holder runs where requests are, and else an active Local job of the highest task.
+-- What a row keeps if requests run on their resource's home, whichever of the holders there runs: the rules Run and Idle of DPCP. And of
+-- its Priority: a holder runs where requests are, and else an active Local job of the highest task.
 pub record RunsAtHomes (w : Trace) (t : ℕ) : Type 0 where
   pub run : KeepsRun w t
   pub idle : KeepsIdle w t
@@ -92,7 +92,7 @@ pub record DpcpCharged (w : Trace) (t j : ℕ) : Type 0 where
   pub is_it : dpcp_charge w t j ≡ Some charge
   pub why : DpcpReason w t j charge.class charge.job
 
--- What runs in a request runs on the resource's home and holds it.
+-- A job that runs in a request runs on the resource's home and holds the resource.
 pub runs_request : (w : Trace) (t k r m q : ℕ) → KeepsRun w t → running_on (w.row t) k ≡ Some r → phase_of w t r ≡ Asking m q
     → RunsRequest w t k r
 runs_request w t k r m q run e h =
@@ -118,7 +118,7 @@ request_at_is w t k j h = go (phase_of w t j) refl where
   go Finished e = let x : is_at w k Finished ≡ true = rw e at parts.1 in absurd (cc)
   go (Asking m q) e = let x : is_at w k (Asking m q) ≡ true = rw e at parts.1 in (m, q, parts.0, e, eqb-true (home_of w q) k x)
 
--- Where requests are at a processor, one of them runs there.
+-- If requests are at a processor, one of them runs there.
 pub requests_run_home : (w : Trace) (t k r : ℕ) → RunsAtHomes w t → has_requests w t k ≡ true → running_on (w.row t) k ≡ Some r
     → RunsRequest w t k r
 unfolding holds_at
@@ -247,7 +247,7 @@ pub dpcp_uncharged : (w : Trace) (t j : ℕ) → is_blocked is_dpcp_interference
 unfolding dpcp_charge
 dpcp_uncharged w t j free = rw free refl
 
--- What is charged was blocked.
+-- A tick that is charged is blocked.
 pub dpcp_charge_blocked : (w : Trace) (t j : ℕ) (c : Charge) → dpcp_charge w t j ≡ Some c → is_blocked is_dpcp_interference w t j ≡ true
 dpcp_charge_blocked w t j c e = elim (cases_Bool (is_blocked is_dpcp_interference w t j)) [
   | inl blocked ↦ blocked

@@ -1,4 +1,4 @@
--- Who interferes with whom, and for how many ticks a job does at most.
+-- Which jobs interfere with which, and for how many ticks a job interferes at most.
 use Rattle.std.proofs.Common.{◌≡◌, ℕ, ◌<◌, ◌≤◌, ◌&&◌, Bool, true, length, arith, inl, inr}
 use Rattle.std.proofs.lemmas.Bool.{cases_Bool, and_from}
 use Rattle.number_laws.specs.Tests.{count_below, any_below}
@@ -19,7 +19,7 @@ use Rattle.schedule_laws.proofs.Counts.{local_at_most, executed_within}
 use Rattle.schedule_laws.proofs.Interferers.{Interferer, interferer_is, dpcp_interferer_higher}
 use Rattle.charge_laws.specs.Interferers.{interferes_with_some}
 
--- Who interferes with some job runs.
+-- A job that interferes with some job runs.
 pub interferer_runs : (interferes : Trace → ℕ → ℕ → Bool) (w : Trace) (t y : ℕ) → interferes_with_some interferes w t y ≡ true
     → runs_in (w.row t) y ≡ true
 unfolding interferes_with_some
@@ -38,7 +38,7 @@ dpcp_interferer_local w t y h =
     any_below-some (length w.jobs) (λ j. is_interferer is_dpcp_interference w t j y) h in
     (dpcp_interferer_higher w t some.0 y some.2).1
 
--- A lawful job interferes for at most its task's cost, whatever interference is.
+-- A lawful job interferes for at most its task's cost, whatever counts as interference.
 pub interferes_within_cost : (interferes : Trace → ℕ → ℕ → Bool) (w : Trace) (n y : ℕ) → RunsActiveBefore w n
     → IsLawfulJob w.set (job_of w.jobs y)
     → count_below n (λ t. interferes_with_some interferes w t y) ≤ (task_at w.set (task_of w y)).cost
@@ -50,7 +50,7 @@ interferes_within_cost interferes w n y active lawful =
     let most : executed w n y ≤ total_ticks (job_of w.jobs y).script = executed_within w n n y active (omega arith) in
     omega (arith, runs, most, lawful.cost)
 
--- Under DPCP for at most its local limit.
+-- Under DPCP it interferes for at most its local limit.
 pub interferes_within_local : (w : Trace) (n y : ℕ) → IsLawfulJob w.set (job_of w.jobs y)
     → count_below n (λ t. interferes_with_some is_dpcp_interference w t y) ≤ (task_at w.set (task_of w y)).local
 unfolding executed_in
@@ -60,7 +60,7 @@ interferes_within_local w n y lawful =
     (λ t l h. and_from _ _ (interferer_runs is_dpcp_interference w t y h) (dpcp_interferer_local w t y h)) in
     omega (arith, runs, local_at_most w n y, lawful.local)
 
--- A tick that is interference for a job is one at which it is active.
+-- If a tick is interference for a job, the job is active.
 pub interference_active : (interferes : Trace → ℕ → ℕ → Bool) (w : Trace) (t j : ℕ) → IsOneOfThree interferes w t j
     → interferes w t j ≡ true → is_active w t j ≡ true
 interference_active interferes w t j three h = elim (cases_Bool (is_active w t j)) [

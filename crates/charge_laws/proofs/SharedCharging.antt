@@ -18,9 +18,9 @@ use Rattle.schedule_laws.proofs.Rows.{runs_from, ReadyHolder, ready_holder_is, r
 use Rattle.schedule_laws.proofs.Rows.{ready_holding, ready_active, ready_listed}
 use Rattle.schedule_laws.proofs.RuleUses.{ready_busy, requested_held}
 use Rattle.schedule_laws.proofs.KindsOfTicks.{Blocked, blocked_is, delayed_from, higher_local_from}
-use Rattle.fragments.specs.declared.columns.Class.{Class}
+use Rattle.blocking_columns.specs.declared.columns.Class.{Class}
 use Rattle.charge_laws.specs.Charges.{Charge, charge_by_holder, shared_charge, Executes}
-use Rattle.fragments.specs.declared.columns.Class.TheVariants.{Direct, Indirect, Preemption}
+use Rattle.blocking_columns.specs.declared.columns.Class.TheVariants.{Direct, Indirect, Preemption}
 
 -- Job j is ready, and job r, a ready holder of a lower task, runs on its processor.
 pub record PreemptedBy (w : Trace) (t j r : ℕ) : Type 0 where
@@ -91,7 +91,7 @@ lower_runner w t j r run b e = elim (cases_lt (task_of w j) (task_of w r)) [
   ]
 ]
 
--- A job that runs where a job of a higher task is ready is a holder.
+-- If a job runs while a job of a higher task of its processor is ready, it is a holder.
 pub runner_holds : (o : Ranks) (w : Trace) (t j r : ℕ) → KeepsPriority o w t → is_ready w t j ≡ true
     → running_on (w.row t) (processor_of w j) ≡ Some r → task_of w j < task_of w r → is_ready_holder w t r ≡ true
 runner_holds o w t j r priority ready e lower = elim (cases_Bool (is_ready_holder w t r)) [
@@ -154,7 +154,7 @@ waits_for o w t j grant active off = go (phase_of w t j) refl where
         },
       )
 
--- What a waiting job is charged to is read from its holder.
+-- To what a waiting job is charged is read from its holder.
 waiting_charge : (w : Trace) (t j y : ℕ) → is_blocked is_shared_interference w t j ≡ true → WaitsFor w t j y
     → shared_charge w t j ≡ charge_by_holder w t y
 unfolding shared_charge
@@ -206,7 +206,7 @@ pub shared_uncharged : (w : Trace) (t j : ℕ) → is_blocked is_shared_interfer
 unfolding shared_charge
 shared_uncharged w t j free = rw free refl
 
--- What is charged was blocked.
+-- A tick that is charged is blocked.
 pub shared_charge_blocked : (w : Trace) (t j : ℕ) (c : Charge) → shared_charge w t j ≡ Some c
     → is_blocked is_shared_interference w t j ≡ true
 shared_charge_blocked w t j c e = elim (cases_Bool (is_blocked is_shared_interference w t j)) [

@@ -1,4 +1,4 @@
--- Each tick of a steady stretch is charged as its first, for its row, and what each job is in, are those of the first.
+-- Each tick of a steady stretch is charged as its first tick is. Its row is that of the first, and so is each job's phase.
 use Rattle.std.proofs.Common.{◌≡◌, ℕ, ◌+◌, refl, ap, ◌∙◌, arith, inl, inr, Option, Some, None}
 use Rattle.std.specs.Prelude.{if◌then◌else◌, option_map}
 use Rattle.std.specs.Option.{option_and_then}
@@ -12,7 +12,7 @@ use Rattle.schedule_model.specs.BlockedTicks.{is_shared_interference, is_dpcp_in
 use Rattle.schedule_model.specs.DpcpRules.{home_of}
 use Rattle.schedule_model.specs.declared.rule.Rule.{Rule}
 use Rattle.schedule_laws.proofs.Alike.{IsAlike, alike_through, ready_alike, running_alike, shared_blocked_alike, dpcp_blocked_alike}
-use Rattle.fragments.specs.declared.columns.Class.TheVariants.{Direct, Indirect, Preemption}
+use Rattle.blocking_columns.specs.declared.columns.Class.TheVariants.{Direct, Indirect, Preemption}
 use Rattle.charge_laws.specs.Charges.{Charge, charge_to, charge_of_waiting, shared_charge, class_at_home, charge_by_phase, dpcp_charge}
 use Rattle.charge_laws.specs.Stretches.{StaysCharged}
 
@@ -24,7 +24,7 @@ stays_where_alike suits keeps charges same w t n fits lawful steady row i j l = 
   | inr none ↦ let here : t + i ≡ t = omega (arith, none) in ap (λ u. charges w u j) here
 ]
 
--- Where a job waits: what holds and runs stands in the row.
+-- If a job waits, the holder and what runs are in the row.
 waiting_alike : (w : Trace) (t u : ℕ) (p : Phase) → IsAlike w t u → charge_of_waiting w u p ≡ charge_of_waiting w t p
 waiting_alike w t u Local a = refl
 waiting_alike w t u Finished a = refl
@@ -52,7 +52,7 @@ shared_charge_alike w t u j a =
           ∙ ap (λ c. if is_ready w t j then charge_to Preemption (running_on (w.row t) (processor_of w j)) else c)
           (ap (charge_of_waiting w u) (a.phase j) ∙ waiting_alike w t u (phase_of w t j) a)
 
--- Where requests run on their resource's home: what runs there, and the request that it is in.
+-- If requests run on their resource's home: what runs there, and the request that it is in.
 abbrev to_home : Trace → ℕ → ℕ → Option ℕ → Option Charge
 to_home w t q o = option_map (λ y. record { job = y; class = class_at_home q (phase_of w t y) }) o
 

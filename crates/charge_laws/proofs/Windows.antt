@@ -15,7 +15,7 @@ use Rattle.schedule_laws.proofs.Ticks.{finished_stays}
 use Rattle.schedule_laws.proofs.ActiveJobs.{Active, active_is, active_listed, active_since}
 use Rattle.charge_laws.specs.Windows.{bound_end, EndedBy, EndedBefore, AreBounds}
 
--- Of the numbers that pass a test and lie from a on and before b there are at most b - a.
+-- At most b - a of the numbers from a on and before b pass a test.
 count_below-within : (n a b : ℕ) (p : ℕ → Bool) → ((t : ℕ) → t < n → p t ≡ true → (a ≤ t) × (t < b)) → count_below n p ≤ min n b - a
 count_below-within zero a b p h = omega arith
 count_below-within (suc n) a b p h = elim (cases_Bool (p n)) [
@@ -25,7 +25,7 @@ count_below-within (suc n) a b p h = elim (cases_Bool (p n)) [
   | inr fails ↦ omega (arith, flag-of_false (p n) fails, count_below-within n a b p (λ t l e. h t (omega arith) e))
 ]
 
--- The same, where some number passes: then a and b are that far apart.
+-- The same if some number passes: then a and b are that far apart.
 pub count_below-between : (n a b : ℕ) (p : ℕ → Bool) → ((t : ℕ) → t < n → p t ≡ true → (a ≤ t) × (t < b)) → 0 < count_below n p
     → count_below n p + a ≤ b
 count_below-between n a b p h some = omega (arith, count_below-within n a b p h)
@@ -41,8 +41,8 @@ active_before_end w e t j active finished = elim (cases_lt t e) [
       absurd (both_ways _ a.unfinished x)
 ]
 
--- Where each job whose bound has passed at r has ended in time, a job that is active from r on was released less than its
--- bound before r, or later.
+-- If each job whose bound has passed at r has ended in time, a job that is active from r on was released less than its bound before r, or
+-- later.
 pub active_after : (w : Trace) (bound : ℕ → ℕ) (r t j : ℕ) → EndedBy w bound r → is_active w t j ≡ true → r ≤ t → r < bound_end w bound j
 active_after w bound r t j ended active l = elim (cases_lt r (bound_end w bound j)) [
   | inl later ↦ later
@@ -52,7 +52,7 @@ active_after w bound r t j ended active l = elim (cases_lt r (bound_end w bound 
       absurd (omega arith)
 ]
 
--- Where each job whose bound passes before e ends in time, a job that is active before e is so before its bound has passed.
+-- If each job whose bound passes before e ends in time, a job that is active before e is active before its bound has passed.
 pub active_within : (w : Trace) (bound : ℕ → ℕ) (e t j : ℕ) → EndedBefore w bound e → is_active w t j ≡ true → t < e
     → t < bound_end w bound j
 active_within w bound e t j ended active l = elim (cases_lt t (bound_end w bound j)) [
@@ -60,7 +60,7 @@ active_within w bound e t j ended active l = elim (cases_lt t (bound_end w bound
   | inr passed ↦ active_before_end w (bound_end w bound j) t j active (ended j (active_listed w t j active) (omega arith))
 ]
 
--- A job that arrives at least a period after an earlier one of its task is released past the earlier one's bound.
+-- A job that arrives at least a period after an earlier one of its task is released after the earlier one's bound has passed.
 pub earlier_ended : (w : Trace) (bound : ℕ → ℕ) (e j : ℕ) → AreLawfulJobs (jobs_of w)
     → bound (task_of w e) + (task_at w.set (task_of w e)).jitter ≤ (task_at w.set (task_of w e)).period → j < length w.jobs
     → EndedBy w bound (job_of w.jobs j).release → e < j → task_of w e ≡ task_of w j → phase_of w (job_of w.jobs j).release e ≡ Finished

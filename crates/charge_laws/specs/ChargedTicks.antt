@@ -1,13 +1,13 @@
--- What is known of a blocked tick: it is charged to one request, which executes, in a column of the job's program.
+-- What is true of a blocked tick: it is charged to one request, which executes at that tick, in a column of the job's program.
 use Rattle.std.specs.Prelude.{◌≡◌, ℕ, List, Option, Some}
 use Rattle.std.specs.List.{Contains}
 use Rattle.schedule_model.specs.RowDef.{Trace}
-use Rattle.fragments.specs.ColumnDef.{ColumnDef}
+use Rattle.blocking_columns.specs.ColumnDef.{ColumnDef}
 use Rattle.charge_laws.specs.Charges.{Charge, Executes}
 use Rattle.charge_laws.specs.Fractions.{charged_column}
 
--- Is tick t charged for job j, where ticks are charged so, to a request that executes then and lies in one of these columns?
--- It is one request, since a tick has one charge.
+-- Is tick t charged, for job j, to a request that executes then, in one of these columns? The first argument says how ticks are charged. It
+-- is a function, so a tick is charged to one request at most.
 pub record IsCharged (charges : Trace → ℕ → ℕ → Option Charge) (columns : List ColumnDef) (w : Trace) (t j : ℕ) : Type 0 where
   pub charge : Charge
   pub is_it : charges w t j ≡ Some charge

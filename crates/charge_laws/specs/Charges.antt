@@ -1,5 +1,5 @@
--- To which request a blocked tick is charged: to one that executes at that tick. It is told by its job, whose phase
--- tells the request.
+-- To which request is a blocked tick charged? To one that executes at that tick. A charge names its job, and the job's phase tells the
+-- request.
 use Rattle.std.specs.Prelude.{◌≡◌, ℕ, true, Option, None, Some, if◌then◌else◌, option_map}
 use Rattle.std.specs.Option.{option_and_then}
 use Rattle.schedule_model.specs.RowDef.{Trace, running_on, holder_in, runs_in}
@@ -8,19 +8,20 @@ use Rattle.schedule_model.specs.Phase.Phase.{Local, Asking, Finished}
 use Rattle.schedule_model.specs.Activity.{processor_of, is_ready}
 use Rattle.schedule_model.specs.BlockedTicks.{is_shared_interference, is_dpcp_interference, is_blocked}
 use Rattle.schedule_model.specs.DpcpRules.{home_of}
-use Rattle.fragments.specs.declared.columns.Class.{Class}
-use Rattle.fragments.specs.declared.columns.Class.TheVariants.{Direct, Indirect, Preemption}
+use Rattle.blocking_columns.specs.declared.columns.Class.{Class}
+use Rattle.blocking_columns.specs.declared.columns.Class.TheVariants.{Direct, Indirect, Preemption}
 
--- A charge: the job whose request executes, and the way in which it blocks.
+-- A charge: the job whose request executes, and the way in which the request blocks.
 pub record Charge : Type 0 where
   pub job : ℕ
   pub class : Class
 
--- The charge to a job, where there is one, with this class.
+-- The charge to this job, if there is one, with this class.
 abbrev pub charge_to : Class → Option ℕ → Option Charge
 charge_to class named = option_map (λ y. record { job = y; class = class }) named
 
--- Shared memory, where a job waits for a resource that job y holds: y where it runs; else what runs on y's processor.
+-- Shared memory: the charge of a job that waits for a resource that job y holds. It is y if y runs, and else the job that runs on y's
+-- processor.
 abbrev pub charge_by_holder : Trace → ℕ → ℕ → Option Charge
 charge_by_holder w t y =
     if runs_in (w.row t) y then Some (record { job = y; class = Direct })
@@ -31,9 +32,9 @@ abbrev pub charge_of_waiting : Trace → ℕ → Phase → Option Charge
 charge_of_waiting w t (Asking n q) = option_and_then (charge_by_holder w t) (holder_in (w.row t) q)
 charge_of_waiting w t _ = None
 
--- What is tick t charged to for job j under shared memory? Where it is blocked and ready, to what runs on its processor;
--- where it is blocked and waits, by the holder of what it waits for. A tick at which it isn't blocked is charged to
--- nothing.
+-- To what is tick t charged for job j under shared memory? If j is blocked and ready, to the job that runs on j's processor. If it is
+-- blocked and waits, to the holder of the resource that it waits for, or to the job that runs in the holder's place. If it isn't blocked,
+-- to nothing.
 unfoldable pub shared_charge : Trace → ℕ → ℕ → Option Charge
 shared_charge w t j =
     if is_blocked is_shared_interference w t j
@@ -42,12 +43,12 @@ shared_charge w t j =
     else charge_of_waiting w t (phase_of w t j))
     else None
 
--- DPCP: which class has a request that runs where a job waits for resource q? Direct where it is of q.
+-- DPCP: the class of a request that runs while a job waits for resource q. It is Direct if the request is of q.
 abbrev pub class_at_home : ℕ → Phase → Class
 class_at_home q p = if is_asking q p then Direct else Indirect
 
--- DPCP: the charge of a blocked job in this phase: what runs on its processor, where it is Local; what runs on the home of
--- what it requests, where it is in a request.
+-- DPCP: the charge of a blocked job in this phase. If the job is Local, it is the job that runs on its processor. If it is in a request, it
+-- is the job that runs on the home of the resource.
 abbrev pub charge_by_phase : Trace → ℕ → ℕ → Phase → Option Charge
 charge_by_phase w t j Local = charge_to Preemption (running_on (w.row t) (processor_of w j))
 charge_by_phase w t j (Asking n q) =
@@ -58,7 +59,7 @@ charge_by_phase w t j Finished = None
 unfoldable pub dpcp_charge : Trace → ℕ → ℕ → Option Charge
 dpcp_charge w t j = if is_blocked is_dpcp_interference w t j then charge_by_phase w t j (phase_of w t j) else None
 
--- Does the request to which the tick is charged execute: does its job run, in a request?
+-- Does the request to which the tick is charged execute: does its job run, and is it in a request?
 pub record Executes (w : Trace) (t : ℕ) (charge : Charge) : Type 0 where
   pub runs : runs_in (w.row t) charge.job ≡ true
   pub number : ℕ

@@ -1,4 +1,4 @@
--- In which column of a blocking program a charged tick lies, and which fractions of its columns a job's window fills.
+-- In which column of a blocking program is a charged tick, and which fractions of its columns does a job's window fill?
 use Rattle.std.specs.Prelude.{ℕ, ◌*◌, ◌/◌, ◌==◌, ◌&&◌, Bool, true, false, List, [], ◌∷◌, Option, None, Some, slice_index_or}
 use Rattle.std.specs.Option.{option_and_then, option_map_or}
 use Rattle.number_laws.specs.Tests.{count_below}
@@ -8,18 +8,18 @@ use Rattle.schedule_model.specs.RowDef.{Trace}
 use Rattle.schedule_model.specs.Phase.{Phase, phase_of}
 use Rattle.schedule_model.specs.Phase.Phase.{Asking}
 use Rattle.schedule_model.specs.Activity.{task_of}
-use Rattle.fragments.specs.declared.columns.Class.{Class}
-use Rattle.fragments.specs.declared.columns.Class.TheVariants.{Direct, Indirect, Preemption}
-use Rattle.fragments.specs.ColumnDef.{ColumnDef}
+use Rattle.blocking_columns.specs.declared.columns.Class.{Class}
+use Rattle.blocking_columns.specs.declared.columns.Class.TheVariants.{Direct, Indirect, Preemption}
+use Rattle.blocking_columns.specs.ColumnDef.{ColumnDef}
 use Rattle.charge_laws.specs.Charges.{Charge}
 use Rattle.charge_laws.specs.Windows.{window_end}
 
--- The column of a charge whose job is in this phase: its task, the resource that it requests, and the class.
+-- The column of a charge whose job is in this phase: the job's task, the resource that it requests, and the class.
 abbrev pub column_in : Trace → Charge → Phase → Option ColumnDef
 column_in w charge (Asking n q) = Some (record { task = task_of w charge.job; resource = q; class = charge.class })
 column_in w charge _ = None
 
--- In which column lies tick t for job j, where ticks are charged so?
+-- In which column is tick t for job j? The first argument says how ticks are charged.
 abbrev pub charged_column : (Trace → ℕ → ℕ → Option Charge) → Trace → ℕ → ℕ → Option ColumnDef
 charged_column charges w t j = option_and_then (λ charge. column_in w charge (phase_of w t charge.job)) (charges w t j)
 
@@ -36,25 +36,25 @@ is_same_column c d = (c.task == d.task) && ((c.resource == d.resource) && is_sam
 abbrev pub is_in : ColumnDef → Option ColumnDef → Bool
 is_in c named = option_map_or (is_same_column c) named false
 
--- At how many ticks of job j's window, in a schedule of n rows, lies the charge in the column?
+-- How many ticks of job j's window are charged in the column, in a schedule of n rows?
 unfoldable pub ticks_in : (Trace → ℕ → ℕ → Option Charge) → Trace → (ℕ → ℕ) → ℕ → ℕ → ColumnDef → ℕ
 ticks_in charges w bound n j c = count_below (window_end w bound n j) (λ t. is_in c (charged_column charges w t j))
 
--- The lengths of the requests of these columns, multiplied: the common denominator of the fractions.
+-- The product of the lengths of these columns' requests. It is the common denominator of the fractions.
 abbrev pub product_of_lengths : SetDef → List ColumnDef → ℕ
 product_of_lengths set [] = 1
 product_of_lengths set (c ∷ columns) = length_of set c.task c.resource * product_of_lengths set columns
 
--- Which fraction of column c does job j's window fill, over that denominator? Its ticks, each of them worth one over the
+-- The numerator of the fraction of column c that job j's window fills, over that denominator. The fraction is the charged ticks over the
 -- length of the column's requests.
 abbrev pub fraction_of : (Trace → ℕ → ℕ → Option Charge) → Trace → (ℕ → ℕ) → ℕ → ℕ → List ColumnDef → ColumnDef → ℕ
 fraction_of charges w bound n j columns c =
     (ticks_in charges w bound n j c * product_of_lengths w.set columns) / length_of w.set c.task c.resource
 
--- A look-up past the end gives the first column that could be.
+-- What a look-up past the end gives.
 abbrev pub no_column : ColumnDef
 no_column = record { task = 0; resource = 0; class = Direct }
 
--- The fractions of all these columns, by their places.
+-- The fractions of all these columns, by their positions.
 abbrev pub fractions_of : (Trace → ℕ → ℕ → Option Charge) → Trace → (ℕ → ℕ) → ℕ → ℕ → List ColumnDef → ℕ → ℕ
 fractions_of charges w bound n j columns k = fraction_of charges w bound n j columns (slice_index_or columns k no_column)

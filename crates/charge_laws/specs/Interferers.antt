@@ -1,4 +1,4 @@
--- Which jobs interfere with some job, and which ticks are interference by a task.
+-- Which jobs interfere with some job, and which ticks are interference by a task?
 use Rattle.std.specs.Prelude.{ℕ, ◌==◌, ◌&&◌, Bool, false, length}
 use Rattle.std.specs.Option.{option_map_or}
 use Rattle.number_laws.specs.Tests.{any_below}

@@ -4,3 +4,4 @@ pub mod Windows
 pub mod Interferers
 pub mod Fractions
 pub mod ChargedTicks
+pub mod ByProtocol

@@ -1,4 +1,4 @@
--- In which window the ticks of a job are counted, and which jobs have ended within theirs.
+-- In which window are the ticks of a job counted, and which jobs have ended within theirs?
 use Rattle.std.specs.Prelude.{◌≡◌, ℕ, ◌+◌, ◌<◌, ◌≤◌, length, min}
 use Rattle.sporadic_model.specs.SetDef.{SetDef, task_at, latest_bound}
 use Rattle.schedule_model.specs.JobDef.{job_of}
@@ -7,12 +7,12 @@ use Rattle.schedule_model.specs.Phase.{phase_of}
 use Rattle.schedule_model.specs.Phase.Phase.{Finished}
 use Rattle.schedule_model.specs.Activity.{task_of}
 
--- By when is job j to be finished, where each task has this bound: its release plus the bound of its task.
+-- By when is job j to be finished? By its release plus its task's bound.
 abbrev pub bound_end : Trace → (ℕ → ℕ) → ℕ → ℕ
 bound_end w bound j = (job_of w.jobs j).release + bound (task_of w j)
 
--- Before which tick do the ticks of job j's window lie, in a schedule of n rows? Past the rows nothing is counted. No tick
--- before its release is blocked, or interference, or charged.
+-- The end of job j's window in a schedule of n rows: the ticks of the window are before it. Nothing is counted past the rows. No tick
+-- before the job's release is blocked, interference or charged.
 abbrev pub window_end : Trace → (ℕ → ℕ) → ℕ → ℕ → ℕ
 window_end w bound n j = min (bound_end w bound j) n
 
@@ -20,16 +20,16 @@ window_end w bound n j = min (bound_end w bound j) n
 abbrev pub EndedBy : Trace → (ℕ → ℕ) → ℕ → Type 0
 EndedBy w bound r = (l : ℕ) → l < length w.jobs → bound_end w bound l ≤ r → phase_of w (bound_end w bound l) l ≡ Finished
 
--- And each whose release plus bound is less than e and lies within n rows?
+-- The same of each job whose release plus bound is less than e, and lies within n rows.
 abbrev pub EndedWithin : Trace → (ℕ → ℕ) → ℕ → ℕ → Type 0
 EndedWithin w bound e n =
     (l : ℕ) → l < length w.jobs → bound_end w bound l < e → bound_end w bound l ≤ n → phase_of w (bound_end w bound l) l ≡ Finished
 
--- And each whose release plus bound is less than e, within whatever rows?
+-- The same of each job whose release plus bound is less than e, however many rows there are.
 abbrev pub EndedBefore : Trace → (ℕ → ℕ) → ℕ → Type 0
 EndedBefore w bound e = (l : ℕ) → l < length w.jobs → bound_end w bound l < e → phase_of w (bound_end w bound l) l ≡ Finished
 
--- Are these bounds ones that an analysis gives: for each task of the set from 1 to its latest bound?
+-- Are these bounds that an analysis gives: for each task of the set from 1 to its latest bound?
 pub record AreBounds (set : SetDef) (bound : ℕ → ℕ) : Type 0 where
   pub from : (x : ℕ) → x < length set.tasks → 1 ≤ bound x
   pub latest : (x : ℕ) → x < length set.tasks → bound x ≤ latest_bound (task_at set x)

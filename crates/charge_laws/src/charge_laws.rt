@@ -9,9 +9,8 @@ ghost use Rattle.schedule_model.specs.BlockedTicks.{is_shared_interference, is_d
 ghost use Rattle.charge_laws.specs.Charges.{Charge, shared_charge, dpcp_charge, Executes};
 ghost use Rattle.charge_laws.specs.Stretches.{StaysCharged};
 
-/// Where requests run on their own task's processor, whatever the order of grants and runs, so under MPCP and FMLP+:
-/// in a row that keeps the rules each blocked tick is charged to one request, which executes at that tick. No other
-/// tick is charged.
+/// In a row that keeps the rules each blocked tick is charged to one request, which executes at that tick. No other tick is charged. This
+/// holds if requests run on their own task's processor, whatever the order of grants and runs: so under MPCP and FMLP+.
 pub fn shared_memory_charges_blocked_ticks()
     ensures charged { (o : Ranks) (w : Trace) (t j : ℕ) → KeepsRow (shared_rule o) w t → is_blocked is_shared_interference w t j ≡ true
         → (charge : Charge) × (shared_charge w t j ≡ Some charge) × Executes w t charge }
@@ -19,7 +18,7 @@ pub fn shared_memory_charges_blocked_ticks()
         → is_blocked is_shared_interference w t j ≡ true }
 {}
 
-/// Under DPCP too.
+/// The same under DPCP.
 pub fn dpcp_charges_blocked_ticks()
     ensures charged { (w : Trace) (t j : ℕ) → KeepsRow dpcp_rule w t → is_blocked is_dpcp_interference w t j ≡ true
         → (charge : Charge) × (dpcp_charge w t j ≡ Some charge) × Executes w t charge }
@@ -27,7 +26,7 @@ pub fn dpcp_charges_blocked_ticks()
         → is_blocked is_dpcp_interference w t j ≡ true }
 {}
 
-/// Under each protocol each tick of a steady stretch is charged as its first.
+/// Under each protocol each tick of a steady stretch is charged as its first tick is.
 pub fn charges_stay_through_stretches()
     ensures mpcp { StaysCharged EachSetSuits (shared_rule mpcp) shared_charge }
     ensures fmlp_plus { StaysCharged EachSetSuits (shared_rule fmlp_plus) shared_charge }

@@ -15,8 +15,7 @@ ghost use Rattle.schedule_laws.specs.Agreement.{RunsActiveBefore};
 
 use schedule_model::BlockingProtocol;
 
-/// Where each job whose bound has passed by a job's release was finished by then, the job is active from its release
-/// until it ends.
+/// Let each job whose bound has passed by a job's release be finished by then. Then this job is active from its release until it ends.
 pub fn jobs_are_active_until_they_end()
     ensures { (w : Trace) (bound : ℕ → ℕ) (t j : ℕ) → IsAccepted w.set → AreLawfulJobs (jobs_of w) → AreBounds w.set bound
         → j < length w.jobs → EndedBy w bound (job_of w.jobs j).release → (job_of w.jobs j).release ≤ t
@@ -29,14 +28,14 @@ pub fn jobs_interfere_within_the_cost<P: BlockingProtocol>()
         → count_below n (λ t. interferes_with_some (P.interferes p) w t y) ≤ (task_at w.set (task_of w y)).cost }
 {}
 
-/// Under DPCP at no more ticks than its task's local limit.
+/// Under DPCP a lawful job interferes with others at no more ticks than its task's local limit.
 pub fn dpcp_interferes_within_the_local_limit()
     ensures { (w : Trace) (n y : ℕ) → IsLawfulJob w.set (job_of w.jobs y)
         → count_below n (λ t. interferes_with_some is_dpcp_interference w t y) ≤ (task_at w.set (task_of w y)).local }
 {}
 
-/// Under every protocol: where a job of a task x interferes at no more than `g x` ticks, and each job whose bound passes
-/// before job j's bound does is finished by then, so many ticks of j's window at most are interference by jobs of h.
+/// Under every protocol: let no job of a task x interfere at more than `g x` ticks. Let each job whose bound passes before job j's bound be
+/// finished by then. Then at most this many ticks of j's window are interference by jobs of task h.
 pub fn interference_is_counted<P: BlockingProtocol>()
     ensures { (p : P) (w : Trace) (bound g : ℕ → ℕ) (n j h : ℕ) → P.suits p w.set → KeepsBefore (P.keeps p) w n
         → IsAccepted w.set → AreLawfulJobs (jobs_of w) → AreBounds w.set bound → h < length w.set.tasks → g h ≤ bound h

@@ -1,9 +1,9 @@
-//! What a blocked tick is charged to under MPCP, FMLP+ and DPCP, and in which window ticks are counted: definitions in `specs/`, which
-//! speak of ticks, jobs and rows, and of no analysis. And the laws of charging: each blocked tick is charged to one request that executes,
-//! and what interferes with a job within its window is as little as an analysis counts.
+//! To what a blocked tick is charged under MPCP, FMLP+ and DPCP, and in which window ticks are counted. The definitions are in `specs/`.
+//! They speak of ticks, jobs and rows, and of no analysis. Two laws of charging follow. Each blocked tick is charged to one request that
+//! executes. And no more ticks of a job's window are interference than an analysis counts.
 //!
-//! Each function here does nothing: its contract is a law, and the lemmas that prove it stand in `proofs/`, one file a
-//! subject, for the proofs of the crates above.
+//! Each function here does nothing: its contract is a law. The lemmas that prove it are in `proofs/`, one file for each subject. Proofs of
+//! crates above use them too.
 #![tactic(auto)]
 
 mod charge_laws;

@@ -2,7 +2,7 @@
 use Rattle.std.proofs.Common.{◌≡◌, Bool, true, false, refl, sym, ◌∙◌, Option, Some, None}
 use Rattle.std.specs.Prelude.{◌↔◌}
 use Rattle.schedule_model.specs.declared.job.JobId.{JobId}
-use Rattle.fragments.specs.declared.columns.Class.{Class}
+use Rattle.blocking_columns.specs.declared.columns.Class.{Class}
 use Rattle.charge_laws.specs.Charges.{Charge}
 use Rattle.charged_protocols.specs.Seen.{charge_seen}
 

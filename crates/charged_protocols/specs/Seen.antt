@@ -1,7 +1,7 @@
 -- What a contract sees of a charge.
 use Rattle.std.specs.Prelude.{option_map, Option}
 use Rattle.schedule_model.specs.declared.job.JobId.{JobId}
-use Rattle.fragments.specs.declared.columns.Class.{Class}
+use Rattle.blocking_columns.specs.declared.columns.Class.{Class}
 use Rattle.charge_laws.specs.Charges.{Charge}
 
 abbrev pub charge_seen : Option (JobId × Class) → Option Charge

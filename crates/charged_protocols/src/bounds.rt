@@ -3,7 +3,7 @@ ghost use Rattle.charge_laws.specs.Windows.{AreBounds};
 
 use sporadic_model::{TaskId, TaskSet};
 
-/// Is there a bound for each task, from 1 to its latest bound?
+/// Has each task a bound, from 1 to its latest bound?
 pub fn are_bounds(set: &TaskSet, bounds: &[u64]) -> bool
     ensures { IsTrue result ↔ ((length bounds.now ≡ length set.now.tasks) × AreBounds set.now (slice_index bounds.now)) }
 {

@@ -12,15 +12,15 @@ ghost use Rattle.charged_protocols.specs.Seen.{charge_seen};
 ghost use Rattle.charged_protocols.specs.ChargeNow.{home_charge_now, dpcp_charge_now};
 
 use crate::shared::charge_to;
+use blocking_columns::Class;
 use dpcp_rules::blocking::blocked;
 use dpcp_rules::lookup::home_of;
-use fragments::Class;
 use phase_machine::lookup::{column_at, running_beside};
 use phase_machine::{Machine, Phase};
 use schedule_model::{JobId, Row};
 use sporadic_model::ResourceId;
 
-/// Direct where the job is in a request of the resource, else indirect.
+/// Direct if the job is in a request of the resource, and else indirect.
 fn class_at_home(machine: &Machine, q: ResourceId, y: JobId) -> Class
     requires { y.0 < length machine.now.list.jobs }
     ensures { result ≡ class_at_home q.0 (phase_now machine.now y.0) }
@@ -31,7 +31,7 @@ fn class_at_home(machine: &Machine, q: ResourceId, y: JobId) -> Class
     }
 }
 
-/// The charge of a job in a request of the resource: to what runs on its home.
+/// The charge of a job in a request of the resource: to the job that runs on the resource's home.
 fn charge_at_home(machine: &Machine, row: &Row, q: ResourceId) -> Option<(JobId, Class)>
     requires suits { EachHasHome machine.now.list.set }
     requires fits { IsRowFor machine.now.list (row_seen row.now) }
@@ -45,7 +45,7 @@ fn charge_at_home(machine: &Machine, row: &Row, q: ResourceId) -> Option<(JobId,
     }
 }
 
-/// The charge of a blocked job, where requests run on their resource's home.
+/// The charge of a blocked job, if requests run on their resource's home.
 pub fn charge_of_blocked(machine: &Machine, row: &Row, j: JobId) -> Option<(JobId, Class)>
     requires suits { EachHasHome machine.now.list.set }
     requires fits { IsRowFor machine.now.list (row_seen row.now) }
@@ -60,7 +60,7 @@ pub fn charge_of_blocked(machine: &Machine, row: &Row, j: JobId) -> Option<(JobI
     }
 }
 
-/// In a row that keeps Run: the charge of the tick for the job, where requests run on their resource's home.
+/// The charge of the tick for the job, in a row that keeps Run, if requests run on their resource's home.
 pub fn charged_distributed(machine: &Machine, row: &Row, j: JobId) -> Option<(JobId, Class)>
     requires suits { EachHasHome machine.now.list.set }
     requires fits { IsRowFor machine.now.list (row_seen row.now) }

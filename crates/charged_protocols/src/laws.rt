@@ -1,4 +1,4 @@
-//! What follows from the laws of charged protocols alone. Each function is a law: it does nothing.
+//! What follows only from the laws of charged protocols. Each function is a law: it does nothing.
 
 ghost use Rattle.program_form.specs.Certificate.{CertificateDef};
 ghost use Rattle.std.specs.Prelude.{slice_index};
@@ -11,8 +11,8 @@ ghost use Rattle.soundness_laws.specs.Analyses.{Analyses};
 
 use crate::protocol::ChargedProtocol;
 
-/// The programs of a charged protocol analyse it, on every accepted set that suits it. So the bounds and the values of each
-/// certificate that is valid for them are sound.
+/// The programs of a charged protocol analyse it, on every accepted set that suits it. So the bounds and the values of each certificate
+/// that is valid for them are sound.
 pub fn charged_protocols_are_analysed<P: ChargedProtocol>()
     ensures { (p : P) (set : SetDef) → IsAccepted set → P.suits p set
         → Analyses (P.keeps p) (P.interferes p) (source_at (P.source p) set) }

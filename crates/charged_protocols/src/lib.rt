@@ -1,8 +1,8 @@
-//! What it is to charge each blocked tick of a schedule to the request that executes at it. There are the trait of charged
-//! protocols, MPCP, FMLP+ and DPCP as such, and what follows of every one.
+//! Protocols that charge each blocked tick of a schedule to the request that executes at it: the trait of charged protocols, its
+//! implementations for MPCP, FMLP+ and DPCP, and what follows for every one.
 //!
-//! A protocol that implements [`ChargedProtocol`] gives its programs and its charges, and the laws that tie them together.
-//! From these alone it follows that the bounds of a valid certificate are sound.
+//! A protocol that implements [`ChargedProtocol`] gives its programs and its charges, and proves the laws that relate them. From these laws
+//! alone it follows that the bounds of a valid certificate are sound.
 #![tactic(auto)]
 
 mod bounds;

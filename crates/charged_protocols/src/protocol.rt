@@ -14,7 +14,7 @@ ghost use Rattle.schedule_model.specs.Seen.{row_seen};
 ghost use Rattle.phase_machine.specs.MachineDef.{under};
 ghost use Rattle.phase_machine.specs.Shows.{Shows};
 ghost use Rattle.phase_machine.specs.Taking.{IsRowFor};
-ghost use Rattle.fragments.specs.ColumnDef.{ColumnDef};
+ghost use Rattle.blocking_columns.specs.ColumnDef.{ColumnDef};
 ghost use Rattle.program_laws.specs.Programs.{cost_of};
 ghost use Rattle.charge_laws.specs.Charges.{Charge};
 ghost use Rattle.charge_laws.specs.ChargedTicks.{IsCharged};
@@ -24,22 +24,22 @@ ghost use Rattle.charge_laws.specs.Fractions.{product_of_lengths, fractions_of};
 ghost use Rattle.charge_laws.specs.Stretches.{StaysCharged};
 ghost use Rattle.charged_protocols.specs.Seen.{charge_seen};
 
-use fragments::Class;
+use blocking_columns::Class;
 use phase_machine::{Judge, Machine};
 use program_sources::ProgramSource;
 use schedule_model::{JobId, Row};
 
-/// A locking protocol whose blocked ticks are charged to requests, and whose programs, those of its [`ProgramSource`], bound what
-/// can be charged. Bounds are in ticks, one for each task.
+/// A locking protocol that charges its blocked ticks to requests, and whose programs bound what can be charged. The programs are those of
+/// its [`ProgramSource`]. Bounds are in ticks, one for each task.
 pub trait ChargedProtocol: Judge + ProgramSource {
     /// The columns of a task's program: the requests of other tasks that may block it, and how.
     ghost columns_of: { Self → SetDef → ℕ → List ColumnDef };
 
-    /// What is a tick charged to, for a job? To nothing where it is not blocked.
+    /// To what is a tick charged for a job? To nothing if it isn't blocked.
     ghost charges: { Self → Trace → ℕ → ℕ → Option Charge };
 
-    /// In a row that keeps the rules: the job whose request the tick is charged to, and the way in which it blocks the job. The
-    /// machine's phase of that job tells the request. None exactly where the tick is not blocked for the job. It takes no memory.
+    /// In a row that keeps the rules: the job to whose request the tick is charged, and the way in which the request blocks job `j`. The
+    /// machine's phase of that job tells the request. None exactly if the tick isn't blocked for `j`. It takes no memory.
     fn charged(&self, machine: &Machine, row: &Row, j: JobId) -> Option<(JobId, Class)>
         requires suits { Self.suits self.now machine.now.list.set }
         requires fits { IsRowFor machine.now.list (row_seen row.now) }
@@ -55,7 +55,7 @@ pub trait ChargedProtocol: Judge + ProgramSource {
     /// It is a source of programs for each set that suits it.
     ghost served: { (p : Self) (set : SetDef) → Self.suits p set → Self.serves p set };
 
-    /// The program has one column for each of these, and it is worth the length of the column's requests.
+    /// The program has one column for each of these. It is worth the length of the column's requests.
     ghost worth: { (p : Self) (set : SetDef) (i : ℕ) (bounds : List ℕ) → Self.suits p set → i < length set.tasks
         → ((Self.source p set).program i bounds).costs ≡ map (cost_of set) (columns_of p set i) };
 
@@ -64,7 +64,7 @@ pub trait ChargedProtocol: Judge + ProgramSource {
         → IsLawfulJob w.set (job_of w.jobs y)
         → count_below n (λ t. interferes_with_some (Self.interferes p) w t y) ≤ (Self.source p w.set).interfering (task_of w y) };
 
-    /// In a lawful schedule each blocked tick is charged to one request, which executes then, and its column is there.
+    /// In a lawful schedule each blocked tick is charged to one request, which executes at that tick, in a column of the job's program.
     ghost charges_blocked: { (p : Self) (w : Trace) (n t j : ℕ) → Self.suits p w.set → AreLawfulJobs (jobs_of w)
         → KeepsBefore (Self.keeps p) w n → t < n → is_blocked (Self.interferes p) w t j ≡ true
         → IsCharged (charges p) (columns_of p w.set (task_of w j)) w t j };
@@ -73,13 +73,13 @@ pub trait ChargedProtocol: Judge + ProgramSource {
     ghost charges_only: { (p : Self) (w : Trace) (t j : ℕ) (charge : Charge) → charges p w t j ≡ Some charge
         → is_blocked (Self.interferes p) w t j ≡ true };
 
-    /// Through a steady stretch, which begins with a row that keeps the rules, each tick is charged as its first: for each job to the
-    /// same job, in the same way, or to none. No phase ends within the stretch, so it is the same request.
+    /// Each tick of a steady stretch that begins with a lawful row is charged as its first tick is: for each job to the same job in the
+    /// same way, or to nothing. No phase ends within the stretch, so it is the same request.
     ghost stays_charged: { (p : Self) → StaysCharged (Self.suits p) (Self.keeps p) (charges p) };
 
-    /// Charges meet the rows: in a lawful schedule of an accepted set take a job, and let each job whose release plus bound is less
-    /// than that job's, and at most the number of rows, be finished by its own release plus its bound. Then the fractions of the
-    /// job's window meet every row of its program.
+    /// Charges meet the rows. Take a job in a lawful schedule of an accepted set. Let each job whose release plus bound is less than this
+    /// job's, and at most the number of rows, be finished by its own release plus its bound. Then the fractions of this job's window meet
+    /// every row of its program.
     ghost meets_rows: { (p : Self) (w : Trace) (bounds : List ℕ) (n j : ℕ) → Self.suits p w.set → IsAccepted w.set
         → AreLawfulJobs (jobs_of w) → KeepsBefore (Self.keeps p) w n → j < length w.jobs
         → EndedWithin w (slice_index bounds) (bound_end w (slice_index bounds) j) n

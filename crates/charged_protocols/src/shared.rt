@@ -5,18 +5,18 @@ ghost use Rattle.schedule_model.specs.Seen.{row_seen, place_seen};
 ghost use Rattle.phase_machine.specs.MachineDef.{under};
 ghost use Rattle.phase_machine.specs.Shows.{Shows};
 ghost use Rattle.phase_machine.specs.Taking.{IsRowFor};
-ghost use Rattle.fragments.specs.declared.columns.Class.{Class as ClassDef};
+ghost use Rattle.blocking_columns.specs.declared.columns.Class.{Class as ClassDef};
 ghost use Rattle.charge_laws.specs.Charges.{charge_to, shared_charge};
 ghost use Rattle.charged_protocols.specs.Seen.{charge_seen};
 ghost use Rattle.charged_protocols.specs.ChargeNow.{holder_charge_now, waiting_charge_now, shared_charge_now};
 
-use fragments::Class;
+use blocking_columns::Class;
 use phase_machine::lookup::{holder_at, may_run, running_beside};
 use phase_machine::{Machine, Phase};
 use schedule_model::{JobId, Row};
 use shared_rules::blocked_shared;
 
-/// The charge to a job, where there is one, with this class.
+/// The charge to this job, if there is one, with this class.
 pub fn charge_to(class: Class, named: Option<JobId>) -> Option<(JobId, Class)>
     ensures { charge_seen result ≡ charge_to class (place_seen named) }
 {
@@ -26,7 +26,7 @@ pub fn charge_to(class: Class, named: Option<JobId>) -> Option<(JobId, Class)>
     }
 }
 
-/// The charge of a job that waits for what `y` holds: `y` where it runs, else what runs beside it.
+/// The charge of a job that waits for a resource that `y` holds: `y` if it runs, and else the job that runs on its processor.
 fn charge_by_holder(machine: &Machine, row: &Row, y: JobId) -> Option<(JobId, Class)>
     requires fits { IsRowFor machine.now.list (row_seen row.now) }
     requires listed { y.0 < length machine.now.list.jobs }
@@ -40,7 +40,7 @@ fn charge_by_holder(machine: &Machine, row: &Row, y: JobId) -> Option<(JobId, Cl
     charge_to(Class::Indirect, running)
 }
 
-/// The charge of a job that isn't ready: by the holder of what it requests.
+/// The charge of a job that isn't ready: by the holder of the resource that it requests.
 fn charge_of_waiting(machine: &Machine, row: &Row, j: JobId) -> Option<(JobId, Class)>
     requires fits { IsRowFor machine.now.list (row_seen row.now) }
     requires listed { j.0 < length machine.now.list.jobs }
@@ -70,7 +70,7 @@ fn charge_of_blocked(machine: &Machine, row: &Row, j: JobId) -> Option<(JobId, C
     charge_of_waiting(machine, row, j)
 }
 
-/// The charge of the tick for the job, where requests run on their own task's processor.
+/// The charge of the tick for the job, if requests run on their own task's processor.
 pub fn charged_shared(machine: &Machine, row: &Row, j: JobId) -> Option<(JobId, Class)>
     requires fits { IsRowFor machine.now.list (row_seen row.now) }
     requires listed { j.0 < length machine.now.list.jobs }

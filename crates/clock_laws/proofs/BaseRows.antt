@@ -8,10 +8,10 @@ use Rattle.sporadic_model.specs.Users.{length_of}
 use Rattle.sporadic_model.specs.Homes.{home_in}
 use Rattle.sporadic_model.specs.declared.ids.Protocol.{Protocol}
 use Rattle.sporadic_model.specs.declared.ids.Protocol.TheVariants as protocol
-use Rattle.fragments.specs.declared.columns.Class.TheVariants.{Direct, Indirect, Preemption}
-use Rattle.fragments.specs.ColumnDef.{is_class}
-use Rattle.fragments.specs.Columns.{is_lower_local, columns_of}
-use Rattle.fragments.specs.Windows.{jobs_during}
+use Rattle.blocking_columns.specs.declared.columns.Class.TheVariants.{Direct, Indirect, Preemption}
+use Rattle.blocking_columns.specs.ColumnDef.{is_class}
+use Rattle.blocking_columns.specs.Columns.{is_lower_local, columns_of}
+use Rattle.blocking_columns.specs.Windows.{jobs_during}
 use Rattle.fragments.specs.Constraints.{per, per_pair}
 use Rattle.direct_constraints.specs.Rows.{request_row, time_row, turn_row, lower_holder_row, common_rows}
 use Rattle.preempt_constraints.specs.Rows.{interval_row, preemption_rows}

@@ -5,9 +5,9 @@ use Rattle.number_laws.specs.Sums.{sum_below, only_if}
 use Rattle.number_laws.specs.Tests.{any_below}
 use Rattle.sporadic_model.specs.SetDef.{SetDef}
 use Rattle.sporadic_model.specs.declared.ids.Protocol.TheVariants as protocol
-use Rattle.fragments.specs.declared.columns.Class.TheVariants.{Direct, Indirect, Preemption}
-use Rattle.fragments.specs.ColumnDef.{is_class}
-use Rattle.fragments.specs.Columns.{is_lower_local, columns_of}
+use Rattle.blocking_columns.specs.declared.columns.Class.TheVariants.{Direct, Indirect, Preemption}
+use Rattle.blocking_columns.specs.ColumnDef.{is_class}
+use Rattle.blocking_columns.specs.Columns.{is_lower_local, columns_of}
 use Rattle.fragments.specs.Constraints.{ConstraintDef, per, per_pair, per_where}
 use Rattle.program_laws.specs.Programs.{rows_of}
 use Rattle.closer_laws.specs.CloserRows.{is_shared_out, requests_where, is_held_there, is_held_beside}

@@ -6,11 +6,11 @@ use Rattle.sporadic_model.specs.SetDef.{SetDef}
 use Rattle.sporadic_model.specs.Homes.{home_in}
 use Rattle.sporadic_model.specs.declared.ids.Protocol.{Protocol}
 use Rattle.sporadic_model.specs.declared.ids.Protocol.TheVariants as protocol
-use Rattle.fragments.specs.declared.columns.Class.{Class}
-use Rattle.fragments.specs.declared.columns.Class.TheVariants as class
-use Rattle.fragments.specs.ColumnDef.{all_columns, is_class}
-use Rattle.fragments.specs.Columns.{may_run_before, is_path, has_path, requests_beside, blocks_by_sharing, blocks_at_home}
-use Rattle.fragments.specs.Columns.{may_block, columns_by, columns_of}
+use Rattle.blocking_columns.specs.declared.columns.Class.{Class}
+use Rattle.blocking_columns.specs.declared.columns.Class.TheVariants as class
+use Rattle.blocking_columns.specs.ColumnDef.{all_columns, is_class}
+use Rattle.blocking_columns.specs.Columns.{may_run_before, is_path, has_path, requests_beside, blocks_by_sharing, blocks_at_home}
+use Rattle.blocking_columns.specs.Columns.{may_block, columns_by, columns_of}
 use Rattle.clock_laws.specs.Cycles.{in_cycles}
 use Rattle.clock_laws.proofs.Sets.{tasks_in, processor_in, users_in, one_processor_in, higher_in, lower_in, rank_in, remote_rank_in}
 

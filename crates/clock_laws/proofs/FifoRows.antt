@@ -3,9 +3,9 @@ use Rattle.std.proofs.Common.{ℕ, ◌+◌, ◌<◌, ◌==◌, ◌&&◌, not, Li
 use Rattle.std.specs.Prelude.{slice_index}
 use Rattle.sporadic_model.specs.SetDef.{SetDef}
 use Rattle.sporadic_model.specs.Homes.{home_in}
-use Rattle.fragments.specs.declared.columns.Class.TheVariants.{Preemption}
-use Rattle.fragments.specs.ColumnDef.{is_class}
-use Rattle.fragments.specs.Columns.{blocks_at_home}
+use Rattle.blocking_columns.specs.declared.columns.Class.TheVariants.{Preemption}
+use Rattle.blocking_columns.specs.ColumnDef.{is_class}
+use Rattle.blocking_columns.specs.Columns.{blocks_at_home}
 use Rattle.fragments.specs.Constraints.{ConstraintDef, per_pair}
 use Rattle.direct_constraints.specs.Rows.{common_rows, turn_row}
 use Rattle.preempt_constraints.specs.Rows.{preemption_rows}
@@ -28,7 +28,7 @@ queues_in k set bounds i some = each_pair k bounds (length set.tasks) (length (i
     (λ c. ((c.task == x) && not (is_class Preemption c.class)) && (home_in set c.resource == m + 1)) _ _ some refl
     (requests_at_in k set i (m + 1)))
 
-fifo_rows_in : (k : ℕ) (set : SetDef) (bounds : ℕ → ℕ) (i : ℕ) → 0 < k → AreRescaled k bounds (dflp_rows set i) (dflp_rows (in_cycles k set) i)
+pub fifo_rows_in : (k : ℕ) (set : SetDef) (bounds : ℕ → ℕ) (i : ℕ) → 0 < k → AreRescaled k bounds (dflp_rows set i) (dflp_rows (in_cycles k set) i)
 fifo_rows_in k set bounds i some = appended k bounds (common_rows set i) (common_rows (in_cycles k set) i)
     (preemption_rows set i ++ (turns ++ queues)) (preemption_rows (in_cycles k set) i ++ (fine_turns ++ fine_queues))
     (common_in k set bounds i some)

@@ -21,6 +21,10 @@ use Rattle.window_laws.specs.WindowRows.{windowed_source}
 use Rattle.window_laws.proofs.Sound.{windows_analyse}
 use Rattle.closer_laws.specs.CloserRows.{fmlp_closer_source}
 use Rattle.closer_laws.proofs.Sound.{fmlp_closer_analyses}
+use Rattle.closer_distributed_laws.specs.CloserRows.{dpcp_closer_source, dflp_closer_source}
+use Rattle.closer_distributed_laws.proofs.Sound.{dpcp_closer_analyses, dflp_closer_analyses}
+use Rattle.closer_spin_laws.specs.CloserSpinRows.{spin_closer_source}
+use Rattle.closer_spin_laws.proofs.Sound.{spin_closer_analyses}
 use Rattle.closer_mpcp_laws.specs.CloserMpcpRows.{mpcp_closer_source}
 use Rattle.closer_mpcp_laws.proofs.Sound.{mpcp_closer_analyses}
 use Rattle.spin_rules.specs.SpinRules.{spin_rule}
@@ -35,6 +39,8 @@ use Rattle.clock_laws.proofs.FifoRows.{fifo_rescaled}
 use Rattle.clock_laws.proofs.SpinRows.{spin_rescaled}
 use Rattle.clock_laws.proofs.WindowRows.{windowed_rescaled}
 use Rattle.clock_laws.proofs.CloserRows.{closer_rescaled}
+use Rattle.clock_laws.proofs.CloserHomeRows.{dpcp_closer_rescaled, dflp_closer_rescaled}
+use Rattle.clock_laws.proofs.CloserSpinRows.{spin_closer_rescaled}
 use Rattle.clock_laws.proofs.CloserMpcpRows.{closer_mpcp_rescaled}
 use Rattle.clock_laws.proofs.OnClocks.{sound_on_clocks}
 
@@ -93,3 +99,24 @@ pub spin_on_clocks : (set : SetDef) (c : CertificateDef) (values : List ℕ) →
     → SoundOnClocks spin_rule is_shared_interference (is_whole (spin_source set) c) set c.bounds values
 spin_on_clocks set c values accepted valid are = sound_on_clocks spin_rule is_shared_interference spin_source set c values
     shared_one_of_three spin_sound_row spin_analyses (record { programs = spin_rescaled; interfering = cost_in }) accepted valid are
+
+pub dpcp_closer_on_clocks : (set : SetDef) (c : CertificateDef) (values : List ℕ) → IsAccepted set → IsValid (dpcp_closer_source set) c
+    → AreValues (dpcp_closer_source set) c values
+    → SoundOnClocks dpcp_rule is_dpcp_interference (is_whole (dpcp_closer_source set) c) set c.bounds values
+dpcp_closer_on_clocks set c values accepted valid are = sound_on_clocks dpcp_rule is_dpcp_interference dpcp_closer_source set c values
+    dpcp_one_of_three dpcp_sound_row dpcp_closer_analyses (record { programs = dpcp_closer_rescaled; interfering = local_in }) accepted
+    valid are
+
+pub dflp_closer_on_clocks : (set : SetDef) (c : CertificateDef) (values : List ℕ) → IsAccepted set → IsValid (dflp_closer_source set) c
+    → AreValues (dflp_closer_source set) c values
+    → SoundOnClocks dflp_rule is_dpcp_interference (is_whole (dflp_closer_source set) c) set c.bounds values
+dflp_closer_on_clocks set c values accepted valid are = sound_on_clocks dflp_rule is_dpcp_interference dflp_closer_source set c values
+    dpcp_one_of_three dflp_sound_row dflp_closer_analyses (record { programs = dflp_closer_rescaled; interfering = local_in }) accepted
+    valid are
+
+pub spin_closer_on_clocks : (set : SetDef) (c : CertificateDef) (values : List ℕ) → IsAccepted set → IsValid (spin_closer_source set) c
+    → AreValues (spin_closer_source set) c values
+    → SoundOnClocks spin_rule is_shared_interference (is_whole (spin_closer_source set) c) set c.bounds values
+spin_closer_on_clocks set c values accepted valid are = sound_on_clocks spin_rule is_shared_interference spin_closer_source set c values
+    shared_one_of_three spin_sound_row spin_closer_analyses (record { programs = spin_closer_rescaled; interfering = cost_in }) accepted
+    valid are

@@ -8,7 +8,7 @@ use Rattle.number_laws.proofs.SumLaws.{sum_below-times}
 use Rattle.sporadic_model.specs.SetDef.{SetDef, task_at, is_higher_local, jobs_within}
 use Rattle.sporadic_model.specs.Homes.{home_in}
 use Rattle.program_sources.specs.Recurrence.{interference_by, interference_of}
-use Rattle.fragments.specs.Windows.{jobs_during, requests_during, requests_by_higher, all_requests, requests_at}
+use Rattle.blocking_columns.specs.Windows.{jobs_during, requests_during, requests_by_higher, all_requests, requests_at}
 use Rattle.clock_laws.specs.Cycles.{in_cycles, times_each}
 use Rattle.clock_laws.proofs.Scaled.{div_ceil_scaled, only_times, each_at}
 use Rattle.clock_laws.proofs.Sets.{period_in, jitter_in, count_in, higher_in}

@@ -9,8 +9,10 @@ pub mod RoundedJobs
 pub mod Roundings
 pub mod FifoRows
 pub mod SpinRows
+pub mod CloserSpinRows
 pub mod WindowRows
 pub mod CloserRows
+pub mod CloserHomeRows
 pub mod CloserMpcpRows
 pub mod WorkedClock
 pub mod Spared

@@ -10,7 +10,7 @@ use Rattle.number_laws.proofs.SumLaws.{sum_below-monotone, sum_below-times}
 use Rattle.program_form.specs.Program.{ProgramDef, columns, height, cost, entry, limit}
 use Rattle.program_form.specs.Duals.{Covers, dual_total, dual_value}
 use Rattle.sporadic_model.specs.SetDef.{SetDef}
-use Rattle.fragments.specs.ColumnDef.{ColumnDef}
+use Rattle.blocking_columns.specs.ColumnDef.{ColumnDef}
 use Rattle.fragments.specs.Constraints.{ConstraintDef, rows_there}
 use Rattle.program_laws.specs.Programs.{program_with, cost_of}
 use Rattle.clock_laws.specs.Cycles.{in_cycles, times_each}

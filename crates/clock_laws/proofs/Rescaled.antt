@@ -7,7 +7,7 @@ use Rattle.std.specs.List.{list_any}
 use Rattle.std.proofs.Math.Nat.{mul_comm, mul-one, mul-le-mul_left}
 use Rattle.std.proofs.lemmas.Bool.{cases_Bool}
 use Rattle.number_laws.specs.Sums.{collect_below, flag}
-use Rattle.fragments.specs.ColumnDef.{ColumnDef}
+use Rattle.blocking_columns.specs.ColumnDef.{ColumnDef}
 use Rattle.fragments.specs.Constraints.{ConstraintDef, counting, per, per_where, per_pair, rows_there, holds_some}
 use Rattle.clock_laws.proofs.Scaled.{same_sign}
 use Rattle.clock_laws.proofs.Jobs.{fine}

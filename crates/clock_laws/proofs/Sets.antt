@@ -10,8 +10,8 @@ use Rattle.std.proofs.lemmas.List.{length-map}
 use Rattle.sporadic_model.specs.SetDef.{SetDef, TaskDef, RequestDef, no_task, task_at, resource_at, is_higher_local}
 use Rattle.sporadic_model.specs.Users.{numbers, entry_of, count_of, length_of, is_user, is_remote_user, ceiling_of, remote_ceiling_of}
 use Rattle.sporadic_model.proofs.Mapped.{find-map}
-use Rattle.fragments.specs.Ceilings.{ceiling_rank, remote_ceiling_rank}
-use Rattle.fragments.specs.Columns.{have_one_processor, is_lower_local}
+use Rattle.blocking_columns.specs.Ceilings.{ceiling_rank, remote_ceiling_rank}
+use Rattle.blocking_columns.specs.Columns.{have_one_processor, is_lower_local}
 use Rattle.clock_laws.specs.Cycles.{request_in_cycles, task_in_cycles, in_cycles}
 
 tasks_of : ℕ → TaskDef

@@ -15,11 +15,11 @@ use Rattle.sporadic_model.specs.Homes.{home_in}
 use Rattle.sporadic_model.specs.declared.ids.Protocol.TheVariants as protocol
 use Rattle.schedule_model.specs.Measures.{greatest_below}
 use Rattle.program_sources.proofs.RecurrenceLaws.{div_ceil_rises}
-use Rattle.fragments.specs.declared.columns.Class.TheVariants.{Preemption}
-use Rattle.fragments.specs.ColumnDef.{is_class}
-use Rattle.fragments.specs.Columns.{columns_of}
+use Rattle.blocking_columns.specs.declared.columns.Class.TheVariants.{Preemption}
+use Rattle.blocking_columns.specs.ColumnDef.{is_class}
+use Rattle.blocking_columns.specs.Columns.{columns_of}
 use Rattle.fragments.specs.Constraints.{per_pair}
-use Rattle.fragments.specs.Windows.{jobs_during, requests_during, requests_in}
+use Rattle.blocking_columns.specs.Windows.{jobs_during, requests_during, requests_in}
 use Rattle.program_laws.specs.Programs.{rows_of}
 use Rattle.window_laws.specs.Windows.{time_at, may_hold_up, longest_lower, ticks_there, ticks_by, is_enough, window_of}
 use Rattle.window_laws.specs.WindowRows.{meets_there, requests_met, requests_there, lacks_window, window_row, windowed_rows, windowed_source}
@@ -137,7 +137,7 @@ window_limit_fine k set bounds i x p some =
       | inr none ↦ omega (arith, same, met_fine k set bounds i x p some none)
     ]
 
-windowed_rows_in : (k : ℕ) (set : SetDef) (bounds : ℕ → ℕ) (i : ℕ) → 0 < k
+pub windowed_rows_in : (k : ℕ) (set : SetDef) (bounds : ℕ → ℕ) (i : ℕ) → 0 < k
     → AreRescaled k bounds (windowed_rows set i) (windowed_rows (in_cycles k set) i)
 windowed_rows_in k set bounds i some = appended k bounds (rows_of protocol.Dpcp set i) (rows_of protocol.Dpcp (in_cycles k set) i)
     (per_pair i (length set.resources) (window_row set i)) (per_pair i (length set.resources) (window_row (in_cycles k set) i))

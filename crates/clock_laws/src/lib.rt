@@ -25,7 +25,7 @@ ghost use Rattle.schedule_model.specs.Ranks.{mpcp, fmlp_plus};
 ghost use Rattle.schedule_model.specs.Protocols.{shared_rule, dpcp_rule};
 ghost use Rattle.program_sources.specs.Bounds.{AreWithinDeadlines};
 ghost use Rattle.program_sources.specs.Valid.{IsValid};
-ghost use Rattle.fragments.specs.Columns.{columns_of};
+ghost use Rattle.blocking_columns.specs.Columns.{columns_of};
 ghost use Rattle.program_laws.specs.Programs.{source_of};
 ghost use Rattle.soundness_laws.specs.Sound.{blocked_in_window};
 ghost use Rattle.soundness_laws.specs.Analyses.{AreValues};
@@ -34,6 +34,8 @@ ghost use Rattle.dflp_laws.specs.Rules.{dflp_rule};
 ghost use Rattle.dflp_laws.specs.Programs.{dflp_source};
 ghost use Rattle.window_laws.specs.WindowRows.{windowed_source};
 ghost use Rattle.closer_laws.specs.CloserRows.{fmlp_closer_source};
+ghost use Rattle.closer_distributed_laws.specs.CloserRows.{dpcp_closer_source, dflp_closer_source};
+ghost use Rattle.closer_spin_laws.specs.CloserSpinRows.{spin_closer_source};
 ghost use Rattle.closer_mpcp_laws.specs.CloserMpcpRows.{mpcp_closer_source};
 ghost use Rattle.spin_rules.specs.SpinRules.{spin_rule};
 ghost use Rattle.spin_charging.specs.SpinPrograms.{spin_source};
@@ -45,7 +47,7 @@ ghost use Rattle.clock_laws.specs.Worked.{seven_rows_in_cycles, trace_on_clock};
 
 use schedule_model::BlockingProtocol;
 
-/// Of an accepted set, the bounds of a valid certificate and the values of its duals are sound on clocks, under each of the eight
+/// Of an accepted set, the bounds of a valid certificate and the values of its duals are sound on clocks, under each of the
 /// analyses. However many cycles a tick has: in every schedule whose rows are cycles, of lawful jobs of the set said in cycles, which
 /// keeps the protocol's rules and in which no job executes more cycles than it may, each job whose window lies within it ends within
 /// its bound in cycles. And no job is blocked in its window at more cycles than its dual's value in cycles and a part of a tick.
@@ -74,6 +76,15 @@ pub fn valid_certificates_are_sound_on_clocks()
     ensures spin { (set : SetDef) (c : CertificateDef) (values : List ℕ) → IsAccepted set → IsValid (spin_source set) c
         → AreValues (spin_source set) c values
         → SoundOnClocks spin_rule is_shared_interference (is_whole (spin_source set) c) set c.bounds values }
+    ensures dpcp_closer { (set : SetDef) (c : CertificateDef) (values : List ℕ) → IsAccepted set → IsValid (dpcp_closer_source set) c
+        → AreValues (dpcp_closer_source set) c values
+        → SoundOnClocks dpcp_rule is_dpcp_interference (is_whole (dpcp_closer_source set) c) set c.bounds values }
+    ensures dflp_closer { (set : SetDef) (c : CertificateDef) (values : List ℕ) → IsAccepted set → IsValid (dflp_closer_source set) c
+        → AreValues (dflp_closer_source set) c values
+        → SoundOnClocks dflp_rule is_dpcp_interference (is_whole (dflp_closer_source set) c) set c.bounds values }
+    ensures spin_closer { (set : SetDef) (c : CertificateDef) (values : List ℕ) → IsAccepted set → IsValid (spin_closer_source set) c
+        → AreValues (spin_closer_source set) c values
+        → SoundOnClocks spin_rule is_shared_interference (is_whole (spin_closer_source set) c) set c.bounds values }
 {}
 
 /// Let an accepted set in ticks be a rounding of what was measured in cycles. Then jobs that are lawful for what was measured are

@@ -4,8 +4,8 @@ use Rattle.program_form.specs.Program.{columns}
 use Rattle.sporadic_model.specs.SetDef.{SetDef}
 use Rattle.sporadic_model.specs.Accepted.{IsAccepted}
 use Rattle.sporadic_model.specs.declared.ids.Protocol.TheVariants as protocol
-use Rattle.fragments.specs.Columns.{is_column, columns_of}
-use Rattle.fragments.proofs.KnownColumns.{columns_are_requests}
+use Rattle.blocking_columns.specs.Columns.{is_column, columns_of}
+use Rattle.blocking_columns.proofs.KnownColumns.{columns_are_requests}
 use Rattle.program_laws.proofs.UsedResources.{requests_at_most}
 use Rattle.program_laws.proofs.PlacedRows.{width_is}
 use Rattle.closer_laws.specs.CloserRows.{fmlp_closer_rows, fmlp_closer_program}

@@ -4,8 +4,8 @@ ghost use Rattle.std.specs.Prelude.{◌≡◌, ◌<◌, map, length, IfOk, OnOk}
 ghost use Rattle.sporadic_model.specs.declared.ids.Protocol.TheVariants as protocol;
 ghost use Rattle.schedule_model.specs.Protocols.{EachSetSuits};
 ghost use Rattle.program_sources.specs.Bounds.{AreWithinDeadlines};
-ghost use Rattle.fragments.specs.ColumnDef.{column_seen};
-ghost use Rattle.fragments.specs.Columns.{columns_of};
+ghost use Rattle.blocking_columns.specs.ColumnDef.{column_seen};
+ghost use Rattle.blocking_columns.specs.Columns.{columns_of};
 ghost use Rattle.closer_laws.specs.CloserRows.{fmlp_closer_rows, fmlp_closer_program};
 ghost use Rattle.closer_laws.proofs.Programs.{fmlp_closer_is_program};
 

@@ -4,12 +4,12 @@ ghost use Rattle.std.specs.Prelude.{◌≡◌, ◌<◌, ◌+◌, ◌==◌, ◌&&
 ghost use Rattle.std.proofs.Common.{ap};
 ghost use Rattle.number_laws.specs.Sums.{flag};
 ghost use Rattle.program_sources.specs.Bounds.{AreWithinDeadlines};
-ghost use Rattle.fragments.specs.declared.columns.Class.TheVariants.{Indirect, Preemption};
-ghost use Rattle.fragments.specs.ColumnDef.{column_seen, is_class, AreKnown};
-ghost use Rattle.fragments.specs.Columns.{is_lower_local};
+ghost use Rattle.blocking_columns.specs.declared.columns.Class.TheVariants.{Indirect, Preemption};
+ghost use Rattle.blocking_columns.specs.ColumnDef.{column_seen, is_class, AreKnown};
+ghost use Rattle.blocking_columns.specs.Columns.{is_lower_local};
 ghost use Rattle.fragments.specs.Constraints.{per, per_pair, per_where};
-ghost use Rattle.fragments.specs.Stretches.{AreInOrder};
-ghost use Rattle.fragments.specs.TaskPlaces.{ArePlaces};
+ghost use Rattle.blocking_columns.specs.Stretches.{AreInOrder};
+ghost use Rattle.blocking_columns.specs.TaskPlaces.{ArePlaces};
 ghost use Rattle.closer_laws.specs.CloserRows.{is_shared_out, requests_where, closer_rows};
 ghost use Rattle.closer_laws.specs.CloserRows.{holder_row, other_holder_row, lower_row};
 ghost use Rattle.closer_laws.specs.CloserRows.{local_preemption_row, local_wait_row, local_runner_row};

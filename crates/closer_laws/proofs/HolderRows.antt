@@ -15,8 +15,8 @@ use Rattle.schedule_laws.proofs.ActiveJobs.{active_listed}
 use Rattle.schedule_laws.proofs.Rows.{ReadyHolder, ready_holder_is}
 use Rattle.schedule_laws.proofs.Segments.{open_user}
 use Rattle.sporadic_model.specs.Users.{is_user}
-use Rattle.fragments.specs.ColumnDef.{ColumnDef, is_preemption, is_indirect, is_direct}
-use Rattle.fragments.specs.Columns.{have_one_processor}
+use Rattle.blocking_columns.specs.ColumnDef.{ColumnDef, is_preemption, is_indirect, is_direct}
+use Rattle.blocking_columns.specs.Columns.{have_one_processor}
 use Rattle.indirect_constraints.specs.Rows.{is_beside}
 use Rattle.charge_laws.specs.Charges.{shared_charge}
 use Rattle.charge_laws.proofs.SharedCharging.{WaitsFor, DirectBy, IndirectBy, shared_reason}

@@ -1,6 +1,7 @@
 pub mod LocalResources
 pub mod Waits
 pub mod HolderRows
+pub mod Slots
 pub mod Granted
 pub mod LowerRows
 pub mod Programs

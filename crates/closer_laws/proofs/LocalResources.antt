@@ -25,7 +25,7 @@ use Rattle.schedule_laws.proofs.RuleUses.{requested_held}
 use Rattle.schedule_laws.proofs.Segments.{open_listed, open_user}
 use Rattle.schedule_laws.proofs.SharedLaws.{shared_runs_active}
 use Rattle.schedule_laws.proofs.Ticks.{local_run_before, same_true, one_resource}
-use Rattle.fragments.specs.Columns.{have_one_processor}
+use Rattle.blocking_columns.specs.Columns.{have_one_processor}
 use Rattle.closer_laws.specs.CloserRows.{is_shared_out}
 
 -- Is each user of q a task of processor k?

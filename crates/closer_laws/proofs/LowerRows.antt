@@ -2,11 +2,9 @@
 -- run no Local tick while the job is ready, and what blocks the job while it waits was issued before.
 use Rattle.std.proofs.Common.{◌≡◌, ℕ, suc, ◌+◌, ◌*◌, ◌<◌, ◌≤◌, ◌==◌, ◌&&◌, not, Bool, true, length, refl, sym, ap, ◌∙◌, get_or}
 use Rattle.std.proofs.Common.{arith, inl, inr}
-use Rattle.std.proofs.Math.Nat.{mul_comm, mul-le-mul_right}
 use Rattle.std.proofs.lemmas.Bool.{cases_lt, and_parts, eqb-true, not-true}
 use Rattle.number_laws.specs.Sums.{sum_below, flag}
-use Rattle.number_laws.specs.Tests.{count_below}
-use Rattle.number_laws.proofs.CountLaws.{count_below-at_most, count_below-monotone}
+use Rattle.number_laws.proofs.CountLaws.{count_below-monotone}
 use Rattle.sporadic_model.specs.Users.{length_of}
 use Rattle.schedule_model.specs.declared.rule.Rule.TheVariants as rule
 use Rattle.schedule_model.specs.JobDef.{job_of, no_segment}
@@ -23,24 +21,25 @@ use Rattle.schedule_laws.proofs.ActiveJobs.{active_local_from, active_stays}
 use Rattle.schedule_laws.proofs.Holders.{open_at}
 use Rattle.schedule_laws.proofs.Issues.{issue_at_most, open_since}
 use Rattle.schedule_laws.proofs.Rows.{ready_active, ready_local}
-use Rattle.fragments.specs.declared.columns.Class.{Class}
-use Rattle.fragments.specs.declared.columns.Class.TheVariants.{Direct, Indirect, Preemption}
-use Rattle.fragments.specs.ColumnDef.{ColumnDef, is_preemption}
-use Rattle.fragments.specs.Columns.{is_lower_local}
+use Rattle.blocking_columns.specs.declared.columns.Class.{Class}
+use Rattle.blocking_columns.specs.declared.columns.Class.TheVariants.{Direct, Indirect, Preemption}
+use Rattle.blocking_columns.specs.ColumnDef.{ColumnDef, is_preemption}
+use Rattle.blocking_columns.specs.Columns.{is_lower_local}
 use Rattle.charge_laws.specs.Charges.{shared_charge}
 use Rattle.charge_laws.specs.Windows.{window_end}
 use Rattle.charge_laws.proofs.SharedCharging.{PreemptedBy, SharedReason, shared_reason}
 use Rattle.row_laws.specs.Meeting.{brings, TicksMeet}
-use Rattle.row_laws.proofs.Brings.{Window, Hit, column_with, flag_times-at_most, flag_times-passes}
-use Rattle.row_laws.proofs.SlotRow.{OneRequest, slot_row}
+use Rattle.row_laws.proofs.Brings.{Window, Hit}
+use Rattle.row_laws.proofs.SlotRow.{OneRequest}
 use Rattle.row_laws.proofs.JobRows.{HitJob, hit_job}
 use Rattle.row_laws.proofs.Requests.{preemption_is, one_request}
 use Rattle.row_laws.proofs.Intervals.{LowerLocal, lower_local_is, no_lower_local, preempted_by}
-use Rattle.row_laws.proofs.Numbers.{asks_passing, own_passing}
+use Rattle.row_laws.proofs.Numbers.{asks_passing}
 use Rattle.row_laws.proofs.Fifo.{InTurn}
 use Rattle.closer_laws.specs.CloserRows.{is_shared_out, requests_where, lower_row, local_preemption_row}
 use Rattle.closer_laws.proofs.LocalResources.{Issued, issued, OnlyOn, only_there, one_local}
 use Rattle.closer_laws.proofs.Waits.{Held, held_of, held_in_turn}
+use Rattle.closer_laws.proofs.Slots.{hit_passes, slots_paid}
 use Rattle.closer_laws.proofs.Granted.{granted, granted_rise, ready_through, is_granted}
 
 -- A row whose slots are told by the requests granted so far: at most one request each brings at most one more than the job has requests
@@ -54,29 +53,10 @@ pub granted_slots : (w : Trace) (bound : ℕ → ℕ) (n j s : ℕ) (share : ℕ
     → sum_below (window_end w bound n j) (λ t. brings shared_charge w (λ c. flag (counts c) * share c.task c.resource) j t)
     ≤ s * (1 + requests_where w.set (task_of w j) (is_shared_out w.set (task_of w j)))
 granted_slots w bound n j s share counts window fair one =
-    let most : sum_below (window_end w bound n j) (λ t. brings shared_charge w (λ c. flag (counts c) * share c.task c.resource) j t)
-    ≤ count_below (suc all) (λ k. true) * s =
-    slot_row shared_charge w bound n j (suc all) s share (λ c. flag (counts c) * share c.task c.resource) (granted w j) (λ k. true) window
-    (record { within = λ t l h. omega (arith, granted_few t); passes = λ t l h. refl; one = one })
-    (record { fair = fair; small = λ c. flag_times-at_most (counts c) (share c.task c.resource) }) in
-    let own : all ≤ requests_where w.set (task_of w j) (is_shared_out w.set (task_of w j)) =
-    own_passing w.set (is_shared_out w.set (task_of w j)) (job_of w.jobs j) (window.lawful.each j window.listed) in
-    let number : count_below (suc all) (λ k. true) ≤ 1 + requests_where w.set (task_of w j) (is_shared_out w.set (task_of w j)) =
-    omega (arith, count_below-at_most (suc all) (λ k. true), own) in
-    omega (
-      arith,
-      most,
-      mul-le-mul_right s number,
-      mul_comm (1 + requests_where w.set (task_of w j) (is_shared_out w.set (task_of w j))) s,
-    ) where
-      all : ℕ
-      all = count_below (length (job_of w.jobs j).script)
-          (λ k. asks_passing (is_shared_out w.set (task_of w j)) (get_or (job_of w.jobs j).script k no_segment))
-
-      granted_few : (t : ℕ) → granted w j t ≤ all
-      granted_few t = count_below-monotone (length (job_of w.jobs j).script) (is_granted w j t)
-          (λ k. asks_passing (is_shared_out w.set (task_of w j)) (get_or (job_of w.jobs j).script k no_segment))
-          (λ k b h. (and_parts _ _ h).0)
+    slots_paid shared_charge w bound n j s share counts (is_shared_out w.set (task_of w j)) (granted w j) window fair
+    (λ t. count_below-monotone (length (job_of w.jobs j).script) (is_granted w j t)
+    (λ m. asks_passing (is_shared_out w.set (task_of w j)) (get_or (job_of w.jobs j).script m no_segment)) (λ m b h. (and_parts _ _ h).0))
+    one
 
 -- Between two ticks with as many granted, before one at which job j is ready, a job of a lower local task runs no Local tick.
 pub no_local_run : (o : Ranks) (w : Trace) (bound : ℕ → ℕ) (n u t v j z : ℕ) → Window shared_charge w bound n j
@@ -115,13 +95,6 @@ no_local_run_waiting w bound n u t v j z m q window keeps before after l early h
       ready from = ready_local w a.before j (active_local_from w a.before j
           (active_stays w u a.before j early from (rw a.local refl)) a.local)
 
--- What counts is a request of a column that passes.
-pub hit_passes : (w : Trace) (j t : ℕ) (share : ℕ → ℕ → ℕ) (counts : ColumnDef → Bool)
-    → (h : Hit shared_charge w (λ c. flag (counts c) * share c.task c.resource) j t)
-    → counts (column_with w h.charge h.resource) ≡ true
-hit_passes w j t share counts h =
-    flag_times-passes (counts (column_with w h.charge h.resource)) (share (task_of w h.charge.job) h.resource) h.some
-
 -- So what a lower local task brings at the later of two such ticks was open at the earlier one.
 none_between : (w : Trace) (bound : ℕ → ℕ) (n u t v j z m q : ℕ) (c : Class) → Window shared_charge w bound n j
     → KeepsBefore (shared_rule fmlp_plus) w n → u ≤ t → t < v → v < n → is_active w u j ≡ true → SharedReason fmlp_plus w v j c z
@@ -144,7 +117,7 @@ lower_row_met w bound n j x window keeps lower s share fair = granted_slots w bo
   f = λ c. flag (c.task == x) * share c.task c.resource
 
   task : (t : ℕ) → (h : Hit shared_charge w f j t) → task_of w h.charge.job ≡ x
-  task t h = eqb-true _ _ (hit_passes w j t share (λ c. c.task == x) h)
+  task t h = eqb-true _ _ (hit_passes shared_charge w j t share (λ c. c.task == x) h)
 
   one : (u v : ℕ) → u ≤ v → v < window_end w bound n j → (a : Hit shared_charge w f j u) → (b : Hit shared_charge w f j v)
       → granted w j u ≡ granted w j v → OneRequest w u v a.charge.job b.charge.job
@@ -197,14 +170,14 @@ local_preemption_row_met o w bound n j window keeps s share fair = granted_slots
   by : (t : ℕ) → t < n → (h : Hit shared_charge w f j t) → PreemptedBy w t j h.charge.job
   by t l h =
       let both : (is_preemption h.charge.class ≡ true) × (not (is_shared_out w.set (task_of w j) h.resource) ≡ true) =
-      and_parts _ _ (hit_passes w j t share counts h) in
+      and_parts _ _ (hit_passes shared_charge w j t share counts h) in
       preempted_by o w t j h.charge.job h.charge.class (preemption_is h.charge.class both.0)
       (shared_reason o w t j h.charge (keeps t l) h.is_it)
 
   only : (t : ℕ) → t < n → (h : Hit shared_charge w f j t) → OnlyOn w.set h.resource (processor_of w j)
   only t l h =
       let both : (is_preemption h.charge.class ≡ true) × (not (is_shared_out w.set (task_of w j) h.resource) ≡ true) =
-      and_parts _ _ (hit_passes w j t share counts h) in
+      and_parts _ _ (hit_passes shared_charge w j t share counts h) in
       only_there w.set (task_of w j) h.resource (not-true _ both.1)
 
   one : (u v : ℕ) → u ≤ v → v < window_end w bound n j → (a : Hit shared_charge w f j u) → (b : Hit shared_charge w f j v)

@@ -15,10 +15,10 @@ use Rattle.sporadic_model.specs.declared.ids.Protocol.TheVariants as protocol
 use Rattle.program_sources.specs.Bounds.{AtMost, AreWithinDeadlines}
 use Rattle.program_sources.specs.Fitting.{ComesUpAbove}
 use Rattle.program_sources.proofs.RecurrenceLaws.{comes_up_above}
-use Rattle.fragments.specs.ColumnDef.{ColumnDef, is_direct, is_preemption, is_indirect}
-use Rattle.fragments.specs.Columns.{is_column, columns_of, is_lower_local}
+use Rattle.blocking_columns.specs.ColumnDef.{ColumnDef, is_direct, is_preemption, is_indirect}
+use Rattle.blocking_columns.specs.Columns.{is_column, columns_of, is_lower_local}
 use Rattle.fragments.specs.Constraints.{ConstraintDef, per, per_where, per_pair, holds_some, rows_there}
-use Rattle.fragments.proofs.KnownColumns.{passing_known, columns_are_requests, columns_are_of_others}
+use Rattle.blocking_columns.proofs.KnownColumns.{passing_known, columns_are_requests, columns_are_of_others}
 use Rattle.direct_constraints.specs.Rows.{common_rows, request_row}
 use Rattle.preempt_constraints.specs.Rows.{preemption_rows}
 use Rattle.program_laws.specs.Programs.{protocol_rows, rows_of}

@@ -12,7 +12,7 @@ use Rattle.schedule_laws.proofs.SharedLaws.{shared_one_of_three, shared_sound_ro
 use Rattle.program_sources.specs.Bounds.{AtMost}
 use Rattle.program_sources.specs.Fitting.{AreFitting, AreLeastFitting}
 use Rattle.program_sources.specs.Valid.{IsValid}
-use Rattle.fragments.specs.Columns.{may_block, columns_of}
+use Rattle.blocking_columns.specs.Columns.{may_block, columns_of}
 use Rattle.charge_laws.specs.Charges.{shared_charge}
 use Rattle.program_laws.specs.Programs.{rows_of, source_of, interfering_cost}
 use Rattle.program_laws.proofs.MoreRows.{fitting_with_more}

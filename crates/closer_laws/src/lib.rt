@@ -25,7 +25,7 @@ ghost use Rattle.schedule_model.specs.Keeping.{KeepsBefore};
 ghost use Rattle.program_sources.specs.Valid.{IsValid};
 ghost use Rattle.program_sources.specs.Bounds.{AtMost, AreWithinDeadlines};
 ghost use Rattle.program_sources.specs.Fitting.{AreFitting, AreLeastFitting};
-ghost use Rattle.fragments.specs.Columns.{columns_of};
+ghost use Rattle.blocking_columns.specs.Columns.{columns_of};
 ghost use Rattle.program_laws.specs.Programs.{source_of};
 ghost use Rattle.program_laws.specs.Written.{KeepsJobs};
 ghost use Rattle.charge_laws.specs.Charges.{shared_charge};

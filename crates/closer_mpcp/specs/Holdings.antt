@@ -5,8 +5,8 @@ use Rattle.number_laws.specs.Tests.{any_below}
 use Rattle.sporadic_model.specs.SetDef.{SetDef}
 use Rattle.sporadic_model.specs.Users.{count_of, is_user}
 use Rattle.sporadic_model.specs.declared.ids.ResourceId.{ResourceId}
-use Rattle.fragments.specs.Columns.{have_one_processor}
-use Rattle.fragments.specs.Windows.{requests_by_higher}
+use Rattle.blocking_columns.specs.Columns.{have_one_processor}
+use Rattle.blocking_columns.specs.Windows.{requests_by_higher}
 use Rattle.indirect_constraints.specs.Rows.{is_beside}
 use Rattle.closer_laws.specs.CloserRows.{is_shared_out, is_held_there}
 use Rattle.closer_mpcp_laws.specs.CloserMpcpRows.{goes_first, goes_before, is_away, away_holdings}

@@ -1,7 +1,7 @@
 //! Which requests may run on a processor before the one of a ready holder.
 
 ghost use Rattle.std.specs.Prelude.{◌≡◌, ◌<◌, length, IfSome};
-ghost use Rattle.fragments.specs.Ceilings.{remote_ceiling_rank};
+ghost use Rattle.blocking_columns.specs.Ceilings.{remote_ceiling_rank};
 ghost use Rattle.closer_mpcp_laws.specs.CloserMpcpRows.{goes_first, goes_before};
 ghost use Rattle.closer_mpcp.specs.Holdings.{passes};
 

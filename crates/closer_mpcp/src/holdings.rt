@@ -3,7 +3,7 @@
 ghost use Rattle.std.specs.Prelude.{◌≡◌, ℕ, ◌<◌, ◌≤◌, ◌&&◌, nat_lt, length, slice_index, IfSome};
 ghost use Rattle.number_laws.specs.Sums.{only_if};
 ghost use Rattle.program_sources.specs.Bounds.{AreWithinDeadlines};
-ghost use Rattle.fragments.specs.Windows.{requests_in, requests_by_higher};
+ghost use Rattle.blocking_columns.specs.Windows.{requests_in, requests_by_higher};
 ghost use Rattle.indirect_constraints.specs.Rows.{is_beside};
 ghost use Rattle.closer_laws.specs.CloserRows.{is_held_there};
 ghost use Rattle.closer_mpcp_laws.specs.CloserMpcpRows.{shared_holdings, away_holdings, away_row};

@@ -11,7 +11,7 @@ ghost use Rattle.schedule_laws.proofs.SharedLaws.{shared_one_of_three, shared_so
 ghost use Rattle.schedule_laws.proofs.SharedAgreement.{mpcp_rules_read, mpcp_choice_reads};
 ghost use Rattle.schedule_laws.proofs.TickAgreement.{shared_interference_agree};
 ghost use Rattle.schedule_laws.proofs.SharedStretches.{mpcp_stays_lawful};
-ghost use Rattle.fragments.specs.Columns.{columns_of as written_columns};
+ghost use Rattle.blocking_columns.specs.Columns.{columns_of as written_columns};
 ghost use Rattle.program_laws.proofs.WrittenPrograms.{interfering_least, interfering_most};
 ghost use Rattle.charge_laws.specs.Charges.{shared_charge};
 ghost use Rattle.charge_laws.proofs.SharedCharging.{shared_charge_blocked};

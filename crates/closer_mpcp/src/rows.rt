@@ -4,12 +4,12 @@ ghost use Rattle.std.specs.Prelude.{◌≡◌, ◌<◌, ◌+◌, ◌==◌, ◌&&
 ghost use Rattle.std.proofs.Common.{ap};
 ghost use Rattle.number_laws.specs.Sums.{flag};
 ghost use Rattle.program_sources.specs.Bounds.{AreWithinDeadlines};
-ghost use Rattle.fragments.specs.declared.columns.Class.TheVariants.{Indirect, Preemption};
-ghost use Rattle.fragments.specs.ColumnDef.{column_seen, is_class, AreKnown};
-ghost use Rattle.fragments.specs.Columns.{is_lower_local};
+ghost use Rattle.blocking_columns.specs.declared.columns.Class.TheVariants.{Indirect, Preemption};
+ghost use Rattle.blocking_columns.specs.ColumnDef.{column_seen, is_class, AreKnown};
+ghost use Rattle.blocking_columns.specs.Columns.{is_lower_local};
 ghost use Rattle.fragments.specs.Constraints.{per, per_pair, per_where};
-ghost use Rattle.fragments.specs.Stretches.{AreInOrder};
-ghost use Rattle.fragments.specs.TaskPlaces.{ArePlaces};
+ghost use Rattle.blocking_columns.specs.Stretches.{AreInOrder};
+ghost use Rattle.blocking_columns.specs.TaskPlaces.{ArePlaces};
 ghost use Rattle.closer_laws.specs.CloserRows.{is_shared_out, requests_where, local_preemption_row};
 ghost use Rattle.closer_mpcp_laws.specs.CloserMpcpRows.{shared_holding_row, resource_holding_row, away_row};
 ghost use Rattle.closer_mpcp_laws.specs.CloserMpcpRows.{shared_interval_row, lower_wait_row, further_rows};

@@ -29,10 +29,10 @@ use Rattle.schedule_laws.proofs.RuleUses.{requested_held}
 use Rattle.schedule_laws.proofs.Segments.{open_listed, open_resource, open_user}
 use Rattle.schedule_laws.proofs.SharedLaws.{shared_runs_active}
 use Rattle.schedule_laws.proofs.Ticks.{open_between, same_true, one_resource}
-use Rattle.fragments.specs.declared.columns.Class.{Class}
-use Rattle.fragments.specs.declared.columns.Class.TheVariants.{Direct, Indirect, Preemption}
-use Rattle.fragments.specs.ColumnDef.{ColumnDef, is_preemption}
-use Rattle.fragments.specs.Windows.{requests_by_higher}
+use Rattle.blocking_columns.specs.declared.columns.Class.{Class}
+use Rattle.blocking_columns.specs.declared.columns.Class.TheVariants.{Direct, Indirect, Preemption}
+use Rattle.blocking_columns.specs.ColumnDef.{ColumnDef, is_preemption}
+use Rattle.blocking_columns.specs.Windows.{requests_by_higher}
 use Rattle.charge_laws.specs.Charges.{shared_charge}
 use Rattle.charge_laws.specs.Windows.{window_end}
 use Rattle.charge_laws.proofs.SharedCharging.{WaitsFor, SharedReason, shared_reason}

@@ -18,8 +18,8 @@ use Rattle.schedule_laws.proofs.Issues.{issue_at_most, open_at_issue}
 use Rattle.schedule_laws.proofs.Rows.{job_named, ready_holder_from}
 use Rattle.schedule_laws.proofs.Segments.{open_listed}
 use Rattle.schedule_laws.proofs.SharedLaws.{shared_runs_active}
-use Rattle.fragments.specs.ColumnDef.{ColumnDef, is_direct}
-use Rattle.fragments.specs.Columns.{is_lower_local}
+use Rattle.blocking_columns.specs.ColumnDef.{ColumnDef, is_direct}
+use Rattle.blocking_columns.specs.Columns.{is_lower_local}
 use Rattle.charge_laws.specs.Charges.{shared_charge}
 use Rattle.charge_laws.proofs.SharedCharging.{WaitsFor, DirectBy, shared_reason}
 use Rattle.row_laws.specs.Meeting.{TicksMeet}

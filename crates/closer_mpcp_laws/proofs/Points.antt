@@ -8,7 +8,7 @@ use Rattle.schedule_model.specs.Ranks.{mpcp}
 use Rattle.schedule_model.specs.Protocols.{shared_rule}
 use Rattle.schedule_model.specs.Keeping.{KeepsBefore}
 use Rattle.schedule_model.specs.JobDef.{job_of}
-use Rattle.fragments.specs.Columns.{is_column, columns_of}
+use Rattle.blocking_columns.specs.Columns.{is_column, columns_of}
 use Rattle.program_laws.proofs.RowKinds.{each_row}
 use Rattle.charge_laws.specs.Charges.{shared_charge}
 use Rattle.charge_laws.specs.Windows.{EndedBy}

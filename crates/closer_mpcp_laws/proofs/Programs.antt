@@ -17,11 +17,11 @@ use Rattle.sporadic_model.specs.declared.ids.Protocol.TheVariants as protocol
 use Rattle.program_sources.specs.Bounds.{AtMost, AreWithinDeadlines}
 use Rattle.program_sources.specs.Fitting.{ComesUpAbove}
 use Rattle.program_sources.proofs.RecurrenceLaws.{comes_up_above}
-use Rattle.fragments.specs.ColumnDef.{ColumnDef, is_direct, is_indirect, is_preemption}
-use Rattle.fragments.specs.Columns.{is_column, columns_of, have_one_processor, is_lower_local}
-use Rattle.fragments.specs.Windows.{requests_in, requests_by_higher}
+use Rattle.blocking_columns.specs.ColumnDef.{ColumnDef, is_direct, is_indirect, is_preemption}
+use Rattle.blocking_columns.specs.Columns.{is_column, columns_of, have_one_processor, is_lower_local}
+use Rattle.blocking_columns.specs.Windows.{requests_in, requests_by_higher}
 use Rattle.fragments.specs.Constraints.{ConstraintDef, per, per_pair, per_where, holds_some, rows_there}
-use Rattle.fragments.proofs.KnownColumns.{passing_known, columns_are_requests, columns_are_of_others}
+use Rattle.blocking_columns.proofs.KnownColumns.{passing_known, columns_are_requests, columns_are_of_others}
 use Rattle.direct_constraints.specs.Rows.{request_row}
 use Rattle.indirect_constraints.specs.Rows.{is_beside, lower_holdings}
 use Rattle.program_laws.specs.Programs.{rows_of}

@@ -19,8 +19,8 @@ use Rattle.schedule_model.specs.Ranks.{mpcp}
 use Rattle.schedule_model.specs.Protocols.{shared_rule}
 use Rattle.schedule_model.specs.Keeping.{KeepsBefore}
 use Rattle.schedule_laws.proofs.Segments.{open_listed, open_resource, open_user}
-use Rattle.fragments.specs.ColumnDef.{ColumnDef, is_indirect}
-use Rattle.fragments.specs.Columns.{have_one_processor}
+use Rattle.blocking_columns.specs.ColumnDef.{ColumnDef, is_indirect}
+use Rattle.blocking_columns.specs.Columns.{have_one_processor}
 use Rattle.charge_laws.specs.Charges.{shared_charge}
 use Rattle.charge_laws.specs.Windows.{window_end}
 use Rattle.charge_laws.proofs.SharedCharging.{IndirectBy, shared_reason}

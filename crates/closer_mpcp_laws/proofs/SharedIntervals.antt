@@ -10,7 +10,7 @@ use Rattle.schedule_model.specs.Ranks.{mpcp}
 use Rattle.schedule_model.specs.Protocols.{shared_rule}
 use Rattle.schedule_model.specs.Keeping.{KeepsBefore}
 use Rattle.schedule_laws.proofs.Rows.{ready_active}
-use Rattle.fragments.specs.ColumnDef.{ColumnDef, is_preemption}
+use Rattle.blocking_columns.specs.ColumnDef.{ColumnDef, is_preemption}
 use Rattle.charge_laws.specs.Charges.{shared_charge}
 use Rattle.charge_laws.specs.Windows.{window_end}
 use Rattle.charge_laws.proofs.SharedCharging.{PreemptedBy, shared_reason}
@@ -21,7 +21,8 @@ use Rattle.row_laws.proofs.JobRows.{HitJob, hit_job}
 use Rattle.row_laws.proofs.Requests.{preemption_is, one_request}
 use Rattle.row_laws.proofs.Intervals.{LowerLocal, preempted_by}
 use Rattle.closer_laws.proofs.Granted.{granted}
-use Rattle.closer_laws.proofs.LowerRows.{granted_slots, no_local_run, hit_passes, preempting_low}
+use Rattle.closer_laws.proofs.Slots.{hit_passes}
+use Rattle.closer_laws.proofs.LowerRows.{granted_slots, no_local_run, preempting_low}
 use Rattle.closer_mpcp_laws.specs.CloserMpcpRows.{shared_interval_row}
 
 pub shared_interval_row_met : (w : Trace) (bound : ℕ → ℕ) (n j x : ℕ) → Window shared_charge w bound n j
@@ -36,7 +37,7 @@ shared_interval_row_met w bound n j x window keeps s share fair = granted_slots 
   parts : (t : ℕ) → (h : Hit shared_charge w f j t) → (task_of w h.charge.job ≡ x) × (is_preemption h.charge.class ≡ true)
   parts t h =
       let both : ((task_of w h.charge.job == x) ≡ true) × (is_preemption h.charge.class ≡ true) =
-      and_parts _ _ (hit_passes w j t share counts h) in
+      and_parts _ _ (hit_passes shared_charge w j t share counts h) in
       (eqb-true _ _ both.0, both.1)
 
   by : (t : ℕ) → t < n → (h : Hit shared_charge w f j t) → PreemptedBy w t j h.charge.job

@@ -7,10 +7,10 @@ use Rattle.sporadic_model.specs.SetDef.{SetDef, task_at}
 use Rattle.sporadic_model.specs.Users.{count_of, is_user}
 use Rattle.sporadic_model.specs.declared.ids.Protocol.TheVariants as protocol
 use Rattle.program_sources.specs.Recurrence.{SourceDef}
-use Rattle.fragments.specs.declared.columns.Class.TheVariants.{Direct, Indirect, Preemption}
-use Rattle.fragments.specs.ColumnDef.{is_class}
-use Rattle.fragments.specs.Columns.{have_one_processor, is_lower_local, may_run_before, may_block, columns_of}
-use Rattle.fragments.specs.Windows.{requests_by_higher}
+use Rattle.blocking_columns.specs.declared.columns.Class.TheVariants.{Direct, Indirect, Preemption}
+use Rattle.blocking_columns.specs.ColumnDef.{is_class}
+use Rattle.blocking_columns.specs.Columns.{have_one_processor, is_lower_local, may_run_before, may_block, columns_of}
+use Rattle.blocking_columns.specs.Windows.{requests_by_higher}
 use Rattle.fragments.specs.Constraints.{ConstraintDef, counting, per, per_where, per_pair}
 use Rattle.indirect_constraints.specs.Rows.{is_beside, lower_holdings}
 use Rattle.program_laws.specs.Programs.{program_with, source_with, rows_of, interfering_cost}

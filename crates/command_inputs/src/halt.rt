@@ -59,7 +59,7 @@ pub fn fault(alloc: Global, word: &str) -> Halt
 }
 
 /// The reply of the work or of a halt. An error is want of memory.
-pub fn settled(reply: Result<Reply, Halt>) -> Result<Reply, AllocError>
+pub fn reply_of(reply: Result<Reply, Halt>) -> Result<Reply, AllocError>
     ensures { IsSettled reply result }
 {
     match reply {

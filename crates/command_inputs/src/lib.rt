@@ -5,7 +5,7 @@ mod halt;
 mod input;
 mod status;
 
-pub use halt::{Halt, Reply, fault, refusal, settled};
+pub use halt::{Halt, Reply, fault, refusal, reply_of};
 pub use input::{
     CertFor, JobsOf, OldCertFor, Reader, RefusalFor, SetFor, get, get_rows, get_tied_set,
 };

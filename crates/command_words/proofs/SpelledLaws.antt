@@ -23,6 +23,9 @@ named name.Dflp = refl
 named name.Spin = refl
 named name.DpcpWindows = refl
 named name.FmlpPlusCloser = refl
+named name.SpinCloser = refl
+named name.DpcpCloser = refl
+named name.DflpCloser = refl
 named name.MpcpCloser = refl
 
 allowed_under : (make : ProtocolName → ℕ → Form) (p : ProtocolName) (o : Option ℕ)
@@ -120,7 +123,10 @@ word_names word =
     (either (Names word) (bytes_eq word (codes "spin")) (Some name.Spin) _ (same word (codes "spin"))
     (either (Names word) (bytes_eq word (codes "dpcp-w")) (Some name.DpcpWindows) _ (same word (codes "dpcp-w"))
     (either (Names word) (bytes_eq word (codes "fmlp+-c")) (Some name.FmlpPlusCloser) _ (same word (codes "fmlp+-c"))
-    (either (Names word) (bytes_eq word (codes "mpcp-c")) (Some name.MpcpCloser) None (same word (codes "mpcp-c")) tt)))))))
+    (either (Names word) (bytes_eq word (codes "spin-c")) (Some name.SpinCloser) _ (same word (codes "spin-c"))
+    (either (Names word) (bytes_eq word (codes "dpcp-c")) (Some name.DpcpCloser) _ (same word (codes "dpcp-c"))
+    (either (Names word) (bytes_eq word (codes "dflp-c")) (Some name.DflpCloser) _ (same word (codes "dflp-c"))
+    (either (Names word) (bytes_eq word (codes "mpcp-c")) (Some name.MpcpCloser) None (same word (codes "mpcp-c")) tt))))))))))
 
 abbrev Spells : List (List ℕ) → Form → Type 0
 Spells words form = IsSpelled form words

@@ -1,4 +1,4 @@
--- The forms of words that the program answers.
+-- The forms of words that the program takes.
 use Rattle.std.specs.Prelude.{◌≡◌, refl, ℕ, ◌-◌, ◌^◌, List, [], ◌∷◌, map, Option, Some, None, if◌then◌else◌, option_map}
 use Rattle.std.specs.Prelude.{String, string_bytes, codes}
 use Rattle.std.specs.Global.{Global}
@@ -34,7 +34,7 @@ pub data Form : Type 0 where
   -- the protocol, the set, the certificate, the jobs, the rows
   Audit : ProtocolName → List ℕ → List ℕ → List ℕ → List ℕ → Form
 
--- Which form have these words of `study`, whose numbers are as they were read?
+-- Which form have these words of `study`, given how their numbers were read?
 abbrev pub study_form : Option ℕ → Option ℕ → Option Form
 study_form (Some seed) (Some sets) = Some (Study seed sets)
 study_form _ _ = None
@@ -48,7 +48,7 @@ form_of_three command second last =
     else if bytes_eq command (codes "study") then study_form (number_between 0 (2 ^ 64 - 1) second) (number_between 1 MOST_SETS last)
     else None
 
--- The protocol and the allowance that two words write, where both do.
+-- The protocol and the allowance that two words give, if both do.
 abbrev pub both : Option ProtocolName → Option ℕ → Option (ProtocolName × ℕ)
 both (Some protocol) (Some allowance) = Some (protocol, allowance)
 both _ _ = None
@@ -67,7 +67,7 @@ form_of_four command protocol name last =
     else if bytes_eq command (codes "report") then option_map (λ p. FullReport p name last) (name_of protocol)
     else None
 
--- Which form have these words of `simulate`, whose protocol and ticks are as they were read?
+-- Which form have these words of `simulate`, given how their protocol and their ticks were read?
 abbrev pub simulate_form : Option ProtocolName → List ℕ → List ℕ → Option ℕ → Option Form
 simulate_form (Some protocol) set jobs (Some ticks) = Some (Simulate protocol set jobs ticks)
 simulate_form _ set jobs _ = None
@@ -93,11 +93,11 @@ form_of (command ∷ protocol ∷ set ∷ jobs ∷ last ∷ []) = form_of_five c
 form_of (command ∷ protocol ∷ set ∷ cert ∷ jobs ∷ rows ∷ []) = form_of_six command protocol set cert jobs rows
 form_of _ = None
 
--- the allowance of units where the words give none
+-- the allowance of units if the words give none
 pub default_allowance : DEFAULT_ALLOWANCE ≡ 1000000
 default_allowance = refl
 
--- and the most that they may give
+-- the greatest allowance that they may give
 pub greatest_allowance : GREATEST_ALLOWANCE ≡ 1000000000
 greatest_allowance = refl
 

@@ -1,8 +1,11 @@
-//! The forms of words that the program answers.
+//! The forms of words that the program takes.
 #![tactic(auto)]
 
 mod spelled;
 mod words;
 
 pub use spelled::forms_are_spelled;
-pub use words::{Command, DEFAULT_ALLOWANCE, GREATEST_ALLOWANCE, MOST_SETS, Work, command_of};
+pub use words::{
+    AuditInputs, Command, DEFAULT_ALLOWANCE, GREATEST_ALLOWANCE, MOST_SETS, PlainWork, TiedWork,
+    Work, command_of,
+};

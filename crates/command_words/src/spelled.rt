@@ -6,7 +6,7 @@ ghost use Rattle.command_words.specs.Words.{Form, Analyse, Refute, Check, Confir
 ghost use Rattle.command_words.specs.Spelled.{analyse_words, refute_words, allowance_of, check_words};
 ghost use Rattle.command_words.specs.Spelled.{confirm_words, audit_words, IsSpelled};
 
-/// Words have the form of `analyse`, `refute`, `check`, `confirm` or `audit` exactly where they are typed as these are.
+/// Words have the form of `analyse`, `refute`, `check`, `confirm` or `audit` exactly if they are typed like this.
 pub fn forms_are_spelled()
     ensures analyse { (protocol : ProtocolName) (set : List ℕ) (more : List (List ℕ))
         → form_of (analyse_words protocol set more) ≡ option_map (λ n. Analyse protocol set n) (allowance_of more) }

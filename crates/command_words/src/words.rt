@@ -6,13 +6,13 @@ ghost use Rattle.command_words.specs.declared.words.TheConstants.{MOST_SETS};
 ghost use Rattle.command_words.specs.declared.words.TheConstants.{GREATEST_ALLOWANCE};
 ghost use Rattle.command_words.specs.Words.{study_form, simulate_form, form_of_three, form_of_four};
 ghost use Rattle.command_words.specs.Words.{form_of_five, form_of, words_seen, form_of_six};
-ghost use Rattle.command_words.specs.FormSeen.{form_on, form_seen, HasFittingNumbers};
+ghost use Rattle.command_words.specs.FormSeen.{plain_form, form_seen, HasFittingNumbers};
 
 use protocol_names::{ProtocolName, protocol_named};
 use sporadic_model::MOST_TICKS;
 use text_pieces::number_between;
 
-/// The units that the programs of an analysis may take in all, where the words don't say.
+/// The units that all programs of an analysis together may take, if the words don't say.
 pub const DEFAULT_ALLOWANCE: u64 = 1_000_000;
 
 /// The most units that the words may allow.
@@ -30,58 +30,58 @@ pub enum Command<'a> {
         set: &'a str,
         work: Work<'a>,
     },
-    /// Make so many sets for each step from the seed, and count which are schedulable.
+    /// Make this many sets for each step from the seed, and count which are schedulable.
     Study {
         seed: u64,
         sets: u32,
     },
 }
 
-/// What is asked for of a set. Further inputs stand by their names.
+/// The work on a set. Its further inputs are given by their names.
 #[derive(Clone, Copy, Debug)]
 pub enum Work<'a> {
-    /// Find the least bounds of the set within so many units.
-    Analyse {
-        allowance: u64,
-    },
-    /// Show by a certificate of refusal that the set has no bounds, within so many units.
-    Refute {
-        allowance: u64,
-    },
-    /// Judge the certificate.
-    Check {
-        certificate: &'a str,
-    },
-    /// Judge the certificate of refusal.
-    Confirm {
-        refusal: &'a str,
-    },
-    /// Judge the certificate, which is of the version before, and write it with the set's digest.
-    Upgrade {
-        certificate: &'a str,
-    },
+    /// No certificate is made or read.
+    Plain(PlainWork<'a>),
+    /// A certificate is made or read. It carries the digest of the set's bytes.
+    Tied(TiedWork<'a>),
+}
+
+/// What is asked for of a set without a certificate.
+#[derive(Clone, Copy, Debug)]
+pub enum PlainWork<'a> {
     /// Write the table of the set.
     Report,
+    /// Judge the rows for the jobs.
+    Conform { jobs: &'a str, rows: &'a str },
+    /// Make the schedule of this many ticks for the jobs.
+    Simulate { jobs: &'a str, ticks: u64 },
+}
+
+/// What is asked for of a set and a certificate of it, or one of refusal.
+#[derive(Clone, Copy, Debug)]
+pub enum TiedWork<'a> {
+    /// Find the least bounds of the set within this many units.
+    Analyse { allowance: u64 },
+    /// Show by a certificate of refusal that no bounds of the set fit, within this many units.
+    Refute { allowance: u64 },
+    /// Judge the certificate.
+    Check { certificate: &'a str },
+    /// Judge the certificate of refusal.
+    Confirm { refusal: &'a str },
+    /// Judge the certificate, which is of the version before, and write it with the set's digest.
+    Upgrade { certificate: &'a str },
     /// Write the table with what the certificate proves.
-    FullReport {
-        certificate: &'a str,
-    },
-    /// Judge the rows, which are of the jobs.
-    Conform {
-        jobs: &'a str,
-        rows: &'a str,
-    },
-    /// Make the schedule of so many ticks for the jobs.
-    Simulate {
-        jobs: &'a str,
-        ticks: u64,
-    },
-    /// Judge the certificate and the rows, which are of the jobs, and set what the rows did beside what the certificate proves.
-    Audit {
-        certificate: &'a str,
-        jobs: &'a str,
-        rows: &'a str,
-    },
+    FullReport { certificate: &'a str },
+    /// Judge the certificate and the rows, and set what the rows did beside what the certificate proves.
+    Audit(AuditInputs<'a>),
+}
+
+/// The names of the inputs of an audit behind its set. The rows are of the jobs.
+#[derive(Clone, Copy, Debug)]
+pub struct AuditInputs<'a> {
+    pub certificate: &'a str,
+    pub jobs: &'a str,
+    pub rows: &'a str,
 }
 
 /// What the words of `study` ask for.
@@ -107,13 +107,13 @@ fn command_of_three<'a>(command: &str, second: &str, set: &'a str) -> Option<Com
     ensures ticks { IfSome result (λ c. HasFittingNumbers (form_seen c)) }
 {
     let work = match command {
-        "analyse" => Work::Analyse {
+        "analyse" => Work::Tied(TiedWork::Analyse {
             allowance: DEFAULT_ALLOWANCE,
-        },
-        "refute" => Work::Refute {
+        }),
+        "refute" => Work::Tied(TiedWork::Refute {
             allowance: DEFAULT_ALLOWANCE,
-        },
-        "report" => Work::Report,
+        }),
+        "report" => Work::Plain(PlainWork::Report),
         "study" => return study_of(second, set),
         _ => return None,
     };
@@ -125,7 +125,7 @@ fn command_of_three<'a>(command: &str, second: &str, set: &'a str) -> Option<Com
     })
 }
 
-/// The allowance that a word writes.
+/// The allowance that a word gives.
 fn allowance_of(word: &str) -> Option<u64>
     ensures { result ≡ number_between 1 GREATEST_ALLOWANCE word.now }
 {
@@ -144,33 +144,33 @@ fn command_of_four<'a>(
 {
     let protocol = protocol_named(protocol)?;
     let work = match command {
-        "analyse" => Work::Analyse {
+        "analyse" => TiedWork::Analyse {
             allowance: allowance_of(last)?,
         },
-        "refute" => Work::Refute {
+        "refute" => TiedWork::Refute {
             allowance: allowance_of(last)?,
         },
-        "check" => Work::Check { certificate: last },
-        "confirm" => Work::Confirm { refusal: last },
-        "upgrade" => Work::Upgrade { certificate: last },
-        "report" => Work::FullReport { certificate: last },
+        "check" => TiedWork::Check { certificate: last },
+        "confirm" => TiedWork::Confirm { refusal: last },
+        "upgrade" => TiedWork::Upgrade { certificate: last },
+        "report" => TiedWork::FullReport { certificate: last },
         _ => return None,
     };
     Some(Command::OnSet {
         protocol,
         set,
-        work,
+        work: Work::Tied(work),
     })
 }
 
 /// The simulation that the words of its jobs and its ticks ask for.
-fn simulation<'a>(jobs: &'a str, ticks: &str) -> Option<Work<'a>>
+fn simulation<'a>(jobs: &'a str, ticks: &str) -> Option<PlainWork<'a>>
     ensures form { (protocol : ProtocolName) (set : List ℕ)
-        → option_map (form_on protocol set) result ≡ simulate_form (Some protocol) set jobs.now (number_between 1 MOST_TICKS ticks.now) }
-    ensures ticks { (protocol : ProtocolName) (set : List ℕ) → IfSome result (λ work. HasFittingNumbers (form_on protocol set work)) }
+        → option_map (plain_form protocol set) result ≡ simulate_form (Some protocol) set jobs.now (number_between 1 MOST_TICKS ticks.now) }
+    ensures ticks { (protocol : ProtocolName) (set : List ℕ) → IfSome result (λ work. HasFittingNumbers (plain_form protocol set work)) }
 {
     let ticks = number_between(ticks.as_bytes(), 1, MOST_TICKS)?;
-    Some(Work::Simulate { jobs, ticks })
+    Some(PlainWork::Simulate { jobs, ticks })
 }
 
 /// What five words ask for.
@@ -186,14 +186,14 @@ fn command_of_five<'a>(
 {
     let protocol = protocol_named(protocol)?;
     let work = match command {
-        "conform" => Work::Conform { jobs, rows: last },
+        "conform" => PlainWork::Conform { jobs, rows: last },
         "simulate" => simulation(jobs, last)?,
         _ => return None,
     };
     Some(Command::OnSet {
         protocol,
         set,
-        work,
+        work: Work::Plain(work),
     })
 }
 
@@ -213,7 +213,7 @@ fn command_of_six<'a>(
     if command != "audit" {
         return None;
     }
-    let work = Work::Audit {
+    let inputs = AuditInputs {
         certificate,
         jobs,
         rows,
@@ -221,11 +221,11 @@ fn command_of_six<'a>(
     Some(Command::OnSet {
         protocol,
         set,
-        work,
+        work: Work::Tied(TiedWork::Audit(inputs)),
     })
 }
 
-/// What the words ask for, or none where they have no form. The words are read by exact number and place.
+/// What the words ask for, or none if they have no form. The words are read by exact number and position.
 pub fn command_of(words: &[String]) -> Option<Command<'_>>
     ensures form { option_map form_seen result ≡ form_of (words_seen words.now) }
     ensures ticks { IfSome result (λ c. HasFittingNumbers (form_seen c)) }

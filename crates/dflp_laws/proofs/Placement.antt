@@ -13,9 +13,9 @@ use Rattle.schedule_model.specs.BlockedTicks.{is_dpcp_interference, is_blocked}
 use Rattle.schedule_laws.proofs.ActiveJobs.{active_listed}
 use Rattle.schedule_laws.proofs.KindsOfTicks.{Blocked, blocked_is}
 use Rattle.schedule_laws.proofs.Segments.{open_listed, open_resource, open_user}
-use Rattle.fragments.specs.declared.columns.Class.{Class}
-use Rattle.fragments.specs.declared.columns.Class.TheVariants.{Direct, Indirect, Preemption}
-use Rattle.fragments.specs.Columns.{AreRequests, blocks_at_home}
+use Rattle.blocking_columns.specs.declared.columns.Class.{Class}
+use Rattle.blocking_columns.specs.declared.columns.Class.TheVariants.{Direct, Indirect, Preemption}
+use Rattle.blocking_columns.specs.Columns.{AreRequests, blocks_at_home}
 use Rattle.charge_laws.specs.Charges.{dpcp_charge, Executes}
 use Rattle.charge_laws.specs.ChargedTicks.{IsCharged}
 use Rattle.charge_laws.proofs.DpcpCharging.{DpcpReason, DpcpCharged, RunsAtHomes, home_charged, home_executes}

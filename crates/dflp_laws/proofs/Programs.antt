@@ -1,6 +1,6 @@
 -- The lists of columns and rows are a program, each column is covered, and no limit falls where bounds rise or as many jobs can run.
 use Rattle.std.proofs.Common.{◌≡◌, ℕ, ◌+◌, ◌*◌, ◌<◌, ◌≤◌, ◌++◌, ◌==◌, ◌&&◌, not, List, length, arith}
-use Rattle.std.specs.List.{All}
+use Rattle.std.specs.List.{All, Contains}
 use Rattle.std.proofs.Math.Nat.{mul-le-mul_right}
 use Rattle.std.proofs.lemmas.List.{length-append}
 use Rattle.std.proofs.lemmas.List.Elements.{All-append}
@@ -10,12 +10,12 @@ use Rattle.sporadic_model.specs.SetDef.{SetDef}
 use Rattle.sporadic_model.specs.Homes.{home_in}
 use Rattle.sporadic_model.specs.Accepted.{IsAccepted}
 use Rattle.program_sources.specs.Bounds.{AtMost, AreWithinDeadlines}
-use Rattle.fragments.specs.ColumnDef.{is_preemption}
-use Rattle.fragments.specs.Columns.{is_lower_local}
-use Rattle.fragments.specs.Windows.{requests_at}
+use Rattle.blocking_columns.specs.ColumnDef.{is_preemption}
+use Rattle.blocking_columns.specs.Columns.{is_lower_local}
+use Rattle.blocking_columns.specs.Windows.{requests_at}
 use Rattle.fragments.specs.Constraints.{ConstraintDef, per_pair}
-use Rattle.fragments.proofs.KnownColumns.{passing_known}
-use Rattle.direct_constraints.specs.Rows.{common_rows, turn_row}
+use Rattle.blocking_columns.proofs.KnownColumns.{passing_known}
+use Rattle.direct_constraints.specs.Rows.{common_rows, turn_row, request_row}
 use Rattle.preempt_constraints.specs.Rows.{preemption_rows, interval_row}
 use Rattle.program_laws.specs.Written.{IsSmallRow, Rises, HasJobsAtMost, KeepsJobs}
 use Rattle.program_laws.proofs.RowKinds.{all_per_pair}
@@ -44,7 +44,8 @@ each_row P set i common preemption turn queue =
     (all_per_pair P (length set.tasks) (length set.resources) (turn_row set i) turn)
     (all_per_pair P (length set.tasks) set.processors (λ x k. home_queue_row set i x (k + 1)) queue)))
 
-rows_rise : (set : SetDef) (i : ℕ) (r s : List ℕ) → HasJobsAtMost set i r s → All (Rises r s) (dflp_rows set i)
+-- No limit of these falls where as many jobs can run or more.
+pub rows_rise : (set : SetDef) (i : ℕ) (r s : List ℕ) → HasJobsAtMost set i r s → All (Rises r s) (dflp_rows set i)
 rows_rise set i r s h = each_row (Rises r s) set i (common_rises set i r s h) (preemption_rises set i r s)
     (λ x q a b. omega arith) (λ x k a b. omega arith)
 
@@ -74,14 +75,17 @@ queues_few set i f =
       f.processors,
     )
 
-pub dflp_is_program : (set : SetDef) (i : ℕ) (r : List ℕ) → IsAccepted set → i < length set.tasks → AreWithinDeadlines set r
-    → IsProgram (dflp_program set i r)
-dflp_is_program set i r accepted here within = is_program set i (dflp_columns set i) (dflp_rows set i) r accepted
-    (written_where (is_dflp_column set i) set i (dflp_rows set i) r accepted
-    (λ x q a b. request_row_among set i x q (preemption_rows set i ++ (turns set i ++ queues set i)) a b)
-    (each_row (IsSmallRow r) set i (common_small set i r accepted within here) (preemption_small set i r accepted here)
-    (λ x q a b. turn_row_small set i x q r accepted here) (λ x k a b. queue_small set i x (k + 1) r accepted here))
-    (omega (
+-- Each of them is small, and they are not many.
+pub rows_small : (set : SetDef) (i : ℕ) (r : List ℕ) → IsAccepted set → i < length set.tasks → AreWithinDeadlines set r
+    → All (IsSmallRow r) (dflp_rows set i)
+rows_small set i r accepted here within =
+    each_row (IsSmallRow r) set i (common_small set i r accepted within here) (preemption_small set i r accepted here)
+    (λ x q a b. turn_row_small set i x q r accepted here) (λ x k a b. queue_small set i x (k + 1) r accepted here)
+
+pub rows_few : (set : SetDef) (i : ℕ) → IsAccepted set → length (dflp_rows set i) ≤ 65536
+rows_few set i accepted =
+    let f : Few set = few set accepted in
+    omega (
       arith,
       length-append (common_rows set i) (preemption_rows set i ++ (turns set i ++ queues set i)),
       length-append (preemption_rows set i) (turns set i ++ queues set i),
@@ -92,10 +96,19 @@ dflp_is_program set i r accepted here within = is_program set i (dflp_columns se
       queues_few set i f,
       f.pairs,
       f.tasks,
-    ))) where
-      f : Few set
-      f = few set accepted
+    )
+
+-- The rows of requests stand among them.
+pub dflp_among : (set : SetDef) (i x q : ℕ) → x < length set.tasks → q < length set.resources
+    → Contains (dflp_rows set i) (request_row set i x q)
+dflp_among set i x q a b = request_row_among set i x q (preemption_rows set i ++ (turns set i ++ queues set i)) a b
+
+pub dflp_is_program : (set : SetDef) (i : ℕ) (r : List ℕ) → IsAccepted set → i < length set.tasks → AreWithinDeadlines set r
+    → IsProgram (dflp_program set i r)
+dflp_is_program set i r accepted here within = is_program set i (dflp_columns set i) (dflp_rows set i) r accepted
+    (written_where (is_dflp_column set i) set i (dflp_rows set i) r accepted (λ x q a b. dflp_among set i x q a b)
+    (rows_small set i r accepted here within) (omega (arith, rows_few set i accepted)))
 
 pub dflp_covered : (set : SetDef) (i : ℕ) (r : List ℕ) (c : ℕ) → c < columns (dflp_program set i r) → IsCovered (dflp_program set i r) c
 dflp_covered set i r c within = covered_by set i (dflp_columns set i) (dflp_rows set i) r c (passing_known (is_dflp_column set i) set)
-    (λ x q a b. request_row_among set i x q (preemption_rows set i ++ (turns set i ++ queues set i)) a b) within
+    (λ x q a b. dflp_among set i x q a b) within

@@ -13,9 +13,9 @@ use Rattle.schedule_model.specs.Ranks.{fmlp_plus}
 use Rattle.schedule_model.specs.Keeping.{KeepsBefore}
 use Rattle.schedule_laws.proofs.ActiveJobs.{Requester, requester_is, requester_from, requester_listed, active_listed}
 use Rattle.schedule_laws.proofs.RuleUses.{request_among}
-use Rattle.fragments.specs.declared.columns.Class.{Class}
-use Rattle.fragments.specs.declared.columns.Class.TheVariants.{Direct}
-use Rattle.fragments.specs.ColumnDef.{ColumnDef, is_direct, is_preemption}
+use Rattle.blocking_columns.specs.declared.columns.Class.{Class}
+use Rattle.blocking_columns.specs.declared.columns.Class.TheVariants.{Direct}
+use Rattle.blocking_columns.specs.ColumnDef.{ColumnDef, is_direct, is_preemption}
 use Rattle.direct_constraints.specs.Rows.{turn_row}
 use Rattle.charge_laws.specs.Charges.{dpcp_charge}
 use Rattle.charge_laws.proofs.DpcpCharging.{HomeBlocked, DirectAtHome, DpcpReason, request_at_from, home_reason}

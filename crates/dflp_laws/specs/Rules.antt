@@ -1,5 +1,5 @@
--- The rules of the distributed FIFO protocol: requests run on their resource's home, as under DPCP, and are granted and run in the
--- order of issue.
+-- The rules of the distributed FIFO protocol. A request runs on its resource's home, as under DPCP. Requests are granted, and holders run,
+-- in the order of issue.
 use Rattle.std.specs.Prelude.{◌≡◌, ℕ, ◌<◌, ◌≤◌, true, length, Some}
 use Rattle.schedule_model.specs.RowDef.{Trace, running_on}
 use Rattle.schedule_model.specs.Activity.{task_of, issue_tick_of}
@@ -11,13 +11,13 @@ use Rattle.schedule_model.specs.Keeping.{KeepsRow}
 use Rattle.schedule_model.specs.Chosen.{IsSized, GrantsHighest}
 use Rattle.schedule_model.specs.declared.rule.Rule.{Rule}
 
--- Run and Idle are those of DPCP, Priority is that of DPCP with the order of issue in place of that of tasks, and Grant is that of
--- FMLP+, which names no processor.
+-- Run and Idle are those of DPCP. Priority is that of DPCP, with the order of issue in place of that of tasks. Grant is that of FMLP+,
+-- which names no processor.
 abbrev pub dflp_rule : Rule → Trace → ℕ → Type 0
 dflp_rule r = five_rules KeepsRun (KeepsGrant fmlp_plus) KeepsIdle (KeepsPriority issue_tick_of) r
 
--- The row that is chosen where the rules leave several: of the requests of a resource that were issued at one tick, that of the
--- highest task is granted; of the holders at a processor that were, the one of the highest task runs.
+-- Where the rules leave several rows, this one is chosen. Among the requests of a resource that were issued at one tick, that of the
+-- highest task is granted. Among the holders at a processor whose requests were issued at one tick, the one of the highest task runs.
 pub record IsDflpChoice (w : Trace) (t : ℕ) : Type 0 where
   pub sized : IsSized w.set (w.row t)
   pub keeps : KeepsRow dflp_rule w t

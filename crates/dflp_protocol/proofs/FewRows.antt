@@ -6,11 +6,11 @@ use Rattle.program_form.specs.Program.{height, columns}
 use Rattle.sporadic_model.specs.SetDef.{SetDef}
 use Rattle.sporadic_model.specs.Homes.{home_in}
 use Rattle.sporadic_model.specs.Accepted.{IsAccepted}
-use Rattle.fragments.specs.ColumnDef.{ColumnDef, is_class}
-use Rattle.fragments.specs.Columns.{AreRequests, AreOfOthers}
+use Rattle.blocking_columns.specs.ColumnDef.{ColumnDef, is_class}
+use Rattle.blocking_columns.specs.Columns.{AreRequests, AreOfOthers}
 use Rattle.fragments.specs.Constraints.{per_pair, rows_there}
-use Rattle.fragments.specs.Columns.{blocks_at_home}
-use Rattle.fragments.specs.declared.columns.Class.TheVariants.{Preemption}
+use Rattle.blocking_columns.specs.Columns.{blocks_at_home}
+use Rattle.blocking_columns.specs.declared.columns.Class.TheVariants.{Preemption}
 use Rattle.direct_constraints.specs.Rows.{common_rows, turn_row}
 use Rattle.preempt_constraints.specs.Rows.{preemption_rows}
 use Rattle.program_laws.proofs.FewRows.{pair_rows_few, turn_of, common_there, preemption_there}
@@ -35,9 +35,9 @@ requests set i = columns_by_requests (λ x. blocks_at_home set i) set i
 of_others : (set : SetDef) (i : ℕ) → AreOfOthers (is_dflp_column set i) i
 of_others set i = columns_by_of_others (λ x. blocks_at_home set i) set i
 
-rows_at_most : (set : SetDef) (i : ℕ) → IsAccepted set → i < length set.tasks
+pub dflp_rows_at_most : (set : SetDef) (i : ℕ) → IsAccepted set → i < length set.tasks
     → length (rows_there (dflp_columns set i) (dflp_rows set i)) ≤ 894
-rows_at_most set i accepted here =
+dflp_rows_at_most set i accepted here =
     let test : ColumnDef → Bool = is_dflp_column set i in
     let cs : List ColumnDef = dflp_columns set i in
     let preemption = preemption_rows set i in
@@ -57,7 +57,7 @@ rows_at_most set i accepted here =
 
 pub dflp_height : (set : SetDef) (i : ℕ) (r : List ℕ) → IsAccepted set → i < length set.tasks → height (dflp_program set i r) ≤ 894
 dflp_height set i r accepted here =
-    omega (arith, height_is set (dflp_columns set i) (dflp_rows set i) r, rows_at_most set i accepted here)
+    omega (arith, height_is set (dflp_columns set i) (dflp_rows set i) r, dflp_rows_at_most set i accepted here)
 
 pub dflp_width : (set : SetDef) (i : ℕ) (r : List ℕ) → IsAccepted set → columns (dflp_program set i r) ≤ 768
 dflp_width set i r accepted = omega (

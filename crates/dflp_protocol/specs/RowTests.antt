@@ -1,5 +1,5 @@
--- The rules of a row as tests of a machine's value and the row that comes next. Run, Idle and Priority have the tests of DPCP, this
--- one over issue ticks; Keep and Grant have those of the protocols with an order of grants.
+-- The rules of a row as tests of a machine's state and the next row. Run, Idle and Priority have the tests of DPCP, and Priority goes by
+-- issue ticks. Keep and Grant have the tests of the protocols with an order of grants.
 use Rattle.std.specs.Prelude.{Option}
 use Rattle.schedule_model.specs.declared.rule.Rule.{Rule}
 use Rattle.schedule_model.specs.RowDef.{RowDef}

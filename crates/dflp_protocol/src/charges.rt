@@ -1,4 +1,4 @@
-//! What its blocked ticks are charged to, as under DPCP, and that the charges meet the rows: so its bounds are sound.
+//! To what its blocked ticks are charged, as under DPCP, and that the charges meet the rows. So its bounds are sound.
 
 ghost use Rattle.std.specs.Prelude.{refl};
 ghost use Rattle.sporadic_model.specs.Homes.{EachHasHome};

@@ -13,7 +13,7 @@ use phase_machine::Machine;
 use schedule_model::Row;
 use shared_choosing::choosing::choose_ordered;
 
-/// Makes the lent row the chosen one: requests are granted and run in the order of issue, at their homes.
+/// Makes the lent row the chosen one. Requests are granted, and run at their homes, in the order of issue.
 pub(crate) fn choose(machine: &Machine, row: &mut Row)
     requires suits { EachHasHome machine.now.list.set }
     requires sized { IsSized machine.now.list.set (row_seen row.old) }

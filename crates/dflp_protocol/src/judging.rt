@@ -19,7 +19,7 @@ use schedule_model::{Row, Rule};
 use shared_rules::judging::{each_stands, passes_grant, passes_keep};
 use shared_rules::rule_tests::{RuleTests, first_failed};
 
-/// The tests of the rules. Run, Idle and Priority have those of DPCP.
+/// The tests of the rules. Those of Run, Idle and Priority are those of DPCP.
 #[derive(Drop)]
 struct DflpTests;
 
@@ -40,7 +40,7 @@ impl RuleTests for DflpTests {
     }
 }
 
-/// Does the row keep all five rules? Else the first that it breaks.
+/// Ok if the row keeps all five rules. Else the first rule that it breaks.
 pub(crate) fn judge(machine: &Machine, row: &Row) -> Result<(), Rule>
     requires suits { EachHasHome machine.now.list.set }
     requires fits { IsRowFor machine.now.list (row_seen row.now) }

@@ -1,4 +1,4 @@
-//! Laws: each does nothing, and what it ensures holds for every schedule, or for every set.
+//! Laws. Each does nothing, and what it ensures holds for every schedule, or for every set.
 
 ghost use Rattle.std.specs.Prelude.{ℕ, ◌<◌, ◌≤◌, List, length};
 ghost use Rattle.program_form.specs.Program.{height, columns};
@@ -14,8 +14,8 @@ ghost use Rattle.dflp_laws.specs.Rules.{dflp_rule};
 ghost use Rattle.dflp_laws.specs.Programs.{dflp_program};
 ghost use Rattle.dflp_protocol.specs.NextRow.{HasChoice};
 
-/// Each schedule of lawful jobs of an accepted set, in which each resource has a home, has a row that the protocol chooses after the
-/// rows before it, if these can be taken; so each lawful schedule has a lawful next row. This says so, and does nothing.
+/// Take a schedule of lawful jobs of an accepted set in which each resource has a home. After rows that can be taken it has a row that the
+/// protocol chooses. So each lawful schedule has a lawful next row. This is a law, and does nothing.
 pub fn each_schedule_has_a_next_row()
     ensures taken { (w : Trace) (t : ℕ) → IsAccepted w.set → EachHasHome w.set → AreLawfulJobs (jobs_of w)
         → CanBeTakenBefore w t → HasChoice w t }
@@ -23,8 +23,9 @@ pub fn each_schedule_has_a_next_row()
         → ((u : ℕ) → u < t → IsSized w.set (w.row u)) → KeepsBefore dflp_rule w t → HasChoice w t }
 {}
 
-/// A program of an accepted set has at most three columns for each of 256 request entries, so at most 768, and at most 894 rows: of
-/// requests, of turns and of queues at homes one for each of these entries, of time and of intervals one for each of 63 other tasks.
+/// A program of an accepted set has at most three columns for each of 256 request entries, so at most 768. It has at most 894 rows. Of
+/// requests, of turns and of queues at homes there is one for each of these entries. Of time and of intervals there is one for each of 63
+/// other tasks.
 pub fn programs_are_small()
     ensures columns { (set : SetDef) (i : ℕ) (r : List ℕ) → IsAccepted set → columns (dflp_program set i r) ≤ 768 }
     ensures rows { (set : SetDef) (i : ℕ) (r : List ℕ) → IsAccepted set → i < length set.tasks → height (dflp_program set i r) ≤ 894 }

@@ -1,4 +1,4 @@
-//! The distributed FIFO protocol: requests run on their resource's home, and are granted and run there in the order of issue.
+//! The distributed FIFO protocol. A request runs on its resource's home. Requests are granted, and run there, in the order of issue.
 #![tactic(auto)]
 
 mod charges;

@@ -1,11 +1,11 @@
-//! The protocol's programs: so its sets are analysed, and its certificates are checked.
+//! The protocol's programs. So its sets can be analysed, and its certificates checked.
 
 ghost use Rattle.std.specs.Prelude.{◌<◌, map, length, OnOk};
 ghost use Rattle.sporadic_model.specs.Homes.{EachHasHome};
 ghost use Rattle.program_sources.specs.Bounds.{AreWithinDeadlines};
-ghost use Rattle.fragments.specs.ColumnDef.{column_seen, AreKnown};
-ghost use Rattle.fragments.specs.Asked.{AreAskedBeside};
-ghost use Rattle.fragments.specs.Stretches.{AreInOrder};
+ghost use Rattle.blocking_columns.specs.ColumnDef.{column_seen, AreKnown};
+ghost use Rattle.blocking_columns.specs.Asked.{AreAskedBeside};
+ghost use Rattle.blocking_columns.specs.Stretches.{AreInOrder};
 ghost use Rattle.dflp_laws.specs.Programs.{is_dflp_column, dflp_columns, dflp_rows, dflp_source};
 ghost use Rattle.dflp_laws.proofs.Programs.{dflp_covered, dflp_rises, dflp_is_program};
 
@@ -25,15 +25,15 @@ use protocol_programs::{
 use sporadic_model::{Protocol, TaskId, TaskSet};
 use std::alloc::{AllocError, Global};
 
-/// The test of a task's columns, which has by resource whether the task requests another one of its home.
+/// The test of a task's columns. It has a table that says of each resource whether the task requests another one of its home.
 #[derive(Drop)]
 struct DflpColumns {
     beside: Vec<bool>,
 }
 
 impl ColumnTest for DflpColumns {
-    ghost use Rattle.fragments.specs.Requested.{columns_are_requests};
-    ghost use Rattle.fragments.specs.Columns.{blocks_at_home};
+    ghost use Rattle.blocking_columns.specs.Requested.{columns_are_requests};
+    ghost use Rattle.blocking_columns.specs.Columns.{blocks_at_home};
 
     ghost passes = { λ k set i c. is_dflp_column set i c };
 
@@ -144,7 +144,7 @@ impl ProgramSource for Dflp {
         keeps_jobs(set, i, earlier, bounds)
     }
 
-    /// A job interferes as under DPCP, for its local limit.
+    /// A job interferes as under DPCP: for its local limit.
     fn interference(&self, set: &TaskSet, i: TaskId, bounds: &[u64]) -> u64 {
         interference(set, Protocol::Dpcp, i, bounds)
     }

@@ -3,10 +3,11 @@
 ghost use Rattle.std.specs.Prelude.{◌≡◌, ◌<◌, ◌+◌, [], ◌∷◌, map, length, slice_index, OnOk};
 ghost use Rattle.std.specs.List.{AllWithin};
 ghost use Rattle.program_sources.specs.Bounds.{AreWithinDeadlines};
-ghost use Rattle.fragments.specs.ColumnDef.{column_seen, AreKnown};
+ghost use Rattle.blocking_columns.specs.ColumnDef.{column_seen, AreKnown};
 ghost use Rattle.fragments.specs.Constraints.{per, per_pair};
-ghost use Rattle.fragments.specs.Stretches.{AreInOrder, IsStretch};
-ghost use Rattle.fragments.specs.TaskPlaces.{ArePlaces};
+ghost use Rattle.blocking_columns.specs.Stretches.{AreInOrder};
+ghost use Rattle.fragments.specs.RowStretch.{IsStretch};
+ghost use Rattle.blocking_columns.specs.TaskPlaces.{ArePlaces};
 ghost use Rattle.dflp_laws.specs.Programs.{home_queue_row};
 
 use fragments::{
@@ -16,7 +17,7 @@ use fragments::{
 use sporadic_model::{TaskId, TaskSet};
 use std::alloc::{AllocError, Global};
 
-/// Of a task and a processor: each request of the analysed task that runs there waits for at most one of the task's.
+/// Of a task and a processor: each request of the analysed task that runs there waits for at most one request of the task.
 #[derive(Drop)]
 struct HomeQueueRow {
     task: TaskId,
@@ -45,7 +46,7 @@ impl Constraint for HomeQueueRow {
     }
 }
 
-/// The rows of the queues with a task, whose columns are those of the stretch, at each processor.
+/// The rows of the queues with one task, at each processor. The stretch has the task's columns.
 #[derive(Drop)]
 struct QueuesWith {
     task: TaskId,
@@ -108,7 +109,7 @@ impl PerTask for Queues {
     }
 }
 
-/// Adds the rows of the queues with each task at each processor behind those that the taker has, over any columns that stand in order.
+/// Adds the rows of the queues with each task at each processor behind those that the taker has, over any columns in order.
 pub(crate) fn add_queues<T: RowTaker>(
     alloc: Global,
     taker: &mut T,

@@ -7,13 +7,13 @@ use Rattle.sporadic_model.specs.SetDef.{SetDef, is_higher_local}
 use Rattle.sporadic_model.specs.Users.{is_user}
 use Rattle.sporadic_model.specs.declared.ids.Protocol.{Protocol}
 use Rattle.sporadic_model.specs.declared.ids.Protocol.TheVariants as protocol
-use Rattle.fragments.specs.declared.columns.Class.{Class}
-use Rattle.fragments.specs.declared.columns.Class.TheVariants as class
-use Rattle.fragments.specs.declared.columns.Fragment.{Fragment}
-use Rattle.fragments.specs.ColumnDef.{ColumnDef, column_seen, is_direct}
-use Rattle.fragments.specs.Columns.{is_column, may_block, columns_of}
+use Rattle.blocking_columns.specs.declared.columns.Class.{Class}
+use Rattle.blocking_columns.specs.declared.columns.Class.TheVariants as class
+use Rattle.blocking_columns.specs.declared.columns.Fragment.{Fragment}
+use Rattle.blocking_columns.specs.ColumnDef.{ColumnDef, column_seen, is_direct}
+use Rattle.blocking_columns.specs.Columns.{is_column, may_block, columns_of}
 use Rattle.fragments.specs.Constraints.{ConstraintDef, holds_some}
-use Rattle.fragments.proofs.KnownColumns.{columns_pass, all_mapped}
+use Rattle.blocking_columns.proofs.KnownColumns.{columns_pass, all_mapped}
 use Rattle.direct_constraints.specs.Asked.{IsAskedFor, AreAskedFor}
 use Rattle.direct_constraints.specs.Rows.{lower_holder_row}
 

@@ -1,12 +1,12 @@
-//! The kinds of rows, each with its row for every task, request or resource.
+//! The kinds of rows. Each gives its row for every task, request or resource.
 
 ghost use Rattle.std.specs.Prelude.{◌<◌, ◌+◌, ◌&&◌, [], ◌∷◌, length};
 ghost use Rattle.std.proofs.Common.{ap};
 ghost use Rattle.number_laws.specs.Sums.{flag, only_if};
 ghost use Rattle.sporadic_model.specs.Users.{length_of};
-ghost use Rattle.fragments.specs.declared.columns.Class.TheVariants.{Direct};
-ghost use Rattle.fragments.specs.ColumnDef.{is_class};
-ghost use Rattle.fragments.specs.Stretches.{slot, BeginsAt};
+ghost use Rattle.blocking_columns.specs.declared.columns.Class.TheVariants.{Direct};
+ghost use Rattle.blocking_columns.specs.ColumnDef.{is_class};
+ghost use Rattle.blocking_columns.specs.Stretches.{slot, BeginsAt};
 ghost use Rattle.direct_constraints.specs.Asked.{AreAskedFor};
 ghost use Rattle.direct_constraints.specs.Rows.{request_row, time_row, turn_row, lower_holder_row};
 
@@ -16,8 +16,8 @@ use fragments::{
 use sporadic_model::{ResourceId, TaskId, TaskSet};
 use std::alloc::{AllocError, Global};
 
-/// Of a task and a resource: its requests, of all classes, are at most as many as it makes while a job of the analysed task
-/// runs.
+/// Of a task and a resource: the task's requests of it, in all classes, are at most as many as the task makes while a job of the analysed
+/// task runs.
 #[derive(Drop)]
 pub(crate) struct Requests;
 
@@ -70,7 +70,7 @@ impl TaskRow for Times {
     }
 }
 
-/// Of a task and a resource: each request of it by the analysed task waits for at most one of the task's.
+/// Of a task and a resource: each request of the resource by the analysed task waits for at most one request of the task.
 #[derive(Drop)]
 pub(crate) struct Turns;
 
@@ -103,7 +103,7 @@ impl RequestRow for Turns {
     }
 }
 
-/// Of a resource: each request of it by the analysed task waits for at most one of lower tasks.
+/// Of a resource: each request of it by the analysed task waits for at most one request of a lower task.
 #[derive(Drop)]
 struct LowerHolderRow {
     resource: ResourceId,
@@ -131,10 +131,10 @@ impl Constraint for LowerHolderRow {
     }
 }
 
-/// The rows of lower holders of each resource. No column is in one where the analysed task doesn't use the resource.
+/// The rows of lower holders of each resource. If the analysed task doesn't use the resource, no column is in its row.
 #[derive(Drop)]
 pub(crate) struct LowerHolders {
-    /// The place where the columns of tasks lower than the analysed one begin.
+    /// Where the columns of tasks lower than the analysed one begin.
     pub(crate) from: usize,
 }
 

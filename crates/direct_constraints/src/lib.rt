@@ -1,16 +1,16 @@
-//! The rows that every protocol has, requests and time, and those of direct blocking: turns under FMLP+, lower holders
-//! under MPCP.
+//! The rows that every protocol has, of requests and of time. And those of direct blocking: turns under FMLP+, and lower holders under
+//! MPCP.
 #![tactic(auto)]
 
 ghost use Rattle.std.specs.Prelude.{◌≡◌, ◌<◌, map, length, slice_index, IfOk, OnOk};
 ghost use Rattle.program_form.specs.RowBlock.{block_seen};
 ghost use Rattle.program_sources.specs.Bounds.{AreWithinDeadlines};
 ghost use Rattle.sporadic_model.specs.Homes.{HasHomesFor};
-ghost use Rattle.fragments.specs.ColumnDef.{column_seen, AreKnown};
-ghost use Rattle.fragments.specs.Columns.{columns_of};
+ghost use Rattle.blocking_columns.specs.ColumnDef.{column_seen, AreKnown};
+ghost use Rattle.blocking_columns.specs.Columns.{columns_of};
 ghost use Rattle.fragments.specs.Constraints.{per, per_pair, block_of};
-ghost use Rattle.fragments.specs.Stretches.{AreInOrder};
-ghost use Rattle.fragments.specs.TaskPlaces.{ArePlaces};
+ghost use Rattle.blocking_columns.specs.Stretches.{AreInOrder};
+ghost use Rattle.blocking_columns.specs.TaskPlaces.{ArePlaces};
 ghost use Rattle.direct_constraints.specs.Asked.{AreAskedFor};
 ghost use Rattle.direct_constraints.specs.Rows.{request_row, time_row, turn_row, lower_holder_row, common_rows, own_rows};
 
@@ -25,8 +25,7 @@ use std::alloc::{AllocError, Global};
 
 mod kinds;
 
-/// Adds the rows of the requests by each task behind those that the taker has, over any columns that stand in order. Answers the
-/// places of all tasks.
+/// Adds the rows of the requests by each task behind those that the taker has, over any columns in order. Answers the places of all tasks.
 pub fn add_request_rows<T: RowTaker>(
     alloc: Global,
     taker: &mut T,
@@ -55,7 +54,7 @@ pub fn add_request_rows<T: RowTaker>(
     )
 }
 
-/// Adds the rows of the time of each task behind those that the taker has, over any columns that stand in order.
+/// Adds the rows of the time of each task behind those that the taker has, over any columns in order.
 pub fn add_time_rows<T: RowTaker>(
     alloc: Global,
     taker: &mut T,
@@ -85,7 +84,7 @@ pub fn add_time_rows<T: RowTaker>(
     )
 }
 
-/// Adds the rows of turns with each task behind those that the taker has, over any columns that stand in order.
+/// Adds the rows of turns with each task behind those that the taker has, over any columns in order.
 pub fn add_turn_rows<T: RowTaker>(
     alloc: Global,
     taker: &mut T,
@@ -142,8 +141,8 @@ fn add_lower_holder_rows<T: RowTaker>(
     add_per_number(alloc, taker, &rows, set, resources, i, bounds, columns)
 }
 
-/// Adds the rows of every protocol behind those that the taker has, over any columns that stand in order: those of requests, then
-/// those of time. Answers the places of all tasks.
+/// Adds the rows of every protocol behind those that the taker has, over any columns in order: those of requests, then those of time.
+/// Answers the places of all tasks.
 pub fn add_common<T: RowTaker>(
     alloc: Global,
     taker: &mut T,
@@ -190,9 +189,9 @@ pub fn add_own<T: RowTaker>(
     Ok(())
 }
 
-/// The rows of every protocol, where some column has a coefficient above zero in them. First for each task and resource: the
-/// columns of its requests are at most as many as it makes while a job of `i` runs. Then for each task: its columns, by
-/// their lengths, are at most the ticks that its jobs execute in that time.
+/// The rows of every protocol that have a coefficient above zero. First for each task and resource: the task's requests of it are at most
+/// as many as it makes while a job of `i` runs. Then for each task: its requests, by their lengths, are at most the ticks that its jobs
+/// execute in that time. It fails only for want of memory.
 pub fn common(
     alloc: Global,
     set: &TaskSet,
@@ -216,9 +215,9 @@ pub fn common(
     Ok(block)
 }
 
-/// The rows of direct blocking, where some column has a coefficient above zero in them: under FMLP+ one for each task and
-/// resource, under MPCP one for each resource over all lower tasks, under DPCP none. The limit of each is how often a job of
-/// `i` may request the resource.
+/// The rows of direct blocking that have a coefficient above zero. Under FMLP+ there is one for each task and resource, under MPCP one for
+/// each resource over all lower tasks, and under DPCP none. The limit of each is how often a job of `i` may request the resource. It fails
+/// only for want of memory.
 pub fn own(
     alloc: Global,
     set: &TaskSet,

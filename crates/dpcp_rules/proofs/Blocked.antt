@@ -21,7 +21,7 @@ use Rattle.dpcp_rules.specs.Homes.{column_now}
 use Rattle.dpcp_rules.specs.Blocked.{is_interfered, blocked_now}
 use Rattle.dpcp_rules.proofs.Shown.{column_is, unfinished}
 
--- In a row that keeps Run a job that runs stands in its column.
+-- In a row that keeps Run a running job is in its column.
 pub runner_column : (m : MachineDef) (rows : ℕ → RowDef) (k j : ℕ) (p : Phase) → Shows m rows
     → KeepsRun (under m rows) m.tick → running_on (rows m.tick) k ≡ Some j → phase_of (under m rows) m.tick j ≡ p
     → k ≡ column_now m j

@@ -170,7 +170,7 @@ not_barred m rows k j h =
     (and_parts (is_first_waiting (under m rows) m.tick k j)
     (not (is_barred (under m rows) m.tick k (task_of (under m rows) j))) h).1
 
--- Who is granted is of no lower task than who waits there.
+-- A job that is granted is of no lower task than a job that waits there.
 granted_leads : (m : MachineDef) (rows : ℕ → RowDef) (k j i : ℕ) → is_granted (under m rows) m.tick k j ≡ true
     → is_active (under m rows) m.tick i ≡ true → waits_at (under m rows) m.tick k i ≡ true
     → task_of (under m rows) j ≤ task_of (under m rows) i

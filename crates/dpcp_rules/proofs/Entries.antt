@@ -1,4 +1,4 @@
--- What the tables say of who waits first at a processor, and of what is barred there.
+-- What the tables say of the first job that waits at a processor, and of what is barred there.
 use Rattle.std.proofs.Common.{◌≡◌, ◌⊎◌, ℕ, ◌<◌, ◌≤◌, ◌==◌, ◌&&◌, ◌||◌, not, Bool, true, false, List, length, refl, sym}
 use Rattle.std.proofs.Common.{ap, ◌∙◌, arith, inl, inr, Option, Some, None, cond, leb, ltb}
 use Rattle.std.specs.Prelude.{is_some}
@@ -254,7 +254,7 @@ below_is a b = same_bool (ltb a b) (not (leb b a)) there back where
   back : not (leb b a) ≡ true → ltb a b ≡ true
   back h = lt-ltb a b (leb-false b a (not-true (leb b a) h))
 
--- Both together say who is to be granted.
+-- Both together say which job is granted.
 pub due_shown : (m : MachineDef) (rows : ℕ → RowDef) (first bars : List ℕ) (j : ℕ) → Shows m rows
     → IsAccepted m.list.set → EachHasHome m.list.set
     → IsLeast (waiting_place m) (λ x. x) (length m.list.set.tasks) (length m.list.set.tasks) first

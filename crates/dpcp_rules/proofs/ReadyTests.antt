@@ -126,7 +126,7 @@ runner_holds m rows k r Local shows run e f h =
 runner_holds m rows k r Finished shows run e f h = absurd (unfinished (under m rows) m.tick r (run.active k r e) f)
 runner_holds m rows k r (Asking n q) shows run e f h = runner_phase m rows k r n q run e f
 
--- Do these numbers of jobs give the order, at the tick that the machine stands at?
+-- Do these numbers of jobs give the order at the machine's tick?
 abbrev pub Gives : (Trace → ℕ → ℕ → ℕ) → (MachineDef → ℕ → ℕ) → Type 0
 Gives rank number = (m : MachineDef) (rows : ℕ → RowDef) → Shows m rows → (q j : ℕ) → is_requester (under m rows) m.tick q j ≡ true
     → number m j ≡ rank (under m rows) m.tick j

@@ -15,7 +15,7 @@ use phase_machine::columns::running_instead;
 use phase_machine::lookup::{is_local, running_beside, task_of};
 use schedule_model::{JobId, Row};
 
-/// Is what runs on the job's processor a Local job of a higher task of it?
+/// Is the job that runs on the job's processor a Local job of a higher task of it?
 fn is_interfered(machine: &Machine, j: JobId, running: Option<JobId>) -> bool
     requires listed { j.0 < length machine.now.list.jobs }
     requires running { IfSome running (λ r. r.0 < length machine.now.list.jobs) }

@@ -20,7 +20,7 @@ use shared_choosing::row_choice::{RowChoice, choose_row};
 use shared_choosing::visiting::{Visitor, visit_each};
 use sporadic_model::ResourceId;
 
-/// The resource that is granted to the job: what it requests, where it waits and is due.
+/// The resource that is granted to the job: the one that it requests, if it waits and is due.
 fn grant_claim(machine: &Machine, tables: &Tables, j: JobId) -> Option<ResourceId>
     requires suits { EachHasHome machine.now.list.set }
     requires listed { j.0 < length machine.now.list.jobs }
@@ -33,7 +33,7 @@ fn grant_claim(machine: &Machine, tables: &Tables, j: JobId) -> Option<ResourceI
     None
 }
 
-/// Active jobs are granted what they are due, one after the other.
+/// Active jobs are granted the resources for which they are due, one job after the other.
 #[derive(Drop)]
 struct Granting<'a> {
     tables: &'a Tables,
@@ -54,7 +54,7 @@ impl<'a> Visitor for Granting<'a> {
     }
 }
 
-/// Names the holders of the row: the kept ones, and who is due.
+/// Names the holders of the row: those that are kept, and those that are due.
 fn grant_all(machine: &Machine, tables: &Tables, holders: &mut [Option<JobId>])
     requires suits { EachHasHome machine.now.list.set }
     requires len { length holders.old ≡ length machine.now.list.set.resources }
@@ -65,8 +65,8 @@ fn grant_all(machine: &Machine, tables: &Tables, holders: &mut [Option<JobId>])
     visit_each(&Granting { tables }, machine, holders);
 }
 
-/// Names what runs, where these are the holders: on each processor the holder of the highest task, and where there is none
-/// the Local job of the highest task.
+/// Names what runs, given the holders: on each processor the holder of the highest task. If there is none, it is the Local job of the
+/// highest task.
 fn run_all(machine: &Machine, holders: &[Option<JobId>], running: &mut [Option<JobId>])
     requires suits { EachHasHome machine.now.list.set }
     requires holders { length holders.now ≡ length machine.now.list.set.resources }
@@ -103,7 +103,7 @@ impl<'a> RowChoice for DpcpChoice<'a> {
     }
 }
 
-/// Makes the lent row the chosen one: the holders first, then what runs.
+/// Makes the lent row the chosen one: first the holders, then what runs.
 pub fn choose(machine: &Machine, row: &mut Row)
     requires suits { EachHasHome machine.now.list.set }
     requires sized { IsSized machine.now.list.set (row_seen row.old) }

@@ -24,7 +24,7 @@ use shared_rules::judging::{each_stands, holders_pass, passes_keep};
 use shared_rules::rule_tests::{RuleTests, first_failed};
 use shared_rules::walking::{JobTest, each_passes};
 
-/// Is the job's task the first of those that wait at its processor, and higher than what is kept there?
+/// Is the job's task the first of those that wait at its processor, and higher than every ceiling that is kept there?
 pub(crate) fn is_due(machine: &Machine, tables: &Tables, j: JobId) -> bool
     requires suits { EachHasHome machine.now.list.set }
     requires listed { j.0 < length machine.now.list.jobs }
@@ -36,7 +36,7 @@ pub(crate) fn is_due(machine: &Machine, tables: &Tables, j: JobId) -> bool
     x <= tables.first.at(k) && x < tables.bars.at(k)
 }
 
-/// If the job waits: does it hold what it requests exactly where it is due?
+/// If the job waits: does it hold the resource that it requests exactly if it is due?
 fn request_passes(machine: &Machine, tables: &Tables, row: &Row, j: JobId) -> bool
     requires suits { EachHasHome machine.now.list.set }
     requires fits { IsRowFor machine.now.list (row_seen row.now) }
@@ -63,7 +63,7 @@ impl<'a> JobTest for RequestTest<'a> {
     }
 }
 
-/// Does each active job that waits hold what it requests exactly where it is due?
+/// Does each active job that waits hold the resource that it requests exactly if it is due?
 fn requests_pass(machine: &Machine, tables: &Tables, row: &Row) -> bool
     requires suits { EachHasHome machine.now.list.set }
     requires fits { IsRowFor machine.now.list (row_seen row.now) }
@@ -72,7 +72,7 @@ fn requests_pass(machine: &Machine, tables: &Tables, row: &Row) -> bool
     each_passes(&RequestTest { tables, row }, machine)
 }
 
-/// Idle, for one job: does something run where the job would?
+/// Idle, for one job: does something run where the job would run?
 fn idle_passes(machine: &Machine, row: &Row, j: JobId) -> bool
     requires suits { EachHasHome machine.now.list.set }
     requires fits { IsRowFor machine.now.list (row_seen row.now) }
@@ -98,7 +98,7 @@ impl<'a> JobTest for IdleTest<'a> {
     }
 }
 
-/// Idle: is no processor idle that has something to run?
+/// Idle: does each processor that has something to run run something?
 #[tactic(auto, unfolding(crate::specs::RowTests::passes_idle))]
 pub fn passes_idle(machine: &Machine, row: &Row) -> bool
     requires suits { EachHasHome machine.now.list.set }
@@ -108,7 +108,7 @@ pub fn passes_idle(machine: &Machine, row: &Row) -> bool
     each_passes(&IdleTest { row }, machine)
 }
 
-/// Does what runs go no later than the job, where holders run in this order?
+/// Does what runs go no later than the job, if holders run in this order?
 fn goes_first<O: Order>(
     order: &O,
     machine: &Machine,
@@ -132,7 +132,7 @@ fn goes_first<O: Order>(
             || order.run_of(machine, r) <= order.run_of(machine, j))
 }
 
-/// Priority, for one job: does what runs where the job would go no later?
+/// Priority, for one job: does what runs where the job would run go no later?
 fn priority_passes<O: Order>(order: &O, machine: &Machine, row: &Row, j: JobId) -> bool
     requires suits { EachHasHome machine.now.list.set }
     requires fits { IsRowFor machine.now.list (row_seen row.now) }
@@ -165,7 +165,7 @@ impl<'a, O: Order> JobTest for PriorityTest<'a, O> {
     }
 }
 
-/// Priority, where holders run in this order: does what runs on each processor go first there?
+/// Priority, if holders run in this order: does what runs on each processor go first there?
 #[tactic(auto, unfolding(crate::specs::RowTests::passes_priority))]
 pub fn passes_priority<O: Order>(order: &O, machine: &Machine, row: &Row) -> bool
     requires suits { EachHasHome machine.now.list.set }
@@ -175,7 +175,8 @@ pub fn passes_priority<O: Order>(order: &O, machine: &Machine, row: &Row) -> boo
     each_passes(&PriorityTest { order, row }, machine)
 }
 
-/// Grant: does each holder request its resource, and each active job that waits hold what it requests exactly where it is due?
+/// Grant: does each holder request its resource, and does each active job that waits hold the resource that it requests exactly if it is
+/// due?
 #[tactic(auto, unfolding(crate::specs::RowTests::passes_grant))]
 fn passes_grant(machine: &Machine, tables: &Tables, row: &Row) -> bool
     requires suits { EachHasHome machine.now.list.set }
@@ -208,7 +209,7 @@ impl<'a> RuleTests for DpcpTests<'a> {
     }
 }
 
-/// Does the row keep all five rules? Else the first that it breaks.
+/// Ok if the row keeps all five rules. Else the first rule that it breaks.
 pub(crate) fn judge(machine: &Machine, row: &Row) -> Result<(), Rule>
     requires suits { EachHasHome machine.now.list.set }
     requires fits { IsRowFor machine.now.list (row_seen row.now) }

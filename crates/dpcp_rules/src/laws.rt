@@ -9,8 +9,8 @@ ghost use Rattle.schedule_model.specs.Keeping.{KeepsBefore};
 ghost use Rattle.schedule_model.specs.Chosen.{IsSized};
 ghost use Rattle.dpcp_rules.specs.NextRow.{HasChoice};
 
-/// Each schedule of lawful jobs of an accepted set, in which each resource has a home, has a row that DPCP chooses after the
-/// rows before it, if these can be taken; so each lawful schedule has a lawful next row. This says so, and does nothing.
+/// Take a schedule of lawful jobs of an accepted set in which each resource has a home. After rows that can be taken it has a row that DPCP
+/// chooses. So each lawful schedule has a lawful next row. This is a law, and does nothing.
 pub fn each_schedule_has_a_next_row()
     ensures taken { (w : Trace) (t : ℕ) → IsAccepted w.set → EachHasHome w.set → AreLawfulJobs (jobs_of w)
         → CanBeTakenBefore w t → HasChoice w t }

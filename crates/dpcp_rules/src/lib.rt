@@ -1,5 +1,5 @@
-//! DPCP: requests run on their resource's home, are granted to the highest task that waits there where it is higher than the
-//! ceiling of all that is kept there, and holders run by base priority.
+//! DPCP. Requests run on their resource's home. A request is granted to the highest task that waits there, if it is higher than every
+//! ceiling that is kept there. Holders run by base priority.
 #![tactic(auto)]
 
 pub mod blocking;

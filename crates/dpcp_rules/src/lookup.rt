@@ -9,7 +9,7 @@ use phase_machine::{Machine, Phase};
 use schedule_model::JobId;
 use sporadic_model::ResourceId;
 
-/// The machine's set is one that the model accepts. This says so, and does nothing.
+/// The machine's set is accepted. This call says so in a proof, and does nothing.
 pub(crate) fn keeps_the_model(machine: &Machine)
     ensures accepted { IsAccepted machine.now.list.set }
     ensures sizes { SetSizes machine.now.list.set }
@@ -17,7 +17,7 @@ pub(crate) fn keeps_the_model(machine: &Machine)
     machine.jobs().set().keeps_the_model();
 }
 
-/// The processor at which requests of the resource run, counted from 1.
+/// The processor that runs the requests of the resource, counted from 1.
 pub fn home_of(machine: &Machine, q: ResourceId) -> u32
     requires suits { EachHasHome machine.now.list.set }
     requires resource { q.0 < length machine.now.list.set.resources }
@@ -31,7 +31,7 @@ pub fn home_of(machine: &Machine, q: ResourceId) -> u32
     }
 }
 
-/// The highest task that uses the resource; the number of tasks where none does.
+/// The highest task that uses the resource, or the number of tasks if none does.
 pub(crate) fn ceiling_of(machine: &Machine, q: ResourceId) -> u32
     requires { q.0 < length machine.now.list.set.resources }
     ensures { result ≡ ceiling_now machine.now q.0 }
@@ -42,7 +42,7 @@ pub(crate) fn ceiling_of(machine: &Machine, q: ResourceId) -> u32
     }
 }
 
-/// Each job runs in a request at the home of the resource, else on its task's processor.
+/// A job runs in a request at the home of the resource, and else on its task's processor.
 pub struct AtHomes;
 
 impl Columns for AtHomes {

@@ -11,7 +11,7 @@ use phase_machine::lookup::{resources_of, tasks_of};
 use shared_choosing::choosing::kept;
 use sporadic_model::{ResourceId, TaskId};
 
-/// One place for each of the at most 64 processors, which count from 1, and one for none.
+/// One place for each of the at most 64 processors, which are numbered from 1, and one for none.
 pub const PLACES: usize = 65;
 
 /// A number for each processor: the least of the keys that were noted for it.
@@ -30,7 +30,7 @@ impl Table {
         }
     }
 
-    /// Lowers the entry for a processor to the key, where the key is less.
+    /// Lowers the entry for a processor to the key, if the key is less.
     fn note(&mut self, k: u32, key: u32)
         requires { k < PLACES }
         ensures here { entry_at self.new.keys k ≡ min (entry_at self.old.keys k) key }
@@ -50,16 +50,16 @@ impl Table {
     }
 }
 
-/// What waits and what is kept, by the processor.
+/// What waits and what is kept, for each processor.
 #[derive(Drop)]
 pub struct Tables {
-    /// The first task that waits there; the number of tasks where none does.
+    /// The first task that waits there, or the number of tasks if none does.
     pub(crate) first: Table,
-    /// The least ceiling of a resource that is kept there; the number of tasks where none is.
+    /// The least ceiling of a resource that is kept there, or the number of tasks if none is.
     pub(crate) bars: Table,
 }
 
-/// The processor at which the task's active job waits for what it requests; 0 where it doesn't.
+/// The processor at which the task's active job waits for a resource, or 0 if it doesn't.
 fn waiting_place(machine: &Machine, x: TaskId) -> u32
     requires suits { EachHasHome machine.now.list.set }
     requires task { x.0 < length machine.now.list.set.tasks }
@@ -72,7 +72,7 @@ fn waiting_place(machine: &Machine, x: TaskId) -> u32
     }
 }
 
-/// The processor at which the resource is kept by its last holder; 0 where it isn't.
+/// The processor at which the resource is kept by its last holder, or 0 if it isn't.
 fn kept_place(machine: &Machine, q: ResourceId) -> u32
     requires suits { EachHasHome machine.now.list.set }
     requires resource { q.0 < length machine.now.list.set.resources }
@@ -85,7 +85,7 @@ fn kept_place(machine: &Machine, q: ResourceId) -> u32
     0
 }
 
-/// For each processor the first task that waits there; the number of tasks where none does.
+/// For each processor the first task that waits there, or the number of tasks if none does.
 fn waiting_table(machine: &Machine) -> Table
     requires suits { EachHasHome machine.now.list.set }
     ensures least { IsLeast (waiting_place machine.now) (λ x. x)
@@ -99,7 +99,7 @@ fn waiting_table(machine: &Machine) -> Table
     table
 }
 
-/// For each processor the least ceiling of a resource that is kept there; the number of tasks where none is.
+/// For each processor the least ceiling of a resource that is kept there, or the number of tasks if none is.
 fn kept_table(machine: &Machine) -> Table
     requires suits { EachHasHome machine.now.list.set }
     ensures least { IsLeast (kept_place machine.now) (ceiling_now machine.now)
@@ -116,7 +116,7 @@ fn kept_table(machine: &Machine) -> Table
     table
 }
 
-/// What waits and what is kept at the tick that the machine stands at.
+/// What waits and what is kept at the machine's tick.
 pub(crate) fn tables_of(machine: &Machine) -> Tables
     requires suits { EachHasHome machine.now.list.set }
     ensures first { IsLeast (waiting_place machine.now) (λ x. x)

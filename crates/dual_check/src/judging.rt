@@ -87,7 +87,7 @@ fn add_up<P: ChargedProtocol>(
 }
 
 /// Tries the tests one after another.
-fn judged<P: ChargedProtocol>(
+fn judgement<P: ChargedProtocol>(
     alloc: Global,
     protocol: &P,
     set: &TaskSet,
@@ -141,7 +141,7 @@ pub fn check_with<P: ChargedProtocol>(
     set.keeps_the_model();
     charged_protocols_are_analysed::<P>();
     what_passes_is_sound::<P>();
-    judged(alloc, protocol, set, certificate)
+    judgement(alloc, protocol, set, certificate)
 }
 
 /// Judges a certificate for the programs that are written down for the protocol. Under DPCP each resource has a home, and each

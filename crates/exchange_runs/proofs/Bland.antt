@@ -94,7 +94,7 @@ no_return p s g e r t hs hg enters leaves is_t returns e_to firm =
         none : (d x a b k : ℤ) → x ≡ b +ℤ k → a ≤ℤ (pos 0 *ℤ d) → pos 0 <ℤ b → pos 0 ≤ℤ k → x ≡ a → ⊥
         none d x a b k q l h n e = omega (arith, ints)
 
--- With a leaving limit of zero another row's limit is taken so many times.
+-- If the leaving limit is zero, another row's limit is only multiplied.
 limit_after : (q x b y : ℤ) → y ≡ pos 0 → (q *ℤ x) -ℤ (b *ℤ y) ≡ x *ℤ q
 limit_after q x b y h = rw h (less_none q x b)
   where

@@ -26,7 +26,7 @@ some_ratio (suc m) t e = elim (some_ratio m t e) [
       ]))
 ]
 
--- Some first row stands above zero at each variable: a covered column's, and a slack's own.
+-- At each variable some first row is above zero: a covered column's, and a slack's own.
 first_above : (p : ProgramDef) (e : ℕ) → ((c : ℕ) → c < columns p → IsCovered p c) → e < variables p
     → (j : ℕ) × (j < height p) × (pos 0 <ℤ first_z p j e)
 first_above p e covered l = elim (cases_lt e (columns p)) [

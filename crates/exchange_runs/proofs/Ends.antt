@@ -11,7 +11,7 @@ use Rattle.number_laws.proofs.TotalLaws.{total_below-only, total_below-swap, tot
 use Rattle.number_laws.proofs.TotalLaws.{only_at-away}
 use Rattle.exchange_runs.proofs.Invariants.{IsMix, IsRead}
 
--- A slack stands with one in its own first row and with zero in each other, the objective row among them.
+-- A slack has 1 in its own first row, and 0 in each other row and the objective row.
 abbrev pub HasSlacks : ℕ → ℕ → (ℕ → ℕ → ℤ) → Type 0
 HasSlacks m n first = (r k : ℕ) → r ≤ m → k < m → first r (n + k) ≡ only_at k (pos 1) r
 

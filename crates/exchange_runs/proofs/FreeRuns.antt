@@ -134,7 +134,7 @@ pub record FreeTrace (p : ProgramDef) (k : ℕ) (t : Table) : Type 0 where
   pub entering : ℕ → ℕ
   pub leaving : ℕ → ℕ
   pub trace : IsTrace p k states entering leaving
-  -- what stands at its start
+  -- what is there at its start
   pub start_d : (states 0).d ≡ pos 1
   pub start_z : (i v : ℕ) → (states 0).z i v ≡ first_z p i v
   pub start_basic : (i : ℕ) → i < height p → (states 0).basic i ≡ slack p i

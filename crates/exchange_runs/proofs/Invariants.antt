@@ -11,7 +11,7 @@ use Rattle.number_laws.proofs.TotalLaws.{total_below-agree, total_below-plus, to
 use Rattle.number_laws.proofs.TotalLaws.{total_below-nonneg, total_below-only, only_at-here, only_at-away}
 use Rattle.exchange_runs.proofs.Signs.{turned}
 
--- Is the row x so many times the first objective row, and each first row as many times as x has at its slack?
+-- Is the row x `times` the first objective row, and each first row as many times as x has at its slack?
 pub record IsMix (m n : ℕ) (first : ℕ → ℕ → ℤ) (times : ℤ) (x : ℕ → ℤ) : Type 0 where
   pub mixed : (v : ℕ) → x v ≡ (times *ℤ first m v) +ℤ total_below m (λ r. x (n + r) *ℤ first r v)
 
@@ -67,7 +67,7 @@ mix_less m n first q f w u x y hx hy = record {
 nothing_less : (d a b : ℤ) → d *ℤ a ≡ (d *ℤ a) -ℤ (pos 0 *ℤ b)
 nothing_less d a b = rw (as_diff d, as_diff a, as_diff b) (omega (arith, ints))
 
--- A mix so many times.
+-- A mix, multiplied.
 pub mix_times : (m n : ℕ) (first : ℕ → ℕ → ℤ) (d w : ℤ) (x : ℕ → ℤ) → IsMix m n first w x → IsMix m n first (d *ℤ w) (λ v. d *ℤ x v)
 mix_times m n first d w x h =
     mix_agree m n first ((d *ℤ w) -ℤ (pos 0 *ℤ w)) (d *ℤ w) (λ v. (d *ℤ x v) -ℤ (pos 0 *ℤ x v)) (λ v. d *ℤ x v)
@@ -147,7 +147,7 @@ read_after m d k g z basic next r e within entered stayed h = record {
       ∙ ap (λ s. (k *ℤ exchanged r e d z m v) +ℤ s) (sym sums));
 }
 
--- Where a row that is nowhere below zero can be read off without the objective, and stands above zero at e, some cell at e is above zero.
+-- Take a row that is nowhere below zero, can be read without the objective, and is above zero at e. Then some cell at e is above zero.
 pub never_unbounded : (m e : ℕ) (d : ℤ) (g : ℕ → ℤ) (z : ℕ → ℕ → ℤ) (basic : ℕ → ℕ) → pos 0 <ℤ d → ((v : ℕ) → pos 0 ≤ℤ g v) → pos 0 <ℤ g e
     → IsRead m d (pos 0) g z basic → ((i : ℕ) → i < m → z i e ≤ℤ pos 0) → ⊥
 never_unbounded m e d g z basic pd above at_e h none =

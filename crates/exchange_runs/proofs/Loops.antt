@@ -49,7 +49,7 @@ less_nothing a = record { same = nothing a.num a.den }
         back : (x y : ℤ) → x ≡ (x *ℤ pos 1) -ℤ (pos 0 *ℤ y)
         back x y = omega (arith, ints)
 
--- Where the factor is zero nothing is taken away, so such a row stays as it is.
+-- If the factor is zero, nothing is subtracted. So such a row stays as it is.
 pub less_of_zero : (a f y : Fraction) → f.num ≡ pos 0 → IsForm a → IsLess a f y a
 less_of_zero a f y zero_f form = record {
   product = whole (pos 0);

@@ -22,7 +22,7 @@ pub record IsShadow (p : ProgramDef) (t : Table) (d : ℤ) (z : ℕ → ℕ → 
   pub positive : pos 0 <ℤ d
   -- each cell is its number over d
   pub shows : (i v : ℕ) → i ≤ height p → Shows d (z i v) (t.cell i v)
-  -- each row is a sum of first rows, each as many times as stands at its slack; the objective row has d times the first one too
+  -- each row is a sum of first rows, each as many times as the number at its slack; the objective row has d times the first one too
   pub mixes : (i : ℕ) → i < height p → IsMix (height p) (columns p) (first_z p) (pos 0) (z i)
   pub mixes_objective : IsMix (height p) (columns p) (first_z p) d (z (height p))
   -- the first rows can be read off it
@@ -54,7 +54,7 @@ ratio_shows IsCell p t d z e i f are h l is =
     shows_quotient d (z i (variables p)) (z i e) (t.cell i (variables p)) (t.cell i e) f (h.shows i (variables p) l)
     (h.shows i e l) (are f is.form) is.quotient
 
--- The numbers that are left of a cell when a product is taken away.
+-- The numbers that are left of a cell after a product is subtracted.
 less_shows : (IsCell : Fraction → Type 0) (d q x y c : ℤ) (a f b : Fraction) (g : Fraction) → AreFractions IsCell
     → Shows d x a → Shows d c f → Shows q y g
     → IsLessOver IsCell a f g b → Shows (d *ℤ q) ((q *ℤ x) -ℤ (c *ℤ y)) b

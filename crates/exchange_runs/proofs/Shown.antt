@@ -13,7 +13,7 @@ pub record Shows (d x : ℤ) (f : Fraction) : Type 0 where
 pub shows_whole : (n : ℤ) → Shows (pos 1) n (whole n)
 shows_whole n = record { same = omega (arith, ints); positive = omega (arith, ints) }
 
--- Both numbers may be taken so many times.
+-- Both numbers may be multiplied.
 pub shows_times : (c d x : ℤ) (f : Fraction) → Shows d x f → Shows (c *ℤ d) (c *ℤ x) f
 shows_times c d x f h = record { same = times_ring f.num f.den d x c h.same; positive = h.positive }
   where

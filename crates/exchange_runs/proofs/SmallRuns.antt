@@ -119,7 +119,7 @@ small_after p w w' e r x i v l = elim (cases_eq i r) [
   | inr away ↦ (x.taken i v l away).form
 ]
 
--- What stands in the first table has a form, so it is small.
+-- The values of the first table have forms, so they are small.
 pub small_at_start : (p : ProgramDef) (w : Table) → IsProgram p → IsStart p w → (i v : ℕ) → i ≤ height p → IsSmall (w.cell i v)
 small_at_start p w accepted h i v l =
     rw (h.cells i v l) (small_of_form _ (form_of_whole (first_number p i v) (first_number_small p i v accepted)))

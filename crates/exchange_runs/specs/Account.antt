@@ -1,4 +1,4 @@
--- A run as it is written down: a line for each exchange.
+-- A written account of a run: a line for each exchange.
 use Rattle.std.specs.Prelude.{◌≡◌, ℕ, List, [], ◌∷◌}
 use Rattle.fraction128.specs.Fraction.{Fraction}
 use Rattle.program_form.specs.Program.{ProgramDef}
@@ -13,14 +13,14 @@ pub record ExchangeLine : Type 0 where
   pub ratio : Fraction
   pub value : Fraction
 
--- Does the exchange of row r from s to t read so?
+-- Is this the line of the exchange of row r from s to t?
 pub record ReadsSo (p : ProgramDef) (s t : Table) (r : ℕ) (line : ExchangeLine) : Type 0 where
   pub exchange : IsExchange p s t line.entered r
   pub left : s.basic r ≡ line.left
   pub ratio : IsRatio (variables p) s line.entered r line.ratio
   pub value : value_of p t ≡ line.value
 
--- Does the run of p read so up to table t? The last exchange comes first.
+-- Is this the account of the run of p up to table t? The last exchange comes first.
 abbrev pub RunReadsSo : ProgramDef → List ExchangeLine → Table → Type 0
 RunReadsSo p [] t = IsStart p t
 RunReadsSo p (line ∷ earlier) t = (s : Table) × (r : ℕ) × (RunReadsSo p earlier s) × (ReadsSo p s t r line)

@@ -1,4 +1,4 @@
--- What the value and the primal of a run's end are to the program, in the words of its points alone.
+-- What are the value and the primal of a run's end to the program? This is said of the program's points alone.
 use Rattle.std.specs.Prelude.{◌≡◌, ℕ, ◌<◌, List, length, pos, ◌≤ℤ◌, ◌<ℤ◌, unsigned_abs}
 use Rattle.fraction128.specs.Fraction.{Fraction}
 use Rattle.fraction128.specs.Scaling.{IsScaled, fraction_at}

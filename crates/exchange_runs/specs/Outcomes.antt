@@ -1,4 +1,4 @@
--- How a run ends that may spend so many units: one unit for the run, and one more for each exchange begun.
+-- How does a run end that may take this many units? It takes one unit for the run, and one more for each exchange begun.
 use Rattle.std.specs.Prelude.{◌≡◌, ◌⊎◌, ℕ, ◌+◌, ◌<◌, List}
 use Rattle.fraction128.specs.Fraction.{Fraction}
 use Rattle.program_form.specs.Program.{ProgramDef}
@@ -16,7 +16,7 @@ pub record EndsWithin (p : ProgramDef) (units k : ℕ) (value : Fraction) (prima
   pub within : k < units
   pub read_off : IsReadOff p table value primal d
 
--- Is the run wide within the units: at an exchange begun after so many others, which is paid for too, or at its end?
+-- Is the run wide within the units? It is wide at an exchange begun after some others, for which there is a unit too, or at its end.
 pub record IsWideWithin (p : ProgramDef) (units : ℕ) : Type 0 where
   pub exchanges : ℕ
   pub table : Table
@@ -24,7 +24,7 @@ pub record IsWideWithin (p : ProgramDef) (units : ℕ) : Type 0 where
   pub wide : ((exchanges + 1 < units) × IsWideExchange p table)
       ⊎ ((exchanges < units) × (IsExchangeRun p exchanges table) × IsWideEnd p table)
 
--- Does the run need more units: more than none, or an exchange begins where all are spent?
+-- Does the run need more units? It does if there are none, or if an exchange begins when all are taken.
 abbrev pub NeedsMoreThan : ProgramDef → ℕ → Type 0
 NeedsMoreThan p units =
     (units ≡ 0) ⊎ ((k : ℕ) × (t : Table) × (e : ℕ) × (k + 1 ≡ units) × (Reached p k t) × IsEntering p t e)

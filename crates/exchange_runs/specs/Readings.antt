@@ -1,4 +1,4 @@
--- What is read off the last table of a run: the value, the primal, and the dual with its least common denominator.
+-- What is read from the last table of a run: the value, the primal, and the dual with its least common denominator.
 use Rattle.std.specs.Prelude.{◌≡◌, ◌≢◌, ◌⊎◌, ℕ, ◌<◌, ◌^◌, List, All, length, pos, neg_ℤ}
 use Rattle.fraction128.specs.Fraction.{Fraction, over, whole}
 use Rattle.fraction128.specs.Scaling.{IsLeastCommon, AreScaled, IsWideOver, fraction_at}
@@ -10,16 +10,16 @@ use Rattle.exchange_runs.specs.Table.{Table, variables, slack, objective}
 abbrev pub minus : Fraction → Fraction
 minus f = over (neg_ℤ f.num) f.den
 
--- What is the value of table t? It is minus the objective's limit cell.
+-- The value of table t: minus the objective's limit cell.
 abbrev pub value_of : ProgramDef → Table → Fraction
 value_of p t = minus (objective p t (variables p))
 
--- What is the dual of row r? It is minus its slack's objective cell.
+-- The dual of row r: minus its slack's objective cell.
 abbrev pub dual_at : ProgramDef → Table → ℕ → Fraction
 dual_at p t r = minus (objective p t (slack p r))
 
--- Is f the value of variable v, of the rows below k: the limit, at the given place, of the row whose basic variable it is,
--- or zero where there is none?
+-- Is f the value of variable v among the rows below k? It is the limit, at the given place, of the row whose basic variable is v. If there
+-- is none, it is zero.
 abbrev pub IsValueOf : ℕ → Table → ℕ → ℕ → Fraction → Type 0
 IsValueOf place t k v f =
     ((i : ℕ) × (i < k) × (t.basic i ≡ v) × (f ≡ t.cell i place))
@@ -44,7 +44,7 @@ pub record IsWrittenDual (p : ProgramDef) (t : Table) (d : DualDef) : Type 0 whe
   pub small_den : d.den < 2 ^ 63
   pub small_num : All (λ k. k < 2 ^ 63) d.num
 
--- Is the end at table t wide: does the least common denominator of the rows' duals, or a number over it, pass 2^63 - 1?
+-- Is the end at table t wide: is the least common denominator of the rows' duals, or a number over it, above 2^63 - 1?
 pub record IsWideEnd (p : ProgramDef) (t : Table) : Type 0 where
   pub duals : List Fraction
   pub are_duals : AreDuals p t duals

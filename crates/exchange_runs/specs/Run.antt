@@ -5,12 +5,12 @@ use Rattle.program_form.specs.Program.{ProgramDef, height}
 use Rattle.exchange_runs.specs.Table.{Table, IsStart}
 use Rattle.exchange_runs.specs.Exchange.{IsLast, IsExchangeOver}
 
--- Does table t stand in the run of p after k exchanges, each of whose values may stand in a table?
+-- Is t the table of the run of p after k exchanges, with all values allowed?
 abbrev pub ReachedOver : (Fraction → Type 0) → ProgramDef → ℕ → Table → Type 0
 ReachedOver IsCell p zero t = IsStart p t
 ReachedOver IsCell p (suc k) t = (s : Table) × (e : ℕ) × (r : ℕ) × (ReachedOver IsCell p k s) × (IsExchangeOver IsCell p s t e r)
 
--- The same where each value has a form.
+-- The same if each value has a form.
 abbrev pub Reached : ProgramDef → ℕ → Table → Type 0
 Reached p k t = ReachedOver IsForm p k t
 

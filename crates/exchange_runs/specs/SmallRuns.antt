@@ -1,4 +1,4 @@
--- Runs over fractions with small parts, in lowest terms or not, and the table in lowest terms that each stands for.
+-- Runs over fractions with small parts, in lowest terms or not, and the table in lowest terms of each table.
 use Rattle.std.specs.Prelude.{◌≡◌, ℕ, ◌<◌, ◌≤◌, ◌^◌, pos, ◌<ℤ◌, unsigned_abs, refl}
 use Rattle.std.proofs.Common.{arith}
 use Rattle.std.proofs.lemmas.Int.{ints}
@@ -18,7 +18,7 @@ pub record IsSmall (f : Fraction) : Type 0 where
 pub two_quarters_small : IsSmall (over (pos 2) (pos 4))
 two_quarters_small = record { positive = omega (arith, ints); small_num = omega arith; small_den = omega arith }
 
--- Does table w stand in the run of p over small fractions after k exchanges?
+-- Is w the table of the run of p over small fractions after k exchanges?
 abbrev pub SmallReached : ProgramDef → ℕ → Table → Type 0
 SmallReached p k w = ReachedOver IsSmall p k w
 

@@ -3,10 +3,9 @@ use Rattle.std.specs.Prelude.{◌≡◌, ℕ, ◌+◌, ◌<◌, ◌≤◌, ◌==
 use Rattle.fraction128.specs.Fraction.{Fraction, whole}
 use Rattle.program_form.specs.Program.{ProgramDef, columns, height, row, limit}
 
--- What stands where: a cell for each row and place, and for each row its basic variable.
--- The places are the variables, the columns first and then a slack for each row in row order, and behind them the place of the limit.
--- Row `height p` is the objective row. Cells past the limit are zero in every table of a run, and those past the
--- objective row count for nothing.
+-- A table: a cell for each row and place, and for each row its basic variable. The places are the variables: first the columns, then a
+-- slack for each row in row order. After them comes the place of the limit. Row `height p` is the objective row. Cells past the limit are
+-- zero in every table of a run, and those past the objective row don't count.
 pub record Table : Type 0 where
   pub cell : ℕ → ℕ → Fraction
   pub basic : ℕ → ℕ
@@ -19,12 +18,12 @@ variables p = columns p + height p
 abbrev pub slack : ProgramDef → ℕ → ℕ
 slack p r = columns p + r
 
--- Which cell has variable v in the objective row?
+-- The cell of variable v in the objective row.
 abbrev pub objective : ProgramDef → Table → ℕ → Fraction
 objective p t v = t.cell (height p) v
 
--- Which number has place v in a first row: of the n columns the entry, of the slacks up to the place `last` one at the row's own,
--- and at that place the limit?
+-- The number at place v of a first row. For one of the n columns it is the entry. For a slack, up to the place `last`, it is 1 for the
+-- row's own slack. At the place `last` it is the limit.
 abbrev pub first_of : ℕ → List ℕ → ℕ → ℕ → ℕ → ℕ → ℕ
 first_of n entries own last bound v =
     if nat_lt v n then slice_index entries v
@@ -32,19 +31,19 @@ first_of n entries own last bound v =
     else if v == last then bound
     else 0
 
--- Which coefficients does row i start with? The objective row starts with the costs.
+-- The coefficients of row i at the start. The objective row starts with the costs.
 abbrev pub first_entries : ProgramDef → ℕ → List ℕ
 first_entries p i = if nat_lt i (height p) then row p i else p.costs
 
--- Which limit does row i start with? The objective row starts with zero.
+-- The limit of row i at the start. The objective row starts with zero.
 abbrev pub first_limit : ProgramDef → ℕ → ℕ
 first_limit p i = if nat_lt i (height p) then limit p i else 0
 
--- Which number has place v in row i of the first table?
+-- The number at place v in row i of the first table.
 abbrev pub first_number : ProgramDef → ℕ → ℕ → ℕ
 first_number p i v = first_of (columns p) (first_entries p i) (slack p i) (variables p) (first_limit p i) v
 
--- Is t the table that the run of p starts with: the program's numbers, and the slacks as basis?
+-- Is t the table with which the run of p starts: the program's numbers, and the slacks as basis?
 pub record IsStart (p : ProgramDef) (t : Table) : Type 0 where
   pub cells : (i v : ℕ) → i ≤ height p → t.cell i v ≡ whole (pos (first_number p i v))
   pub basis : (i : ℕ) → i < height p → t.basic i ≡ slack p i

@@ -1,4 +1,4 @@
--- The run of a program over unbounded fractions, where no value is too wide to stand in a table.
+-- The run of a program over unbounded fractions, in which no value is too wide for a table.
 use Rattle.std.specs.Prelude.{ℕ, ◌<◌, ◌^◌, pos, ◌<ℤ◌}
 use Rattle.std.proofs.Common.{arith}
 use Rattle.std.proofs.lemmas.Int.{ints}
@@ -15,11 +15,11 @@ pub record IsFraction (f : Fraction) : Type 0 where
 pub two_quarters : IsFraction (over (pos 2) (pos 4))
 two_quarters = record { positive = omega (arith, ints) }
 
--- Does table t stand in the run of p over unbounded fractions after k exchanges?
+-- Is t the table of the run of p over unbounded fractions after k exchanges?
 abbrev pub FreelyReached : ProgramDef → ℕ → Table → Type 0
 FreelyReached p k t = ReachedOver IsFraction p k t
 
--- How many sets of variables are there? No run makes as many exchanges.
+-- How many sets of variables are there? No run makes this many exchanges.
 abbrev pub sets_of_variables : ProgramDef → ℕ
 sets_of_variables p = 2 ^ variables p
 

@@ -1,5 +1,5 @@
-//! What holds of the runs of every program over unbounded fractions. Each function is a law: it does nothing, and what it ensures
-//! holds for all programs.
+//! What holds of the runs of every program over unbounded fractions. Each function is a law: it does nothing, and what it ensures holds for
+//! all programs.
 
 ghost use Rattle.std.specs.Prelude.{◌≡◌, ◌⊎◌, ℕ, suc, ◌<◌, ◌≤◌, List};
 ghost use Rattle.fraction128.specs.Fraction.{Fraction};
@@ -16,8 +16,8 @@ ghost use Rattle.exchange_runs.specs.Feasible.{IsOptimumValue};
 ghost use Rattle.exchange_runs.specs.Outcomes.{EndsWithin, IsWideWithin};
 ghost use Rattle.exchange_runs.specs.Unbounded.{FreelyReached, AreCovered, sets_of_variables};
 
-/// Over unbounded fractions each table of a covered program's run is the last, or has a next. A run makes fewer exchanges than
-/// there are sets of variables, so it comes to a last table; there its value is the optimum, and no run goes on past it.
+/// Over unbounded fractions each table of a covered program's run is the last, or has a next one. A run makes fewer exchanges than there
+/// are sets of variables. So it comes to a last table. There its value is the optimum, and no run goes on past it.
 pub fn free_runs_end()
     ensures next { (p : ProgramDef) (k : ℕ) (t : Table)
         → AreCovered p → FreelyReached p k t → IsLast p t ⊎ ((u : Table) × FreelyReached p (suc k) u) }
@@ -29,7 +29,7 @@ pub fn free_runs_end()
         → FreelyReached p k t → IsLast p t → IsOptimumValue p (value_of p t) }
 {}
 
-/// A run whose values all have forms is a run over unbounded fractions, and makes fewer exchanges than there are sets of variables.
+/// A run whose values all have forms is a run over unbounded fractions. It makes fewer exchanges than there are sets of variables.
 pub fn every_run_is_free()
     ensures free { (p : ProgramDef) (k : ℕ) (t : Table) → Reached p k t → FreelyReached p k t }
     ensures few { (p : ProgramDef) (k : ℕ) (t : Table) → Reached p k t → k < sets_of_variables p }
@@ -41,15 +41,15 @@ pub fn an_optimum_exists()
     ensures dual { (p : ProgramDef) → AreCovered p → (d : DualDef) × IsOptimalDual p d }
 {}
 
-/// With more units than there are sets of variables a run ends, or is wide: it does not need more.
+/// With more units than there are sets of variables a run ends, or is wide. It does not need more.
 pub fn enough_units_give_an_end()
     ensures { (p : ProgramDef) (units : ℕ) → IsProgram p → sets_of_variables p < units
         → ((k : ℕ) × (value : Fraction) × (primal : List Fraction) × (d : DualDef) × EndsWithin p units k value primal d)
         ⊎ IsWideWithin p units }
 {}
 
-/// The run of a worked program of three columns and seven rows over unbounded fractions: it ends after four exchanges, and so no
-/// run of the program makes a fifth, where by the number of variables it may make 1,023.
+/// The run of a worked program of three columns and seven rows over unbounded fractions. It ends after four exchanges, so no run of the
+/// program makes a fifth. By the number of variables alone it could make 1,023.
 pub fn seven_rows_end_in_time()
     ensures end { (t : Table) × (FreelyReached seven_rows 4 t) × IsLast seven_rows t }
     ensures no_fifth { (k : ℕ) (t : Table) → FreelyReached seven_rows k t → k ≤ 4 }

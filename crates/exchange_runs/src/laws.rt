@@ -17,8 +17,8 @@ ghost use Rattle.exchange_runs.specs.Outcomes.{EndsWithin, IsWideWithin, NeedsMo
 ghost use Rattle.exchange_runs.specs.Account.{RunReadsSo};
 ghost use Rattle.exchange_runs.specs.SevenRowsRun.{seven_rows_account, seven_rows_primal};
 
-/// A program has one run: one table after as many exchanges, all of whose cells have forms and are zero past the limit, and one
-/// end. Where the table is the last, or the exchange that begins there is wide, no more exchanges are made.
+/// A program has one run. After as many exchanges it has one table, whose cells all have forms and are zero past the limit, and it has one
+/// end. If the table is the last, or the exchange that begins there is wide, no more exchanges are made.
 pub fn a_run_has_one_course()
     ensures table { (p : ProgramDef) (k : ℕ) (t u : Table)
         → IsProgram p → Reached p k t → Reached p k u → IsSameTable p t u }
@@ -32,8 +32,7 @@ pub fn a_run_has_one_course()
         → IsProgram p → Reached p k t → IsLast p t ⊎ IsWideExchange p t → Reached p j u → j ≤ k }
 {}
 
-/// A run has one outcome, and no other: it ends with one number of exchanges, value, primal and dual, or it is wide, or it needs
-/// more units.
+/// A run has exactly one outcome. It ends, with one number of exchanges, value, primal and dual. Or it is wide. Or it needs more units.
 pub fn a_run_gives_one_answer()
     ensures some { (p : ProgramDef) (units : ℕ) → IsProgram p → HasOutcome p units }
     ensures answer { (p : ProgramDef) (m n k j : ℕ) (value other : Fraction) (primal point : List Fraction) (d e : DualDef)
@@ -47,8 +46,8 @@ pub fn a_run_gives_one_answer()
         → IsProgram p → IsWideWithin p units → ¬ (NeedsMoreThan p units) }
 {}
 
-/// Where a run ends, its value is the optimum, its primal is a point of that worth, its dual is optimal with a total over its
-/// denominator that is the value, and the whole part of that is the greatest whole value that is reached.
+/// If a run ends, its value is the optimum, and its primal is a point of that worth. Its dual is optimal, with the value as its total over
+/// its denominator. The whole part of that is the greatest whole value that is reached.
 pub fn the_end_is_the_optimum()
     ensures value { (p : ProgramDef) (units k : ℕ) (value : Fraction) (primal : List Fraction) (d : DualDef)
         → EndsWithin p units k value primal d → IsOptimumValue p value }
@@ -62,14 +61,14 @@ pub fn the_end_is_the_optimum()
         → EndsWithin p units k value primal d → IsGreatestReached p (dual_value p d.den (λ r. slice_index d.num r)) }
 {}
 
-/// Whichever variable enters a table of a run, some row has a ratio: what a program's points reach is bounded.
+/// Whichever variable enters a table of a run, some row has a ratio. So what a program's points reach is bounded.
 pub fn no_program_is_unbounded()
     ensures { (p : ProgramDef) (k : ℕ) (t : Table) (e : ℕ)
         → IsProgram p → Reached p k t → e < variables p → (i : ℕ) × (i < height p) × HasRatio t e i }
 {}
 
-/// The run of a worked program of three columns and seven rows: four exchanges, each with the variable that enters, the one that
-/// leaves, the ratio and the value; then its value, primal and dual. It takes five units.
+/// The run of a worked program of three columns and seven rows. It has four exchanges, each with the variable that enters, the one that
+/// leaves, the ratio and the value. Then come its value, primal and dual. It takes five units.
 pub fn seven_rows_take_four_exchanges()
     ensures account { (t : Table) × (RunReadsSo seven_rows seven_rows_account t) × IsLast seven_rows t }
     ensures end { EndsWithin seven_rows 5 4 (over (pos 14) (pos 3)) seven_rows_primal seven_rows_dual }

@@ -1,14 +1,13 @@
-//! The exchange run of a blocking program: tables of exact fractions, each got from the one before by an exchange. It goes
-//! from the slack table to one that no exchange improves.
+//! The exchange run of a blocking program: tables of exact fractions, each made from the one before by an exchange. It goes from the slack
+//! table to one that no exchange improves.
 //!
-//! The definitions stand in `specs/`. They say what a table is, which variable enters and which row leaves, and what the
-//! table after an exchange is. They also say when an exchange or the end is wide, what is read off the last table, and how
-//! many units a run spends.
+//! The definitions are in `specs/`. They say what a table is, which variable enters and which row leaves, and what the table after an
+//! exchange is. They also say when an exchange or the end is wide, what is read from the last table, and how many units a run takes.
 //!
-//! There is no code here, and each function is a law. Those of `laws` state what holds of every run: a program has one, its end gives
-//! the optimum, and it is never unbounded. Those of `end_laws` say that every run ends: over unbounded fractions it comes to a table that
-//! no exchange improves, and with enough units a run ends or is wide. The law of `small_laws` is about runs over fractions that needn't
-//! be in lowest terms, whose parts are below 2^63 in size: such a run is the exchange run.
+//! There is no code here, and each function is a law. Those of `laws` are about every run: a program has one, its end gives the optimum,
+//! and it is never unbounded. Those of `end_laws` say that every run ends: over unbounded fractions it comes to a table that no exchange
+//! improves, and with enough units a run ends or is wide. The law of `small_laws` is about runs over fractions that needn't be in lowest
+//! terms, whose parts are below 2^63 in size. Such a run is the exchange run.
 #![tactic(auto)]
 
 mod end_laws;

@@ -8,7 +8,7 @@ ghost use Rattle.exchange_runs.specs.Run.{Reached};
 ghost use Rattle.exchange_runs.specs.SmallRuns.{SmallReached, IsLowestTable};
 
 /// A table of a run over small fractions is, in lowest terms, the table of the program's run after as many exchanges. The same variable
-/// enters it, or it is the last as well.
+/// enters both, or both are the last.
 pub fn small_runs_are_runs()
     ensures run { (p : ProgramDef) (k : ℕ) (w : Table)
         → IsProgram p → SmallReached p k w → (t : Table) × (IsLowestTable p w t) × Reached p k t }

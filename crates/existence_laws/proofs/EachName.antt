@@ -39,6 +39,9 @@ choice_reads name.Dflp = dflp_choice_reads
 choice_reads name.Spin = spin_choice_reads
 choice_reads name.DpcpWindows = dpcp_choice_reads
 choice_reads name.FmlpPlusCloser = fmlp_plus_choice_reads
+choice_reads name.SpinCloser = spin_choice_reads
+choice_reads name.DpcpCloser = dpcp_choice_reads
+choice_reads name.DflpCloser = dflp_choice_reads
 choice_reads name.MpcpCloser = mpcp_choice_reads
 
 -- A chosen row keeps the rules.
@@ -50,6 +53,9 @@ choice_keeps name.Dflp w t c = c.keeps
 choice_keeps name.Spin w t c = c.keeps
 choice_keeps name.DpcpWindows w t c = c.keeps
 choice_keeps name.FmlpPlusCloser w t c = c.keeps
+choice_keeps name.SpinCloser w t c = c.keeps
+choice_keeps name.DpcpCloser w t c = c.keeps
+choice_keeps name.DflpCloser w t c = c.keeps
 choice_keeps name.MpcpCloser w t c = c.keeps
 
 next_chosen : (p : ProtocolName) (w : Trace) (t : ℕ) → IsAccepted w.set → HasHomes p w.set → AreLawfulJobs (jobs_of w)
@@ -75,6 +81,18 @@ next_chosen name.DpcpWindows w t accepted homes lawful before =
     record { row = next.row; chosen = next.chosen }
 next_chosen name.FmlpPlusCloser w t accepted homes lawful before =
     let next : HasSharedChoice fmlp_plus w t = next_row_fmlp_plus w t accepted lawful in record { row = next.row; chosen = next.chosen }
+next_chosen name.SpinCloser w t accepted homes lawful before =
+    let next : HasSpinChoice w t = next_spin_row w t accepted lawful (λ u l. (before u l).sized) (λ u l. (before u l).keeps) in
+    record { row = next.row; chosen = next.chosen }
+next_chosen name.DpcpCloser w t accepted homes lawful before =
+    let next : HasDpcpChoice w t =
+    next_dpcp_row w t accepted homes lawful (λ u l. (before u l).sized) (λ u l. (before u l).keeps) in
+    record { row = next.row; chosen = next.chosen }
+next_chosen name.DflpCloser w t accepted homes lawful before =
+    let next : HasDflpChoice w t =
+    next_dflp_row w t accepted homes lawful (λ u l. (before u l).sized) (λ u l. (before u l).keeps) in
+    record { row = next.row; chosen = next.chosen }
+    record { row = next.row; chosen = next.chosen }
 next_chosen name.MpcpCloser w t accepted homes lawful before =
     let next : HasSharedChoice mpcp w t = next_row_mpcp w t accepted lawful in record { row = next.row; chosen = next.chosen }
 

@@ -1,6 +1,7 @@
 -- What the answer on a schedule and a certificate says.
-use Rattle.std.specs.Prelude.{ℕ, ◌+◌, ◌≤◌, Bool, slice_index, Option, Result, Ok, Err, IfSome}
+use Rattle.std.specs.Prelude.{◌≡◌, ℕ, ◌+◌, ◌<◌, ◌≤◌, Bool, length, slice_index, slice_index_or, Option, Result, Ok, Err, IfOk, IfSome}
 use Rattle.std.specs.Global.{Global}
+use Rattle.std.specs.List.{All}
 use Rattle.std.specs.declared.vec.Vec.{Vec}
 use Rattle.program_form.specs.Certificate.{CertificateDef}
 use Rattle.schedule_model.specs.RowDef.{Trace}
@@ -13,7 +14,8 @@ use Rattle.schedule_answers.specs.Failures.{IsFailure}
 use Rattle.schedule_answers.specs.declared.audited.TaskFigures.{TaskFigures}
 use Rattle.schedule_answers.specs.declared.audited.AuditStop.{AuditStop}
 use Rattle.schedule_answers.specs.declared.audited.AuditStop.TheVariants as stop
-use Rattle.figure_laws.specs.Figures.{AreFigures}
+use Rattle.schedule_answers.specs.TaskAnswers.{no_figures}
+use Rattle.figure_laws.specs.Figures.{AreFigures, blocked_sum, blocked_ticks}
 
 -- The certificate is valid, each of the n rows keeps the rules, and these are the figures of each task; or here is why the
 -- certificate is not valid; or it is valid, and here is the first row that breaks a rule, and its first broken rule. Only want of
@@ -34,3 +36,15 @@ pub record LieWithin (f : TaskFigures) : Type 0 where
 -- The ticks of all three classes.
 abbrev pub charged_ticks : TaskFigures → ℕ
 charged_ticks f = f.direct + (f.indirect + f.preemption)
+
+-- What the answer on a schedule and a certificate is: the figures, or why there are none. Where there are figures, each task's response
+-- and blocking lie within its bound and value. The ticks of its three classes are all those at which its jobs are blocked in their
+-- windows, and all those at which they are blocked at all.
+pub record IsAudited (keeps : Rule → Trace → ℕ → Type 0) (interferes : Trace → ℕ → ℕ → Bool) (charges : Trace → ℕ → ℕ → Option Charge)
+    (f : SourceDef) (c : CertificateDef) (w : Trace) (n : ℕ) (result : Result (Vec TaskFigures Global) AuditStop) : Type 0 where
+  pub audits : Audits keeps interferes charges f c w n result
+  pub within : IfOk result (λ v. All LieWithin v.items)
+  pub adds_up : IfOk result (λ v. (x : ℕ) → x < length w.set.tasks
+      → charged_ticks (slice_index_or v.items x no_figures) ≡ blocked_sum interferes w (slice_index c.bounds) n x)
+  pub adds_up_to_all : IfOk result (λ v. (x : ℕ) → x < length w.set.tasks
+      → charged_ticks (slice_index_or v.items x no_figures) ≡ blocked_ticks interferes w n x)

@@ -7,8 +7,8 @@ use Rattle.schedule_model.specs.RowDef.{Trace}
 use Rattle.schedule_model.specs.Activity.{task_of}
 use Rattle.schedule_model.specs.BlockedTicks.{is_blocked}
 use Rattle.schedule_model.specs.Measures.{blocking_of, measures_of}
-use Rattle.fragments.specs.declared.columns.Class.{Class}
-use Rattle.fragments.specs.declared.columns.Class.TheVariants.{Direct, Indirect, Preemption}
+use Rattle.blocking_columns.specs.declared.columns.Class.{Class}
+use Rattle.blocking_columns.specs.declared.columns.Class.TheVariants.{Direct, Indirect, Preemption}
 use Rattle.charge_laws.specs.Charges.{Charge}
 use Rattle.charge_laws.specs.Windows.{window_end}
 use Rattle.charge_laws.specs.Fractions.{is_same_class}

@@ -1,6 +1,6 @@
 ghost use Rattle.std.specs.Prelude.{◌≡◌, ℕ, ◌+◌, Bool, List, Option, slice_index};
 ghost use Rattle.schedule_model.specs.RowDef.{Trace};
-ghost use Rattle.fragments.specs.declared.columns.Class.TheVariants.{Direct, Indirect, Preemption};
+ghost use Rattle.blocking_columns.specs.declared.columns.Class.TheVariants.{Direct, Indirect, Preemption};
 ghost use Rattle.charge_laws.specs.Charges.{Charge};
 ghost use Rattle.soundness_laws.specs.Sound.{KeepsBounds};
 ghost use Rattle.figure_laws.specs.Figures.{class_sum, blocked_sum, blocked_ticks, ChargesBlocked, BlockedCharged};

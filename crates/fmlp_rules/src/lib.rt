@@ -44,7 +44,7 @@ impl Order for FmlpPlus {
     ghost gives = { λ p. issue_gives };
 }
 
-/// The tick at which the request was issued that the job is in; 0 where it is in none.
+/// The tick at which the job's request was issued, and 0 if the job is in no request.
 fn issue_tick(machine: &Machine, j: JobId) -> u64
     requires { j.0 < length machine.now.list.jobs }
     ensures { result ≡ issue_now machine.now j.0 }

@@ -1,4 +1,4 @@
--- What the parts of a `Frac` are as a fraction, and what every `Frac` keeps.
+-- What contracts see of a `Frac` as a fraction, and what every `Frac` keeps.
 use Rattle.fraction128.specs.Fraction.{Fraction, IsForm}
 use Rattle.fraction128.specs.declared.Frac.TheInside.{Inside}
 

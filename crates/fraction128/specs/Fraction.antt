@@ -1,6 +1,6 @@
--- What a contract sees of a `Frac`: an exact rational value as a pair of whole numbers, and what it means for one such pair to be
--- equal to, at most, the sum or the product of others. All of it is said by cross products, with no division.
--- One spelling of the products throughout: the value that is asked for stands first, times the denominators of what it is made of.
+-- What a contract sees of a `Frac`: an exact rational value as a pair of whole numbers. And when one such pair is equal to another, at most
+-- another, or the sum or the product of others. All of it is said by cross products, without division. The products are always written in
+-- one way: first the value that is asked for, then the denominators of what it is made of.
 use Rattle.std.specs.Prelude.{◌≡◌, ◌<◌, ◌^◌, ℤ, pos, ◌+ℤ◌, ◌-ℤ◌, ◌*ℤ◌, ◌≤ℤ◌, ◌<ℤ◌, unsigned_abs}
 use Rattle.number_laws.specs.Divisors.{IsCoprime}
 

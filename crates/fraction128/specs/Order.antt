@@ -1,6 +1,6 @@
--- The order of fractions by value, as a comparison that is total over every pair of whole numbers, so that the laws of an order
--- hold with no premise. A denominator that isn't positive counts by its size, and as 1 where it is 0; values that are level are told
--- apart by their parts. Of two fractions that a `Frac` can hold the cross products alone decide.
+-- The order of fractions by value. It is defined for every pair of whole numbers, so that the laws of an order need no premise. A
+-- denominator that isn't positive counts by its size, and 0 counts as 1. Equal values are ordered by their parts. For two fractions that a
+-- `Frac` can hold only the cross products matter.
 use Rattle.std.specs.Prelude.{ℤ, pos, ◌*ℤ◌, max, unsigned_abs}
 use Rattle.std.specs.declared.cmp.Ordering.{Ordering}
 use Rattle.std.specs.Ordering.{int_cmp, on, then_cmp}

@@ -1,4 +1,5 @@
--- The laws of the order of fractions, for `Ord` and `PartialOrd`: it is a total order, and level exactly where the parts are the same.
+-- The laws of the order of fractions, for `Ord` and `PartialOrd`. It is a total order. Two fractions are equal in it exactly if their parts
+-- are the same.
 use Rattle.std.specs.Prelude.{◌≡◌, ℕ, ◌≤◌, max, ℤ, pos, ◌<ℤ◌, Bool, true, false, ◌&&◌, unsigned_abs, refl}
 use Rattle.std.specs.declared.cmp.Ordering.{Ordering}
 use Rattle.std.specs.declared.cmp.Ordering.TheVariants.{Less, Equal, Greater}
@@ -40,7 +41,7 @@ both_true : (s t : Bool) → (s && t) ≡ true → (s ≡ true) × (t ≡ true)
 both_true true t h = (refl, h)
 both_true false t h = absurd (false≢true h)
 
--- two fractions are level exactly where their parts are the same
+-- two fractions are equal in the order exactly if their parts are the same
 pub level_is_same : (a b : Fraction) → (int_eq a.num b.num && int_eq a.den b.den) ≡ is_eq (value_cmp a b)
 level_is_same a b = both_ways _ _ (level a b) (same a b)
   where

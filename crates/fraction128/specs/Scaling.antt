@@ -1,4 +1,4 @@
--- Fractions over one denominator: the least that serves them all, and the numbers that they are over it.
+-- Fractions over one denominator: the least one that fits them all, and their numerators over it.
 use Rattle.std.specs.Prelude.{◌≡◌, ℕ, ◌<◌, ◌≤◌, ◌^◌, ◌⊎◌, List, length, All, slice_index, slice_index_or, pos, ◌*ℤ◌}
 use Rattle.std.specs.Prelude.{unsigned_abs, Result, Ok, Err}
 use Rattle.std.specs.Int.{◌∣◌}
@@ -9,7 +9,8 @@ use Rattle.fraction128.specs.declared.Wide.{Wide}
 abbrev pub IsCommon : List Fraction → ℕ → Type 0
 IsCommon fs l = All (λ f. unsigned_abs f.den ∣ l) fs
 
--- Is l the least common denominator of fs: a common multiple of theirs that divides, and so is at most, every other?
+-- Is l the least common denominator of fs? It is a common multiple of their denominators that divides every other one, and so is at most
+-- every other one.
 pub record IsLeastCommon (fs : List Fraction) (l : ℕ) : Type 0 where
   pub positive : 0 < l
   pub common : IsCommon fs l
@@ -28,24 +29,24 @@ pub record AreScaled (l : ℕ) (fs : List Fraction) (ks : List ℕ) : Type 0 whe
   pub len : length ks ≡ length fs
   pub each : (i : ℕ) → i < length fs → IsScaled l (fraction_at fs i) (slice_index ks i)
 
--- Does m serve as a common denominator of fs: with m and each number over it from 1, or 0, to 2^63 - 1?
+-- Does m fit as a common denominator of fs? It is from 1 to 2^63 - 1, and each number over it is from 0 to 2^63 - 1.
 pub record Serves (m : ℕ) (fs : List Fraction) : Type 0 where
   pub positive : 0 < m
   pub small : m < 2 ^ 63
   pub common : IsCommon fs m
   pub each : (i : ℕ) → i < length fs → (k : ℕ) × (IsScaled m (fraction_at fs i) k) × (k < 2 ^ 63)
 
--- Does l, or a number of fs over l, pass 2^63 - 1?
+-- Is l, or a number of fs over l, above 2^63 - 1?
 abbrev pub IsWideOver : ℕ → List Fraction → Type 0
 IsWideOver l fs = (2 ^ 63 ≤ l)
     ⊎ ((i : ℕ) × (k : ℕ) × (i < length fs) × (IsScaled l (fraction_at fs i) k) × (2 ^ 63 ≤ k))
 
--- The least common denominator, or Wide exactly where it passes 2^63 - 1.
+-- The least common denominator, or Wide exactly if it is above 2^63 - 1.
 abbrev pub GivesCommon : Result ℕ Wide → List Fraction → Type 0
 GivesCommon (Ok l) fs = IsLeastCommon fs l × (l < 2 ^ 63)
 GivesCommon (Err w) fs = (l : ℕ) × (IsLeastCommon fs l) × (2 ^ 63 ≤ l)
 
--- The number over l, or Wide exactly where it passes 2^63 - 1.
+-- The number over l, or Wide exactly if it is above 2^63 - 1.
 abbrev pub GivesScaled : Result ℕ Wide → ℕ → Fraction → Type 0
 GivesScaled (Ok k) l f = IsScaled l f k × (k < 2 ^ 63)
 GivesScaled (Err w) l f = (k : ℕ) × (IsScaled l f k) × (2 ^ 63 ≤ k)

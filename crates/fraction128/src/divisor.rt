@@ -5,7 +5,7 @@ ghost use Rattle.fraction128.specs.LowestTerms.{IsLowest, IsOddPart, signed};
 // The greatest number that 64 bits hold.
 const MOST_SMALL: u128 = u64::MAX as u128;
 
-// The greatest common divisor, by Euclid's steps: at 128 bits only while the numbers need them.
+// The greatest common divisor, by Euclid's steps, in 128 bits only while the numbers need them.
 pub(crate) fn gcd(a: u128, b: u128) -> u128
     ensures { IsGcd a b result }
 {
@@ -29,7 +29,7 @@ pub(crate) fn gcd(a: u128, b: u128) -> u128
 pub fn greatest_common_divisor(a: u64, b: u64) -> u64
     ensures { IsGcd a b result }
 {
-    // by shifts in place of divisions: factors of 2 are taken off, and the fewer of them put back
+    // by shifts instead of divisions: factors of 2 are removed, and the fewer of them put back
     if a == 0 {
         return b;
     }
@@ -48,7 +48,7 @@ fn odd_part(n: u64) -> u64
     n >> n.trailing_zeros()
 }
 
-// The greatest common divisor of two odd numbers: what they differ by is even, so its factors of 2 are in neither.
+// The greatest common divisor of two odd numbers. Their difference is even, and its factors of 2 are in neither.
 fn gcd_odd(a: u64, b: u64) -> u64
     requires a_odd { a % 2 ≡ 1 }
     requires b_odd { b % 2 ≡ 1 }

@@ -15,7 +15,7 @@ pub fn one_answer()
     ensures quotient { (a b : Fraction) → IsForm a → b.num ≢ pos 0 → HasOneForm (IsQuotient a b) }
 {}
 
-/// Fractions stand in one order by value.
+/// Fractions are in one order, by value.
 pub fn order_is_total()
     ensures transitive { (a b c : Fraction) → IsForm a → IsForm b → IsForm c
         → IsAtMost a b → IsAtMost b c → IsAtMost a c }
@@ -24,7 +24,7 @@ pub fn order_is_total()
         → IsAtMost a b → IsAtMost b a → a ≡ b }
 {}
 
-/// There is one least common denominator, and where it or a number over it is too wide no other serves.
+/// There is one least common denominator. If it, or a number over it, is too wide, no other common denominator fits.
 pub fn least_decides()
     ensures exists { (fs : List Fraction) → All IsForm fs → (l : ℕ) × IsLeastCommon fs l }
     ensures one { (fs : List Fraction) (l m : ℕ) → IsLeastCommon fs l → IsLeastCommon fs m → l ≡ m }

@@ -1,6 +1,6 @@
-//! Exact fractions of two 64-bit parts. Each operation gives the exact value in lowest terms, or `Wide` exactly where those
-//! lowest terms don't fit. It forms the unreduced value in 128 bits, which always hold it, and divides once by the greatest
-//! common divisor. Nothing here takes memory but `scale`.
+//! Exact fractions of two 64-bit parts. Each operation gives the exact value in lowest terms, or `Wide` exactly if those lowest terms don't
+//! fit. It forms the unreduced value in 128 bits, which always hold it, and divides once by the greatest common divisor. Only `scale` takes
+//! memory.
 #![tactic(auto)]
 
 ghost use Rattle.std.specs.Prelude.{◌≡◌, ◌≢◌, ℕ, ◌<◌, ◌^◌, pos, ◌*ℤ◌, ◌≤ℤ◌, ◌<ℤ◌, neg_ℤ, unsigned_abs, IsTrue, ◌↔◌};
@@ -21,7 +21,7 @@ use divisor::{reduce, with_sign_of};
 pub use laws::{least_decides, one_answer, order_is_total};
 pub use scaling::{Scaled, ScalingError, common_denominator, scale};
 
-/// The exact value has no form: its lowest terms pass 2^63 - 1.
+/// The exact value has no form: a part of its lowest terms is above 2^63 - 1 in size.
 #[derive(Clone, Copy, Debug, PartialEq, Eq, Error)]
 #[error("the exact value passes 2^63 - 1 in lowest terms")]
 pub struct Wide;
@@ -56,7 +56,7 @@ impl Frac {
     ghost use Rattle.fraction128.specs.Gives.{Gives};
     ghost use Rattle.fraction128.specs.Order.{value_cmp};
 
-    /// num / den; Wide where its lowest terms don't fit.
+    /// num / den; Wide if its lowest terms don't fit.
     pub fn ratio(num: i128, den: i128) -> Result<Frac, Wide>
         requires { pos 1 ≤ℤ den }
         ensures { Gives result (IsSame (over num den)) }
@@ -68,7 +68,7 @@ impl Frac {
         Ok(Frac::of_parts(with_sign_of(num, top), bottom as i64))
     }
 
-    // The fraction of these very parts.
+    // The fraction of exactly these parts.
     fn of_parts(num: i64, den: i64) -> Frac
         requires { IsForm (over num den) }
         ensures { result ≡ over num den }
@@ -92,7 +92,7 @@ impl Frac {
         self.num
     }
 
-    /// The denominator, in lowest terms: from 1.
+    /// The denominator, in lowest terms: at least 1.
     pub fn den(self) -> i64
         ensures value { result ≡ self.den }
         ensures form { IsForm self }
@@ -100,28 +100,28 @@ impl Frac {
         self.den
     }
 
-    /// The sum; Wide where its lowest terms don't fit.
+    /// The sum; Wide if its lowest terms don't fit.
     pub fn add(self, other: Frac) -> Result<Frac, Wide>
         ensures { Gives result (IsSum self other) }
     {
         Frac::ratio(cross(self, other) + cross(other, self), dens(self, other))
     }
 
-    /// The difference; Wide where its lowest terms don't fit.
+    /// The difference; Wide if its lowest terms don't fit.
     pub fn sub(self, other: Frac) -> Result<Frac, Wide>
         ensures { Gives result (IsDifference self other) }
     {
         Frac::ratio(cross(self, other) - cross(other, self), dens(self, other))
     }
 
-    /// The product; Wide where its lowest terms don't fit.
+    /// The product; Wide if its lowest terms don't fit.
     pub fn mul(self, other: Frac) -> Result<Frac, Wide>
         ensures { Gives result (IsProduct self other) }
     {
         Frac::ratio(nums(self, other), dens(self, other))
     }
 
-    /// The quotient by a fraction that isn't 0; Wide where its lowest terms don't fit.
+    /// The quotient by a fraction that isn't 0; Wide if its lowest terms don't fit.
     pub fn div(self, other: Frac) -> Result<Frac, Wide>
         requires { other.num ≢ pos 0 }
         ensures { Gives result (IsQuotient self other) }

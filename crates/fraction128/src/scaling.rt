@@ -9,7 +9,7 @@ use crate::{Frac, MOST, Wide};
 use std::alloc::{AllocError, AllocFailed, Global};
 use thiserror::Error;
 
-/// Fractions over their least common denominator: each is its number over `den`. All are at most 2^63 - 1.
+/// Fractions over their least common denominator `den`: the numerator of each. All numbers are at most 2^63 - 1.
 #[derive(Debug, Drop)]
 pub struct Scaled {
     pub den: u64,
@@ -22,7 +22,7 @@ pub enum ScalingError {
     /// There is no memory for the numbers.
     #[error("there is no memory for the scaled numbers")]
     Memory,
-    /// The least common denominator, or a number over it, passes 2^63 - 1.
+    /// The least common denominator, or a number over it, is above 2^63 - 1.
     #[error("the least common denominator or a number over it passes 2^63 - 1")]
     Wide,
 }
@@ -57,7 +57,7 @@ impl From<Wide> for ScalingError {
     }
 }
 
-/// The least common denominator; Wide where it passes 2^63 - 1.
+/// The least common denominator; Wide if it is above 2^63 - 1.
 pub fn common_denominator(values: &[Frac]) -> Result<u64, Wide>
     ensures { GivesCommon result values.now }
 {
@@ -68,12 +68,12 @@ pub fn common_denominator(values: &[Frac]) -> Result<u64, Wide>
     common
 }
 
-// The least common denominator of some values and one more. It never falls, so once it is Wide it stays so.
+// The least common denominator of some values and one more. It never falls. So if it is Wide, it stays Wide.
 fn with_denominator(common: Result<u64, Wide>, value: Frac) -> Result<u64, Wide>
     ensures { (fs : List Fraction) → GivesCommon common fs → GivesCommon result (fs ++ value ∷ []) }
 {
     let den = value.den() as u128;
-    // a whole number asks for no greater one
+    // a whole number needs no greater denominator
     if den == 1 {
         return common;
     }
@@ -90,7 +90,7 @@ fn with_denominator(common: Result<u64, Wide>, value: Frac) -> Result<u64, Wide>
     }
 }
 
-// The number that a value is over a multiple of its denominator.
+// The numerator of a value over a multiple of its denominator.
 fn number_over(den: u64, value: Frac) -> Result<u64, Wide>
     requires small { den < 2 ^ 63 }
     requires multiple { unsigned_abs value.den ∣ den }
@@ -106,7 +106,7 @@ fn number_over(den: u64, value: Frac) -> Result<u64, Wide>
     }
 }
 
-/// The values over their least common denominator; Wide where that, or a number over it, passes 2^63 - 1.
+/// The values over their least common denominator; Wide if that, or a number over it, is above 2^63 - 1.
 pub fn scale(alloc: Global, values: &[Frac]) -> Result<Scaled, ScalingError>
     requires { All (λ f. pos 0 ≤ℤ f.num) values.now }
     ensures { Scales result values.now }

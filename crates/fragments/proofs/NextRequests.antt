@@ -5,11 +5,11 @@ use Rattle.std.proofs.Math.ListN.{get_or}
 use Rattle.std.proofs.lemmas.Bool.{cases_lt, cases_Bool, eqb-true}
 use Rattle.std.proofs.lemmas.List.{get_or_default}
 use Rattle.sporadic_model.proofs.Mapped.{list_any-map}
-use Rattle.fragments.specs.declared.columns.Fragment.{Fragment}
-use Rattle.fragments.specs.ColumnDef.{ColumnDef, column_seen, AreKnown}
+use Rattle.blocking_columns.specs.declared.columns.Fragment.{Fragment}
+use Rattle.blocking_columns.specs.ColumnDef.{ColumnDef, column_seen, AreKnown}
 use Rattle.fragments.specs.Constraints.{ConstraintDef, per, holds_some}
-use Rattle.fragments.specs.Stretches.{slot, slot_of, AreInOrder, BeginsAt, IsNextRequest, ArePast}
-use Rattle.fragments.proofs.Beginnings.{begins_here}
+use Rattle.blocking_columns.specs.Stretches.{slot, slot_of, AreInOrder, BeginsAt, IsNextRequest, ArePast}
+use Rattle.blocking_columns.proofs.Beginnings.{begins_here}
 use Rattle.fragments.proofs.Zeros.{none_above}
 
 resource_order : (x k p : ℕ) (cs : List Fragment) (e : Fragment) → p < length cs → (get_or cs p e).task.0 ≡ x

@@ -9,12 +9,12 @@ use Rattle.program_form.specs.SparseRows.{SparseRowsDef, full_row, AreCoefficien
 use Rattle.program_form.specs.declared.sparse_rows.Coefficient.{Coefficient}
 use Rattle.program_form.proofs.Coefficients.{number_past, number_push, number_push_other, coefficients_up}
 use Rattle.program_form.proofs.Coefficients.{coefficients_push, length_full_row, full_row_at}
-use Rattle.fragments.specs.declared.columns.Fragment.{Fragment}
-use Rattle.fragments.specs.ColumnDef.{column_seen}
+use Rattle.blocking_columns.specs.declared.columns.Fragment.{Fragment}
+use Rattle.blocking_columns.specs.ColumnDef.{column_seen}
 use Rattle.fragments.specs.Constraints.{ConstraintDef, holds_some, pushed_row}
 use Rattle.fragments.specs.NonzeroCoefficients.{with_nonzero, AreNonzeroOf, HasRowBegun}
 use Rattle.fragments.specs.SparseTaking.{HasSparseBehind}
-use Rattle.fragments.specs.Stretches.{IsStretch}
+use Rattle.fragments.specs.RowStretch.{IsStretch}
 use Rattle.fragments.proofs.Rows.{row_there}
 use Rattle.fragments.proofs.Zeros.{list_is_map}
 

@@ -4,10 +4,11 @@ use Rattle.std.proofs.Math.ListN.{get_or}
 use Rattle.std.proofs.lemmas.Bool.{cases_Bool, and_parts, eqb-true, ne_eqb, le-ltb}
 use Rattle.std.specs.List.{AllWithin}
 use Rattle.sporadic_model.proofs.Mapped.{list_any-map}
-use Rattle.fragments.specs.ColumnDef.{ColumnDef, column_seen, AreKnown}
+use Rattle.blocking_columns.specs.ColumnDef.{ColumnDef, column_seen, AreKnown}
 use Rattle.fragments.specs.Constraints.{ConstraintDef, holds_some}
-use Rattle.fragments.specs.declared.columns.Fragment.{Fragment}
-use Rattle.fragments.specs.Stretches.{slot, slot_of, BeginsAt, IsStretch}
+use Rattle.blocking_columns.specs.declared.columns.Fragment.{Fragment}
+use Rattle.blocking_columns.specs.Stretches.{slot, slot_of, BeginsAt}
+use Rattle.fragments.specs.RowStretch.{IsStretch}
 use Rattle.fragments.proofs.Zeros.{none_above}
 
 other_numbers : (a b c d : ℕ) → (a ≡ b → c ≡ d → ⊥) → ((a == b) && (c == d)) ≡ false

@@ -3,7 +3,7 @@ use Rattle.std.proofs.Common.{◌≡◌, ℕ, zero, suc, true, List, [], ◌∷�
 use Rattle.std.specs.Prelude.{slice_index}
 use Rattle.number_laws.specs.Sums.{collect_below}
 use Rattle.program_form.specs.RowBlock.{RowBlockDef}
-use Rattle.fragments.specs.ColumnDef.{ColumnDef}
+use Rattle.blocking_columns.specs.ColumnDef.{ColumnDef}
 use Rattle.fragments.specs.Constraints.{ConstraintDef, holds_some, with_rows, pushed_row}
 
 -- A row in which some column has a coefficient above zero adds its coefficients and its limit.

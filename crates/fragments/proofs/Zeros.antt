@@ -5,8 +5,8 @@ use Rattle.std.proofs.Math.ListN.{get_or}
 use Rattle.std.proofs.lemmas.Bool.{cases_lt}
 use Rattle.std.proofs.lemmas.List.Folds.{list_any_none}
 use Rattle.std.specs.List.{AllWithin, list_any}
-use Rattle.fragments.specs.declared.columns.Fragment.{Fragment}
-use Rattle.fragments.specs.ColumnDef.{column_seen}
+use Rattle.blocking_columns.specs.declared.columns.Fragment.{Fragment}
+use Rattle.blocking_columns.specs.ColumnDef.{column_seen}
 use Rattle.fragments.specs.Constraints.{ConstraintDef}
 
 -- Where all columns before the place p and from b on are zero in a row, and p isn't before b, none is above zero.

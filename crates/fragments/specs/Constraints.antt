@@ -3,7 +3,7 @@ use Rattle.std.specs.Prelude.{ℕ, Bool, nat_lt, List, [], ◌∷◌, ◌++◌, 
 use Rattle.std.specs.List.{filter, list_any}
 use Rattle.number_laws.specs.Sums.{collect_below, flag}
 use Rattle.program_form.specs.RowBlock.{RowBlockDef}
-use Rattle.fragments.specs.ColumnDef.{ColumnDef}
+use Rattle.blocking_columns.specs.ColumnDef.{ColumnDef}
 
 -- A row: each column's coefficient, and the limit where `bounds x` is task x's bound.
 pub record ConstraintDef : Type 0 where

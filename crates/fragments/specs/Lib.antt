@@ -1,15 +1,5 @@
-pub mod Asked
-pub mod HomeMarks
-pub mod Ceilings
-pub mod ColumnDef
-pub mod Columns
-pub mod Windows
 pub mod Constraints
+pub mod RowStretch
 pub mod Taking
 pub mod NonzeroCoefficients
 pub mod SparseTaking
-pub mod Stretches
-pub mod TaskPlaces
-pub mod Links
-pub mod ClassOrder
-pub mod Requested

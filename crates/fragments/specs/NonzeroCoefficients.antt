@@ -2,8 +2,8 @@
 use Rattle.std.specs.Prelude.{◌≡◌, ℕ, ◌<◌, ◌==◌, if◌then◌else◌, List, [], ◌∷◌, ◌++◌, slice_index_or}
 use Rattle.program_form.specs.SparseRows.{SparseRowsDef, number_at, AreCoefficients}
 use Rattle.program_form.specs.declared.sparse_rows.Coefficient.{Coefficient}
-use Rattle.fragments.specs.declared.columns.Fragment.{Fragment}
-use Rattle.fragments.specs.ColumnDef.{column_seen}
+use Rattle.blocking_columns.specs.declared.columns.Fragment.{Fragment}
+use Rattle.blocking_columns.specs.ColumnDef.{column_seen}
 use Rattle.fragments.specs.Constraints.{ConstraintDef}
 
 -- The list, and behind it the coefficient of the column at the place, if it isn't zero.

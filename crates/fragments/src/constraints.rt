@@ -3,12 +3,12 @@ ghost use Rattle.std.specs.List.{AllWithin, list_any};
 ghost use Rattle.program_form.specs.RowBlock.{block_seen};
 ghost use Rattle.sporadic_model.specs.SetDef.{SetDef};
 ghost use Rattle.program_sources.specs.Bounds.{AreWithinDeadlines};
-ghost use Rattle.fragments.specs.ColumnDef.{ColumnDef, column_seen, AreKnown};
+ghost use Rattle.blocking_columns.specs.ColumnDef.{ColumnDef, column_seen, AreKnown};
 ghost use Rattle.fragments.specs.Constraints.{ConstraintDef, pushed_row};
-ghost use Rattle.fragments.specs.Stretches.{IsStretch};
+ghost use Rattle.fragments.specs.RowStretch.{IsStretch};
 
-use crate::columns::Fragment;
 use crate::taking::RowTaker;
+use blocking_columns::Fragment;
 use program_form::RowBlock;
 use sporadic_model::{TaskId, TaskSet};
 use std::alloc::{AllocError, Global};

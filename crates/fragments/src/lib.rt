@@ -1,33 +1,23 @@
-//! The columns of blocking programs, the windows that bound their requests, and rows over them as data.
+//! Rows of blocking programs as data, the walks over them, and what takes rows. The columns and windows that they stand over are those
+//! of `blocking_columns`.
 #![tactic(auto)]
 
-mod class_order;
-mod columns;
 mod constraints;
-mod homes;
-mod linking;
-mod passing;
-mod places;
 mod single_rows;
 mod sparse_rows;
-mod stretches;
 mod taking;
 mod walks;
-mod windows;
 
-pub use class_order::classes_stand_in_order;
-pub use columns::{Class, Fragment, fragments, most_columns};
-pub use constraints::{Constraint, RowKind, add_row, add_row_limited, add_row_within};
-pub use homes::{asked_beside, blocks_at_home};
-pub use passing::{ColumnTest, fragments_where};
-pub use places::{ceiling_place, home, lower_local, share_processor, uses};
-pub use single_rows::{EachRequest, EachTask, RequestRow, TaskRow, add_row_of_task};
-pub use stretches::{
-    TaskPlace, columns_stand_in_order, passing_stand_in_order, requests_end, task_places,
+pub use blocking_columns::{
+    Class, ColumnTest, Fragment, TaskPlace, asked_beside, blocks_at_home, ceiling_place,
+    classes_stand_in_order, cnt, columns_stand_in_order, fragments, fragments_where, home, jobs,
+    lower_local, most_columns, passing_stand_in_order, requests_at, requests_end, requests_of,
+    share_processor, task_places, uses,
 };
+pub use constraints::{Constraint, RowKind, add_row, add_row_limited, add_row_within};
+pub use single_rows::{EachRequest, EachTask, RequestRow, TaskRow, add_row_of_task};
 pub use taking::{RowLimits, RowTaker};
 pub use walks::{
     PerNumber, PerRequest, PerTask, add_per_lower_task, add_per_number, add_per_request,
     add_per_request_at, add_per_task,
 };
-pub use windows::{cnt, jobs, requests_at, requests_of};

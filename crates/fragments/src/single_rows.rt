@@ -3,15 +3,15 @@
 ghost use Rattle.std.specs.Prelude.{◌≡◌, ℕ, ◌<◌, ◌≤◌, ◌==◌, ◌&&◌, false, List, [], ◌∷◌, map, length, OnOk, slice_index};
 ghost use Rattle.sporadic_model.specs.SetDef.{SetDef};
 ghost use Rattle.program_sources.specs.Bounds.{AreWithinDeadlines};
-ghost use Rattle.fragments.specs.ColumnDef.{ColumnDef, column_seen, AreKnown};
+ghost use Rattle.blocking_columns.specs.ColumnDef.{ColumnDef, column_seen, AreKnown};
 ghost use Rattle.fragments.specs.Constraints.{ConstraintDef};
-ghost use Rattle.fragments.specs.Stretches.{IsTaskStretch};
-ghost use Rattle.fragments.specs.Windows.{jobs_in};
+ghost use Rattle.blocking_columns.specs.Stretches.{IsTaskStretch};
+ghost use Rattle.blocking_columns.specs.Windows.{jobs_in};
 
-use crate::columns::Fragment;
 use crate::constraints::{RowKind, add_row_limited};
 use crate::taking::RowTaker;
 use crate::walks::{PerRequest, PerTask};
+use blocking_columns::Fragment;
 use sporadic_model::{ResourceId, TaskId, TaskSet};
 use std::alloc::{AllocError, Global};
 

@@ -3,9 +3,9 @@
 ghost use Rattle.std.specs.Prelude.{◌≡◌, ◌<◌, ◌^◌, List, [], ◌∷◌, ◌++◌, OnOk};
 ghost use Rattle.fragments.specs.NonzeroCoefficients.{with_nonzero};
 
-use crate::columns::Fragment;
 use crate::constraints::RowKind;
 use crate::taking::RowTaker;
+use blocking_columns::Fragment;
 use program_form::{Coefficient, SparseRows};
 use sporadic_model::{TaskId, TaskSet};
 use std::alloc::{AllocError, Global};

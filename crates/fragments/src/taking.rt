@@ -3,12 +3,12 @@
 ghost use Rattle.std.specs.Prelude.{◌≡◌, ℕ, ◌<◌, List, [], ◌∷◌, ◌++◌, true, false, map, length, OnOk, slice_index};
 ghost use Rattle.std.specs.List.{AllWithin};
 ghost use Rattle.sporadic_model.specs.SetDef.{SetDef};
-ghost use Rattle.fragments.specs.ColumnDef.{ColumnDef, column_seen, AreKnown};
+ghost use Rattle.blocking_columns.specs.ColumnDef.{ColumnDef, column_seen, AreKnown};
 ghost use Rattle.fragments.specs.Constraints.{ConstraintDef, holds_some};
-ghost use Rattle.fragments.specs.Stretches.{IsStretch};
+ghost use Rattle.fragments.specs.RowStretch.{IsStretch};
 
-use crate::columns::Fragment;
 use crate::constraints::{RowKind, push_kind};
+use blocking_columns::Fragment;
 use program_form::RowBlock;
 use sporadic_model::{TaskId, TaskSet};
 use std::alloc::{AllocError, Global};

@@ -4,17 +4,15 @@ ghost use Rattle.std.specs.Prelude.{◌≡◌, ℕ, ◌<◌, ◌≤◌, ◌+◌,
 ghost use Rattle.number_laws.specs.Sums.{collect_below};
 ghost use Rattle.sporadic_model.specs.SetDef.{SetDef};
 ghost use Rattle.program_sources.specs.Bounds.{AreWithinDeadlines};
-ghost use Rattle.fragments.specs.ColumnDef.{ColumnDef, column_seen, AreKnown};
+ghost use Rattle.blocking_columns.specs.ColumnDef.{ColumnDef, column_seen, AreKnown};
 ghost use Rattle.fragments.specs.Constraints.{ConstraintDef, per, per_pair};
-ghost use Rattle.fragments.specs.Stretches.{slot, AreInOrder, BeginsAt, IsTaskStretch, IsRequestStretch, IsNextRequest, ArePast};
-ghost use Rattle.fragments.specs.TaskPlaces.{ArePlaces};
-ghost use Rattle.fragments.specs.Windows.{jobs_in};
-ghost use Rattle.fragments.specs.declared.columns.Fragment.{Fragment};
+ghost use Rattle.blocking_columns.specs.Stretches.{slot, AreInOrder, BeginsAt, IsTaskStretch, IsRequestStretch, IsNextRequest, ArePast};
+ghost use Rattle.blocking_columns.specs.TaskPlaces.{ArePlaces};
+ghost use Rattle.blocking_columns.specs.Windows.{jobs_in};
+ghost use Rattle.blocking_columns.specs.declared.columns.Fragment.{Fragment};
 
-use crate::columns::Fragment;
-use crate::stretches::{TaskPlace, requests_end};
 use crate::taking::RowTaker;
-use crate::windows::jobs;
+use blocking_columns::{Fragment, TaskPlace, jobs, requests_end};
 use sporadic_model::{ResourceId, TaskId, TaskSet};
 use std::alloc::{AllocError, Global};
 

@@ -11,14 +11,14 @@ use Rattle.sporadic_model.specs.SetDef.{SetDef}
 use Rattle.sporadic_model.specs.Users.{is_user, count_of}
 use Rattle.sporadic_model.specs.Homes.{home_in}
 use Rattle.sporadic_model.specs.declared.ids.Protocol.TheVariants as protocol
-use Rattle.fragments.specs.declared.columns.Class.{Class}
-use Rattle.fragments.specs.declared.columns.Class.TheVariants as class
-use Rattle.fragments.specs.declared.columns.Fragment.{Fragment}
-use Rattle.fragments.specs.Ceilings.{ceiling_rank}
-use Rattle.fragments.specs.ColumnDef.{ColumnDef, column_seen, is_preemption}
-use Rattle.fragments.specs.Columns.{is_column, may_block, requests_beside, columns_of}
+use Rattle.blocking_columns.specs.declared.columns.Class.{Class}
+use Rattle.blocking_columns.specs.declared.columns.Class.TheVariants as class
+use Rattle.blocking_columns.specs.declared.columns.Fragment.{Fragment}
+use Rattle.blocking_columns.specs.Ceilings.{ceiling_rank}
+use Rattle.blocking_columns.specs.ColumnDef.{ColumnDef, column_seen, is_preemption}
+use Rattle.blocking_columns.specs.Columns.{is_column, may_block, requests_beside, columns_of}
 use Rattle.fragments.specs.Constraints.{holds_some}
-use Rattle.fragments.proofs.KnownColumns.{columns_pass, columns_known, all_mapped}
+use Rattle.blocking_columns.proofs.KnownColumns.{columns_pass, columns_known, all_mapped}
 use Rattle.indirect_constraints.specs.Asked.{IsAskedAtHome, AreAskedAtHome}
 use Rattle.indirect_constraints.specs.Rows.{home_row}
 

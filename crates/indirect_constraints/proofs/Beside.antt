@@ -1,4 +1,4 @@
--- Sums over the tasks beside a task, and a table in which one number is raised.
+-- Sums over the other tasks of a task's processor, and a table in which one number is raised.
 use Rattle.std.proofs.Common.{◌≡◌, ℕ, zero, suc, ◌+◌, ◌<◌, ◌==◌, ◌&&◌, Bool, true, false, nat_lt, List, length, set}
 use Rattle.std.proofs.Common.{refl, sym, ap, ◌∙◌, arith, inl, inr}
 use Rattle.std.specs.Prelude.{slice_index}
@@ -10,12 +10,12 @@ use Rattle.number_laws.proofs.SumLaws.{sum_below-agree}
 use Rattle.number_laws.proofs.CountLaws.{count_below-from, count_below-none}
 use Rattle.number_laws.proofs.TestLaws.{any_below-some, any_below-none}
 use Rattle.sporadic_model.specs.SetDef.{SetDef, task_at}
-use Rattle.fragments.specs.Columns.{have_one_processor}
+use Rattle.blocking_columns.specs.Columns.{have_one_processor}
 use Rattle.sporadic_model.specs.Users.{is_user, count_of}
 use Rattle.indirect_constraints.specs.Rows.{is_beside, lower_holdings}
 use Rattle.indirect_constraints.specs.Tables.{lower_user}
 
--- The sum of f's numbers of the tasks beside x, as far as those below n go.
+-- The sum of the numbers that f gives the other tasks of x's processor, over the tasks below n.
 abbrev pub sum_beside : SetDef → (ℕ → ℕ) → ℕ → ℕ → ℕ
 sum_beside set f n x = sum_below n (λ y. only_if (is_beside set x y) (f y))
 
@@ -25,7 +25,7 @@ other_below k y apart = elim (cases_Bool (nat_lt k y)) [
   | inr above ↦ le-ltb k (suc y) (omega (arith, ltb-false k y above, apart)) ∙ sym above
 ]
 
--- The sum over the tasks of a processor is that over the tasks beside one of them, and its own.
+-- The sum over the tasks of a processor is the sum over all but one of them, and that one's own number.
 pub beside_and_own : (set : SetDef) (x n : ℕ) (f : ℕ → ℕ)
     → sum_below n (λ y. only_if (have_one_processor set y x) (f y))
     ≡ sum_below n (λ y. only_if (is_beside set x y) (f y)) + only_if (nat_lt x n) (f x)
@@ -61,7 +61,7 @@ user_parts true false user = refl
 user_parts false true user = refl
 user_parts false false user = refl
 
--- A lower user is beside the task just where the sum of those beside it isn't zero.
+-- Another task of the processor is a lower user exactly if the sum over the others isn't zero.
 pub any_beside : (n : ℕ) (lower beside user : ℕ → Bool) → any_below n (λ y. lower y && (beside y && user y))
     ≡ nat_lt 0 (sum_below n (λ y. only_if (beside y) (flag (lower y && user y))))
 any_beside n lower beside user = any_counted n (λ y. lower y && (beside y && user y))
@@ -79,13 +79,13 @@ added_at table place number k l = elim (cases_eq place k) [
       rw (ne_eqb place k apart) (omega (arith, kept))
 ]
 
--- Numbers that agree have one sum beside a task.
+-- If numbers agree, so do their sums over the other tasks of a processor.
 pub beside_same : (set : SetDef) (f g : ℕ → ℕ) (m n x : ℕ) → m ≡ n → ((y : ℕ) → y < n → f y ≡ g y)
     → sum_beside set f m x ≡ sum_beside set g n x
 beside_same set f g m n x size each = rw size (sum_below-agree n (λ y. only_if (is_beside set x y) (f y))
     (λ y. only_if (is_beside set x y) (g y)) (λ y l. ap (only_if (is_beside set x y)) (each y l)))
 
--- Lower tasks beside x hold requests of q just where the sum of the users beside it isn't zero.
+-- Lower tasks beside x hold requests of q exactly if the sum of the users beside it isn't zero.
 pub lower_there : (set : SetDef) (i x q : ℕ)
     → lower_holdings set i x q ≡ only_if (nat_lt 0 (sum_beside set (lower_user set i q) (length set.tasks) x)) (count_of set i q)
 lower_there set i x q = ap (λ (b : Bool). only_if b (count_of set i q))

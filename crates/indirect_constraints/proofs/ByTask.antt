@@ -4,11 +4,11 @@ use Rattle.number_laws.specs.Sums.{sum_below, only_if}
 use Rattle.number_laws.proofs.SumLaws.{sum_below-agree, sum_below-plus, sum_below-swap, sum_below-zero}
 use Rattle.sporadic_model.specs.SetDef.{SetDef}
 use Rattle.sporadic_model.specs.Users.{is_user}
-use Rattle.fragments.specs.Windows.{requests_in}
+use Rattle.blocking_columns.specs.Windows.{requests_in}
 use Rattle.indirect_constraints.specs.Rows.{is_beside, higher_holdings, lower_holdings, holdings}
 use Rattle.indirect_constraints.specs.Tables.{awaited}
 
--- How many requests of all resources can the tasks beside x make that are higher than i?
+-- How many requests of all resources can those tasks beside x make that are higher than i?
 abbrev pub awaited_beside : SetDef → (ℕ → ℕ) → ℕ → ℕ → ℕ
 awaited_beside set bounds i x = sum_below i (λ y. only_if (is_beside set x y) (awaited set bounds i (length set.resources) y))
 
@@ -40,7 +40,7 @@ by_task m n u b g =
     (λ q h. only_if_both (u q) (b y) (g y q))
     ∙ sym (only_if_sum (b y) m (λ q. only_if (u q) (g y q)))))
 
--- The holdings beside a task are those of higher tasks, summed up by task, and those of lower ones.
+-- The holdings beside a task are those of higher tasks, added up by task, and those of lower ones.
 pub holdings_parts : (set : SetDef) (bounds : ℕ → ℕ) (i x : ℕ)
     → awaited_beside set bounds i x + sum_below (length set.resources) (λ q. only_if (is_user set q i) (lower_holdings set i x q))
     ≡ holdings set bounds i x

@@ -1,4 +1,4 @@
--- Sums over the users of a resource and over the resources of a task, which stand in lists.
+-- Sums over the users of a resource and over the resources of a task, which are lists.
 use Rattle.std.proofs.Common.{◌≡◌, ℕ, zero, suc, ◌+◌, ◌*◌, ◌<◌, ◌≤◌, ◌==◌, ◌&&◌, Bool, true, false, nat_lt, List, length, map, drop, get_or}
 use Rattle.std.proofs.Common.{refl, ap, ◌∙◌, arith, inl, inr}
 use Rattle.std.specs.List.{filter, sum_by}
@@ -13,8 +13,8 @@ use Rattle.sporadic_model.specs.SetDef.{SetDef, task_at}
 use Rattle.sporadic_model.specs.Users.{numbers, is_user, count_of, users_of, used_by}
 use Rattle.sporadic_model.specs.declared.ids.TaskId.{TaskId}
 use Rattle.sporadic_model.specs.declared.ids.ResourceId.{ResourceId}
-use Rattle.fragments.specs.Windows.{requests_in, jobs_in}
-use Rattle.fragments.proofs.KeptNumbers.{sum_of_kept}
+use Rattle.blocking_columns.specs.Windows.{requests_in, jobs_in}
+use Rattle.blocking_columns.proofs.KeptNumbers.{sum_of_kept}
 use Rattle.indirect_constraints.specs.Tables.{sum_on, lower_user}
 
 -- At most as many are kept as there are.
@@ -51,7 +51,7 @@ users_requests set bounds i k q ys same l =
     kept_at (λ (y : TaskId). y.0) ys (is_user set q) (λ y. requests_in set bounds i y q) (length set.tasks) k same l
     ∙ none_of_none (count_of set k q) (jobs_in set bounds i k)
 
--- Each of them stands there once.
+-- Each of them is there once.
 pub users_once : (set : SetDef) (k q most : ℕ) (ys : List TaskId)
     → map (λ (y : TaskId). y.0) ys ≡ users_of set q → k < length set.tasks
     → sum_by (λ (y : TaskId). only_if (y.0 == k) most) ys ≤ most

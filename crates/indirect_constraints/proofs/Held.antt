@@ -55,7 +55,7 @@ none_alone set i q x none =
     (nobody_on set i q (task_at set x).processor none)
     ∙ (ap (only_if (is_user set q x)) (only_if-nothing (nat_lt i x)) ∙ only_if-nothing (is_user set q x))
 
--- Some of all use it: the own one alone, or others beside it.
+-- If some task uses it, it is the own one alone, or another one beside it.
 alone_or_beside : (own : Bool) (beside all count : ℕ) → all ≡ beside + flag own
     → only_if (nat_lt 0 all) count ≡ only_if own (only_if (all == 1) count) + only_if (nat_lt 0 beside) count
 alone_or_beside true zero all count same = rw same (omega arith)

@@ -1,9 +1,9 @@
-//! How many requests that a job may wait for can be held beside each task.
+//! How many requests that a job may wait for can be held by other tasks on each task's processor.
 
 ghost use Rattle.std.specs.Prelude.{◌≡◌, ℕ, ◌+◌, ◌<◌, ◌≤◌, length, slice_index, IfOk, OnOk};
 ghost use Rattle.sporadic_model.specs.Users.{count_of};
 ghost use Rattle.program_sources.specs.Bounds.{AreWithinDeadlines};
-ghost use Rattle.fragments.specs.Windows.{requests_in};
+ghost use Rattle.blocking_columns.specs.Windows.{requests_in};
 ghost use Rattle.indirect_constraints.specs.Tables.{AreHoldings, AreSums, awaited, held_on, held_alone, lower_user, over_used};
 
 use crate::tables::{add_at, leave_own, sum_lower, sums_of, where_passed};
@@ -11,7 +11,7 @@ use fragments::cnt;
 use sporadic_model::{ResourceId, TaskId, TaskSet};
 use std::alloc::{AllocError, Global};
 
-// Adds the requests of `q` by each higher task to those of the resources before.
+// Adds the requests of `q` by each higher task to what the table has of other resources.
 fn add_requests_of(numbers: &mut [u64], set: &TaskSet, i: TaskId, q: ResourceId, bounds: &[u64])
     requires task { i.0 < length set.now.tasks }
     requires resource { q.0 < length set.now.resources }
@@ -31,7 +31,7 @@ fn add_requests_of(numbers: &mut [u64], set: &TaskSet, i: TaskId, q: ResourceId,
     }
 }
 
-// By task, how many requests that `i` may wait for can each higher one make while a job of `i` runs? Others have none.
+// For each task higher than `i`: how many requests that `i` may wait for can it make while a job of `i` runs? For each other task 0.
 fn awaited_of(
     alloc: Global,
     set: &TaskSet,
@@ -55,7 +55,7 @@ fn awaited_of(
     Ok(numbers)
 }
 
-// Adds to the number of each lower user of `q` that is alone on its processor what it holds there.
+// For each lower user of `q` that is alone on its processor: adds to its number the requests that it can hold there.
 fn add_alone(
     numbers: &mut [u64],
     set: &TaskSet,
@@ -82,8 +82,8 @@ fn add_alone(
     }
 }
 
-// Adds the requests of `q` that lower tasks can hold, by processor, and those that a task can hold there alone. The table of
-// users serves this alone, and is made anew.
+// Adds the requests of `q` that lower tasks can hold, by processor, and those that a task alone can hold there. The table of users is a
+// scratch table, and is made anew.
 fn add_lower(
     totals: &mut [u64],
     numbers: &mut [u64],
@@ -114,7 +114,7 @@ fn add_lower(
     }
 }
 
-// Adds those of all resources that `i` uses.
+// Adds the requests of all resources that `i` uses.
 fn add_all_lower(
     alloc: Global,
     totals: &mut [u64],
@@ -156,7 +156,7 @@ pub(crate) fn holdings_of(
 {
     // the processor of each task is one of the set's
     let _tasks = set.tasks();
-    // each task's number is the part of its processor's total that it has itself
+    // each task's number is its own part of its processor's total
     let mut numbers = awaited_of(alloc, set, i, bounds)?;
     let mut totals = sums_of(alloc, set, i, &numbers)?;
     add_all_lower(alloc, &mut totals, &mut numbers, set, i)?;

@@ -1,12 +1,12 @@
-//! The kinds of rows, each with its row for every task or processor.
+//! The kinds of rows. Each gives its row for every task or processor.
 
 ghost use Rattle.std.specs.Prelude.{◌≡◌, ◌<◌, ◌≤◌, ◌+◌, ◌&&◌, not, [], ◌∷◌, slice_index};
 ghost use Rattle.std.proofs.Common.{ap};
 ghost use Rattle.number_laws.specs.Sums.{flag};
-ghost use Rattle.fragments.specs.declared.columns.Class.TheVariants.{Indirect, Preemption};
-ghost use Rattle.fragments.specs.ColumnDef.{is_class};
-ghost use Rattle.fragments.specs.Stretches.{slot, BeginsAt};
-ghost use Rattle.fragments.specs.Windows.{all_requests};
+ghost use Rattle.blocking_columns.specs.declared.columns.Class.TheVariants.{Indirect, Preemption};
+ghost use Rattle.blocking_columns.specs.ColumnDef.{is_class};
+ghost use Rattle.blocking_columns.specs.Stretches.{slot, BeginsAt};
+ghost use Rattle.blocking_columns.specs.Windows.{all_requests};
 ghost use Rattle.indirect_constraints.specs.Asked.{AreAskedAtHome};
 ghost use Rattle.indirect_constraints.specs.Rows.{queue_row, holding_row, home_row};
 ghost use Rattle.indirect_constraints.specs.Tables.{AreHoldings};
@@ -17,7 +17,7 @@ use fragments::{
 use sporadic_model::{TaskId, TaskSet};
 use std::alloc::{AllocError, Global};
 
-/// Of a task: each request of the analysed task waits for at most one of the task's.
+/// Of a task: each request of the analysed task waits for at most one request of the task.
 #[derive(Drop)]
 pub(crate) struct Queues {
     /// How many requests a job of the analysed task can make.
@@ -40,10 +40,10 @@ impl TaskRow for Queues {
     }
 }
 
-/// Of a task: in each holding of another task on its processor it runs at most one request.
+/// Of a task: while another task of its processor holds a resource that the analysed task waits for, it runs at most one request.
 #[derive(Drop)]
 pub(crate) struct Holdings {
-    /// By task, how many requests that a job of the analysed task may wait for others can hold on its processor.
+    /// For each task: how many requests that a job of the analysed task may wait for can others hold on its processor.
     pub(crate) counts: Vec<u64>,
 }
 
@@ -63,7 +63,7 @@ impl TaskRow for Holdings {
     }
 }
 
-/// Of a processor: each request of the analysed task that runs there waits for at most one of lower tasks.
+/// Of a processor: each request of the analysed task that runs there waits for at most one request of a lower task.
 #[derive(Drop)]
 struct HomeRow {
     processor: u32,
@@ -85,10 +85,10 @@ impl RowKind for HomeRow {
     }
 }
 
-/// The rows of each processor's resources. No column is in one where the analysed task requests none of them.
+/// The rows of homes, one for each processor. If the analysed task requests none of its resources, no column is in its row.
 #[derive(Drop)]
 pub(crate) struct Homes {
-    /// The place where the columns of tasks lower than the analysed one begin.
+    /// Where the columns of tasks lower than the analysed one begin.
     pub(crate) from: usize,
 }
 

@@ -5,11 +5,11 @@ ghost use Rattle.std.specs.Prelude.{◌≡◌, ◌<◌, ◌+◌, map, length, sl
 ghost use Rattle.program_form.specs.RowBlock.{block_seen};
 ghost use Rattle.program_sources.specs.Bounds.{AreWithinDeadlines};
 ghost use Rattle.sporadic_model.specs.Homes.{HasHomesFor};
-ghost use Rattle.fragments.specs.ColumnDef.{column_seen, AreKnown};
-ghost use Rattle.fragments.specs.Columns.{columns_of};
+ghost use Rattle.blocking_columns.specs.ColumnDef.{column_seen, AreKnown};
+ghost use Rattle.blocking_columns.specs.Columns.{columns_of};
 ghost use Rattle.fragments.specs.Constraints.{per, block_of};
-ghost use Rattle.fragments.specs.Stretches.{AreInOrder};
-ghost use Rattle.fragments.specs.TaskPlaces.{ArePlaces};
+ghost use Rattle.blocking_columns.specs.Stretches.{AreInOrder};
+ghost use Rattle.blocking_columns.specs.TaskPlaces.{ArePlaces};
 ghost use Rattle.indirect_constraints.specs.Asked.{AreAskedAtHome};
 ghost use Rattle.indirect_constraints.specs.Rows.{queue_row, holding_row, home_row, indirect_rows};
 
@@ -73,7 +73,7 @@ fn add_holding_rows<T: RowTaker>(
     add_per_task(alloc, taker, &rows, set, i, bounds, columns, places)
 }
 
-// Adds the rows of each processor's resources.
+// Adds the row of homes of each processor.
 fn add_home_rows<T: RowTaker>(
     alloc: Global,
     taker: &mut T,
@@ -124,12 +124,13 @@ pub fn add_rows<T: RowTaker>(
     }
 }
 
-/// The rows of indirect blocking, where some column has a coefficient above zero in them.
+/// The rows of indirect blocking that have a coefficient above zero. It fails only for want of memory.
 ///
-/// Under FMLP+ for each task: its columns of direct and indirect blocking are at most as many as a job of `i` makes requests.
-/// Under MPCP for each task: its columns of indirect blocking are at most as many as other tasks of its processor hold
-/// requests that a job of `i` waits for. Under DPCP for each processor: the columns of lower tasks and of its resources, of
-/// direct and indirect blocking, are at most as many as a job of `i` requests these resources.
+/// - Under FMLP+ there is one for each task. Its requests of direct and indirect blocking are at most as many as a job of `i` makes.
+/// - Under MPCP there is one for each task. Its requests of indirect blocking are at most as many as the requests that a job of `i` may
+///   wait for and other tasks of its processor hold.
+/// - Under DPCP there is one for each processor. The requests of its resources by lower tasks, of direct and indirect blocking, are at most
+///   as many as a job of `i` makes of these resources.
 pub fn rows(
     alloc: Global,
     set: &TaskSet,

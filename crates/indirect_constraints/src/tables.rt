@@ -1,4 +1,4 @@
-//! A number for each task, and the sums of these by processor.
+//! Tables of a number for each task, and their sums by processor.
 
 ghost use Rattle.std.specs.Prelude.{◌≡◌, ℕ, ◌+◌, ◌<◌, ◌≤◌, ◌^◌, ◌==◌, length, slice_index, IfOk};
 ghost use Rattle.number_laws.specs.Sums.{only_if, sum_below};
@@ -19,7 +19,7 @@ pub(crate) fn add_at(table: &mut [u64], place: usize, number: u64)
     table[place] += number;
 }
 
-/// The number where the test is passed, else none.
+/// The number if the test is passed, and else 0.
 pub(crate) fn where_passed(passed: bool, number: u64) -> u64
     ensures { result ≡ only_if passed number }
 {
@@ -34,7 +34,7 @@ fn clear(table: &mut [u64])
     table.fill(0);
 }
 
-/// By processor, which are numbered from 1, the sum of the numbers of its tasks that are higher than `i`.
+/// For each processor, the sum of the numbers of its tasks that are higher than `i`. Processors are numbered from 1.
 pub(crate) fn sums_of(
     alloc: Global,
     set: &TaskSet,
@@ -56,8 +56,8 @@ pub(crate) fn sums_of(
     Ok(sums)
 }
 
-/// Puts into the table, by processor, how many lower tasks than `i` use `q`, and adds the count to the total of each processor
-/// that has one. Answers how many do in all.
+/// Puts into the table how many lower tasks than `i` on each processor use `q`. Adds the count to the total of each processor that has one.
+/// Answers how many such tasks there are in all.
 pub(crate) fn sum_lower(
     sums: &mut [u64],
     totals: &mut [u64],
@@ -94,7 +94,7 @@ pub(crate) fn sum_lower(
     all
 }
 
-/// Puts in place of each task's number what the sum of its processor is without it.
+/// Replaces each task's number by the sum of its processor less that number.
 pub(crate) fn leave_own(numbers: &mut [u64], set: &TaskSet, sums: &[u64])
     requires one_each { length numbers.old ≡ length set.now.tasks }
     requires sums { length sums.now ≡ set.now.processors + 1 }

@@ -13,8 +13,8 @@ use worked_sets::suits;
 /// A step's task, its value, and the number of its point of one column.
 type Step = (u64, u64, u64);
 
-/// Two tasks that share a resource, each on a processor of its own, of which the second has a deadline of 4. The first waits for the
-/// second one's request, and the second for the first one's: 3 + 2 and 4 + 1.
+/// Two tasks that share a resource, each on a processor of its own. The second has a deadline of 4. The first waits for the second one's
+/// request, and the second for the first one's: 3 + 2 and 4 + 1.
 const SECOND_SHORT: &str = r#"{"processors":2,"resources":[{"name":"q"}],"tasks":[
 {"name":"t1","processor":1,"period":10,"cost":3,"requests":[{"resource":"q","count":1,"length":1}]},
 {"name":"t2","processor":2,"period":10,"deadline":4,"cost":4,"requests":[{"resource":"q","count":1,"length":2}]}]}

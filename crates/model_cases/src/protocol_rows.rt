@@ -1,9 +1,9 @@
-use fragments::Class;
+use blocking_columns::Class;
 use sporadic_model::Protocol;
 use worked_sets::{BESIDE, EntryRow, SetRow, THREE, TaskRow, task_row};
 
-/// A task's program: the set, the protocol, the task and the bounds, and what is wanted: the columns with their costs, and
-/// the rows with their limits.
+/// A task's program: the set, the protocol, the task and the bounds. And what is expected: the columns with their costs, and the rows with
+/// their limits.
 pub(crate) struct Case {
     pub set: SetRow<'static>,
     pub protocol: Protocol,
@@ -31,10 +31,10 @@ pub(crate) const APART: SetRow = SetRow {
     tasks: &[task_row!(1, 20, 4, [(0, 1)]), task_row!(2, 20, 4, [(1, 2)])],
 };
 
-/// Paths: the fourth task requests the first resource, as two higher tasks and a lower one of the second processor do. The
-/// fifth task, which runs there too, requests the second resource, as the third task does, on the first processor. The
-/// second processor sees the third task as the ceiling of the second resource, and the fourth as that of the first. (The
-/// plain ceilings are the third task and the first, so by them there were no path.)
+/// Paths. The fourth task requests the first resource, as two higher tasks and a lower one of the second processor do. The fifth task,
+/// which runs there too, requests the second resource, as the third task does, on the first processor. The second processor sees the third
+/// task as the ceiling of the second resource, and the fourth as that of the first. (The plain ceilings are the third task and the first.
+/// By them there would be no path.)
 pub(crate) const PATHS: SetRow = SetRow {
     processors: 2,
     homes: &[None, None],
@@ -48,7 +48,7 @@ pub(crate) const PATHS: SetRow = SetRow {
     ],
 };
 
-/// The same, but the third task requests both resources, so that the second processor sees it as the ceiling of both.
+/// The same, but the third task requests both resources. So the second processor sees it as the ceiling of both.
 pub(crate) const LEVEL: SetRow = SetRow {
     processors: 2,
     homes: &[None, None],
@@ -62,7 +62,7 @@ pub(crate) const LEVEL: SetRow = SetRow {
     ],
 };
 
-/// The same, but the third task requests the first resource alone: the ceiling of the second is the fifth task.
+/// The same, but the third task requests only the first resource: the ceiling of the second is the fifth task.
 pub(crate) const BELOW: SetRow = SetRow {
     processors: 2,
     homes: &[None, None],
@@ -76,7 +76,7 @@ pub(crate) const BELOW: SetRow = SetRow {
     ],
 };
 
-/// Two tasks of one processor. The higher executes at most 2 of its 4 ticks outside requests.
+/// Two tasks of one processor. The higher executes at most 2 of its 4 ticks outside of requests.
 pub(crate) const LOCAL: SetRow = SetRow {
     processors: 2,
     homes: &[Some(2)],
@@ -104,7 +104,7 @@ const PATH_COLUMNS: &[(u32, u32, Class, u64)] = &[
     (5, 0, Class::Direct, 5),
 ];
 
-// Four rows of requests, four of time, lower holders of the first resource, and the holdings beside the fifth task: one
+// Four rows of requests, four of time, lower holders of the first resource, and the holdings of others on the fifth task's processor: one
 // request of each of the two higher tasks, and one that the sixth task holds when the fourth task's is issued.
 const PATH_ROWS: &[&[u64]] = &[
     &[1, 0, 0, 0],
@@ -180,7 +180,7 @@ pub(crate) const CASES: &[Case] = &[
         rows: &[],
         limits: &[],
     },
-    // a higher task's requests block whatever the ceiling; no row is of lower tasks
+    // a higher task's requests block whatever the ceiling is; there is no row of lower tasks
     Case {
         set: APART,
         protocol: Protocol::Dpcp,
@@ -229,8 +229,8 @@ pub(crate) const CASES: &[Case] = &[
         ],
         limits: &[1, 1, 1, 10, 10, 10, 1],
     },
-    // under FMLP+ for the second task beside: turns, and a queue of one request; two jobs of the third task, whose bounds
-    // sum to 24, run in the window
+    // under FMLP+ for the second task of the processor: turns, and a queue of one request; two jobs of the third task, whose bounds sum to
+    // 24, run in the window
     Case {
         set: BESIDE,
         protocol: Protocol::FmlpPlus,

@@ -3,9 +3,10 @@ ghost use Rattle.program_sources.specs.Bounds.{AreWithinDeadlines};
 
 use crate::protocol_rows::{CASES, Case, LOCAL, PATHS};
 use crate::threads::may_cross_threads;
+use blocking_columns::{Class, Fragment, TaskPlace, cnt, columns_stand_in_order, task_places};
 use closer_fmlp::CloserFmlpPlus;
 use closer_mpcp::CloserMpcp;
-use fragments::{Class, Fragment, TaskPlace, cnt, columns_stand_in_order, task_places};
+use closer_spin::CloserSpin;
 use program_form::{Coefficient, Program, RowBlock, SparseProgram};
 use protocol_programs::{ProgramSource, Written};
 use request_windows::DpcpWindows;
@@ -64,7 +65,7 @@ fn gives_the_columns(rt: HostRuntime) -> Result<(), Fail> {
         if case.task >= set.tasks() || !suits(&set, case.protocol) {
             return Err("out of range".into());
         }
-        let columns = fragments::fragments(alloc, &set, case.protocol, TaskId(case.task))?;
+        let columns = blocking_columns::fragments(alloc, &set, case.protocol, TaskId(case.task))?;
         assert!(rt; are_columns(&columns, case.columns));
     }
     Ok(())
@@ -165,9 +166,8 @@ fn counted(
     Err("out of range".into())
 }
 
-// At the bounds 4 and 9 two jobs of cost 2 count: the quotient of 9 + (4 - 2) and 10, rounded up, is 2. Of the task with a
-// local limit, at the bounds 6 and 9, two jobs: of its cost 4 under MPCP, where 9 + (6 - 4) is 11, and of its local limit 2
-// under DPCP, where 9 + (6 - 2) is 13.
+// At the bounds 4 and 9 two jobs of cost 2 count: 9 + (4 - 2) over 10, rounded up, is 2. Of the task with a local limit two jobs count at
+// the bounds 6 and 9: with its cost 4 under MPCP, where 9 + (6 - 4) is 11, and with its local limit 2 under DPCP, where 9 + (6 - 2) is 13.
 #[test]
 fn counts_the_interference(rt: HostRuntime) -> Result<(), Fail> {
     let alloc = rt.alloc();
@@ -200,7 +200,7 @@ fn gives_common_rows_and_those_of_preemption(rt: HostRuntime) -> Result<(), Fail
         return Err("out of range".into());
     }
     let (i, mpcp) = (TaskId(3), Protocol::Mpcp);
-    let columns = fragments::fragments(alloc, &set, mpcp, i)?;
+    let columns = blocking_columns::fragments(alloc, &set, mpcp, i)?;
     let common = direct_constraints::common(alloc, &set, mpcp, i, &PATH_BOUNDS, &columns)?;
     let limits = [1, 1, 1, 1, 10, 10, 10, 10];
     assert_eq!(rt; common.limits.as_slice(), limits.as_slice());
@@ -222,7 +222,7 @@ fn gives_the_places_of_tasks(rt: HostRuntime) -> Result<(), Fail> {
         return Err("out of range".into());
     }
     let (i, mpcp) = (TaskId(3), Protocol::Mpcp);
-    let columns = fragments::fragments(alloc, &set, mpcp, i)?;
+    let columns = blocking_columns::fragments(alloc, &set, mpcp, i)?;
     let columns = columns.as_slice();
     columns_stand_in_order(&set, mpcp, i, columns);
     let places = task_places(alloc, &set, i, &PATH_BOUNDS, columns)?;
@@ -248,7 +248,7 @@ fn gives_direct_and_indirect_rows(rt: HostRuntime) -> Result<(), Fail> {
         return Err("out of range".into());
     }
     let (i, mpcp) = (TaskId(3), Protocol::Mpcp);
-    let columns = fragments::fragments(alloc, &set, mpcp, i)?;
+    let columns = blocking_columns::fragments(alloc, &set, mpcp, i)?;
     let own = direct_constraints::own(alloc, &set, mpcp, i, &PATH_BOUNDS, &columns)?;
     assert!(rt; is_block(&own, &[&[0, 0, 0, 1]], &[1]));
     let indirect = indirect_constraints::rows(alloc, &set, mpcp, i, &PATH_BOUNDS, &columns)?;
@@ -256,7 +256,7 @@ fn gives_direct_and_indirect_rows(rt: HostRuntime) -> Result<(), Fail> {
     Ok(())
 }
 
-// The bounds 60 and 60 are more than a period of 100 together, so two jobs count.
+// The bounds 60 and 60 together are more than a period of 100, so two jobs count.
 #[test]
 fn counts_the_requests_in_a_window(rt: HostRuntime) -> Result<(), Fail> {
     let set = set_of(rt.alloc(), PATHS)?;
@@ -273,6 +273,7 @@ fn sources_may_cross_threads() {
     may_cross_threads(&Written(Protocol::Mpcp));
     may_cross_threads(&DpcpWindows);
     may_cross_threads(&CloserFmlpPlus);
+    may_cross_threads(&CloserSpin);
     may_cross_threads(&CloserMpcp);
     may_cross_threads(&(Class::Direct, TaskId(0)));
 }

@@ -8,8 +8,8 @@ use worked_sets::suits;
 
 const MOST: u64 = 1_000_000;
 
-/// Three tasks, each on a processor of its own, of which the first has a deadline of 7 ticks. The first two request both resources, the
-/// third the first one.
+/// Three tasks, each on a processor of its own. The first has a deadline of 7 ticks. The first two request both resources, and the third
+/// the first one.
 const SHORT_THREE: &str = r#"{"processors":3,"resources":[{"name":"q"},{"name":"r"}],"tasks":[
 {"name":"t1","processor":1,"period":100,"deadline":7,"cost":4,"requests":[{"resource":"q","count":1,"length":1},{"resource":"r","count":1,"length":1}]},
 {"name":"t2","processor":2,"period":100,"cost":4,"requests":[{"resource":"q","count":1,"length":3},{"resource":"r","count":1,"length":2}]},
@@ -19,7 +19,7 @@ const SHORT_THREE: &str = r#"{"processors":3,"resources":[{"name":"q"},{"name":"
 /// A step's task and value, and the denominator and numbers of its point.
 type Step<'a> = (u64, u64, u64, &'a [u64]);
 
-/// What is answered for the set of a text.
+/// The answer for the set of a text.
 fn answered(
     alloc: Global,
     text: &str,

@@ -50,7 +50,7 @@ fn three(alloc: Global, cost: u64) -> Result<TaskSet, Fail> {
     Ok(set_of(alloc, set)?)
 }
 
-/// With this cost of the first task: is it late with 11 ticks, and is the recurrence of the third one taken?
+/// With this cost of the first task: is it late with 11 ticks, and is the recurrence of the third one computed?
 fn first_and_third<R: Threads + Sync>(
     rt: &R,
     alloc: Global,

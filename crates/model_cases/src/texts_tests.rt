@@ -16,7 +16,7 @@ fn pieces_stand_in_their_columns(rt: HostRuntime) -> Result<(), Fail> {
     Ok(())
 }
 
-/// Digits, a range, and the number that they write in it.
+/// Digits, a range, and their number, if it is in the range.
 type Number = (&'static [u8], u64, u64, Option<u64>);
 
 const NUMBERS: &[Number] = &[

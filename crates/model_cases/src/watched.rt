@@ -1,4 +1,4 @@
-//! Sources of programs that tell which calls there were, and at which time.
+//! Sources of programs that record which calls there were, and when.
 
 use program_form::Program;
 use program_sources::ProgramSource;
@@ -9,8 +9,7 @@ use std::sync::atomic::{AtomicBool, Ordering};
 
 const MOST_TURNS: u64 = 1_000_000_000;
 
-/// What the first task and the others know of each other: whether the first call for one side has come, and whether it saw that of the
-/// other.
+/// What the first task and the others know of each other: has the first call for one side come, and did it see the other side's?
 #[derive(Clone, Copy)]
 pub struct Side<'a> {
     pub came: &'a AtomicBool,
@@ -29,10 +28,10 @@ pub struct Meeting<'a> {
 pub enum Watch<'a> {
     /// Those for programs meet.
     Programs(Meeting<'a>),
-    /// Those for the recurrence meet where it is taken at other bounds than these, with which the rounds begin: in a later round, once
-    /// its programs are solved.
+    /// The calls for the recurrence meet, if it is computed at other bounds than these, with which the rounds begin. That is in a later
+    /// round, after its programs are solved.
     Later(Meeting<'a>, &'a [u64]),
-    /// Whether the recurrence of this task is taken, which comes once its program is solved.
+    /// Whether the recurrence of this task is computed, which is after its program is solved.
     Taken(TaskId, &'a AtomicBool),
 }
 
@@ -81,7 +80,7 @@ impl Flags {
     }
 }
 
-// Notes that the one side has come, and looks for the other.
+// Notes that one side has come, and looks for the other.
 fn meet(one: Side<'_>, other: Side<'_>) {
     if one.came.swap(true, Ordering::SeqCst) {
         return;

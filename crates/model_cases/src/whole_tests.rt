@@ -40,7 +40,7 @@ fn runs_end_as_the_solver_answers(rt: HostRuntime) -> Result<(), AllocError> {
 #[test]
 fn numbers_over_one_denominator_are_large(rt: HostRuntime) -> Result<(), AllocError> {
     let alloc = rt.alloc();
-    // The last row would come over the product of four primes, which passes 2^79.
+    // The last row would be over the product of four primes, which is more than 2^79.
     let apart = SparseProgram::new(alloc, &FOUR_PRIMES.program(&rt, alloc)?)?;
     assert_eq!(rt; run_whole(alloc, &apart, 5).err(), Some(Halt::Large));
     // This run is wide for the solver too.
@@ -57,7 +57,7 @@ fn numbers_over_one_denominator_are_large(rt: HostRuntime) -> Result<(), AllocEr
     Ok(())
 }
 
-// Each number is at most so great in size.
+// Each number is at most this great in size.
 fn are_within(rt: &impl Abort, most: u64, nums: &[i64])
     ensures { (k : ℕ) → unsigned_abs (slice_index_or nums.now k (pos 0)) ≤ most }
 {
@@ -96,7 +96,7 @@ fn enter(rt: &impl Abort, row: &mut WholeRow, k: usize) {
     row.enter(k);
 }
 
-// Takes its cell at place k times a divided row away.
+// Subtracts a divided row times its own cell at place k.
 fn take(
     rt: &impl Abort,
     alloc: Global,

@@ -1,5 +1,5 @@
 use crate::protocol_tests::are_within;
-use fragments::uses;
+use blocking_columns::uses;
 use program_form::Certificate;
 use request_windows::{DpcpWindows, program, window};
 use response_fixpoint::{Verdict, analyse, analyse_with};
@@ -20,7 +20,7 @@ const PAIR: SetRow = SetRow {
     ],
 };
 
-/// The window of the second task's request, where these are the bounds.
+/// The window of the second task's request at these bounds.
 fn second_window(set: &TaskSet, bounds: &[u64]) -> Result<Option<u64>, Fail> {
     let (task, resource) = (TaskId(1), ResourceId(0));
     if set.tasks() == 2
@@ -34,8 +34,8 @@ fn second_window(set: &TaskSet, bounds: &[u64]) -> Result<Option<u64>, Fail> {
     Err("out of range".into())
 }
 
-// In two ticks one request of the first task can run beside the own one. With the bound 9 of the first, two can: 2 + 9 is more than a
-// period.
+// In two ticks one request of the first task can run besides the second task's own. With the bound 9 of the first, two can: 2 + 9 is more
+// than a period.
 #[test]
 fn finds_the_windows(rt: HostRuntime) -> Result<(), Fail> {
     let set = set_of(rt.alloc(), PAIR)?;
@@ -44,7 +44,7 @@ fn finds_the_windows(rt: HostRuntime) -> Result<(), Fail> {
     Ok(())
 }
 
-// The rows of requests and of time as under DPCP, with three jobs of the first task, and behind them the row of windows, with one.
+// The rows of requests and of time as under DPCP, with three jobs of the first task, and after them the row of windows, with one.
 #[test]
 fn limits_the_requests_by_windows(rt: HostRuntime) -> Result<(), Fail> {
     let alloc = rt.alloc();
@@ -64,7 +64,7 @@ fn limits_the_requests_by_windows(rt: HostRuntime) -> Result<(), Fail> {
     Ok(())
 }
 
-/// Does the certificate hold these bounds and duals of one, by their numerators?
+/// Has the certificate these bounds and duals of whole numbers, given by their numerators?
 fn holds(certificate: &Certificate, bounds: &[u64], numerators: &[&[u64]]) -> bool {
     certificate.bounds.as_slice() == bounds
         && certificate.duals.len() == numerators.len()

@@ -11,8 +11,8 @@ use Rattle.phase_machine.specs.Now.{phase_now, processor_now}
 abbrev pub task_now : MachineDef → ℕ → ℕ
 task_now m j = task_in m.list.jobs j
 
--- With what priority does a job on processor k run in this phase: that of the resource's ceiling as k sees it? The
--- number of tasks, which is below all, where it requests none.
+-- The priority of a job on processor k in this phase: the ceiling, as k sees it, of the resource that it requests. If it requests none, it
+-- is the number of tasks, which is below all of them.
 abbrev pub boost_at : SetDef → ℕ → Phase → ℕ
 boost_at set k (Asking n q) = unwrap_or (remote_ceiling_of set q k) (length set.tasks)
 boost_at set k _ = length set.tasks

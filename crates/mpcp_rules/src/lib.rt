@@ -1,4 +1,4 @@
-//! MPCP: requests are granted to the highest task, and holders run by the ceilings of what they hold.
+//! MPCP: requests are granted to the highest task, and holders run by the ceilings of the resources that they hold.
 #![tactic(auto)]
 
 mod programs;
@@ -38,7 +38,7 @@ impl Order for Mpcp {
         u64::from(machine.jobs().job(j).task.0)
     }
 
-    /// The ceiling of what the job requests, as its processor sees it.
+    /// The ceiling of the resource that the job requests, as its processor sees it.
     fn run_of(&self, machine: &Machine, j: JobId) -> u64 {
         let set = machine.jobs().set();
         match machine.phase(j) {
@@ -51,7 +51,7 @@ impl Order for Mpcp {
     ghost gives = { λ p. ceilings_give };
 }
 
-/// The ceiling of the resource as processor `k` sees it; the number of tasks where no task uses it.
+/// The ceiling of the resource as processor `k` sees it, and the number of tasks if no task uses it.
 fn boost(set: &TaskSet, q: ResourceId, k: u32) -> u64
     requires { q.0 < length set.now.resources }
     ensures { result ≡ unwrap_or (remote_ceiling_of set.now q.0 k) (length set.now.tasks) }

@@ -1,4 +1,4 @@
-//! The protocol's programs, as they are written down: so its sets are analysed, and its certificates are checked.
+//! The protocol's programs, those of `protocol_programs`. So its sets can be analysed, and its certificates checked.
 
 ghost use Rattle.sporadic_model.specs.declared.ids.Protocol.TheVariants as protocol;
 ghost use Rattle.schedule_model.specs.Protocols.{EachSetSuits};

@@ -40,6 +40,9 @@ named_charges_only name.Dflp w = dpcp_charge_blocked w
 named_charges_only name.Spin w = spin_charge_blocked w
 named_charges_only name.DpcpWindows w = dpcp_charge_blocked w
 named_charges_only name.FmlpPlusCloser w = shared_charge_blocked w
+named_charges_only name.SpinCloser w = spin_charge_blocked w
+named_charges_only name.DpcpCloser w = dpcp_charge_blocked w
+named_charges_only name.DflpCloser w = dpcp_charge_blocked w
 named_charges_only name.MpcpCloser w = shared_charge_blocked w
 
 named_charged : (p : ProtocolName) (w : Trace) (n t j : ℕ) → AreLawfulJobs (jobs_of w) → KeepsBefore (rules_of p) w n → t < n
@@ -58,6 +61,12 @@ named_charged name.DpcpWindows w n t j lawful keeps l blocked =
     let a = dpcp_is_charged w n t j lawful keeps l blocked in (a.charge, a.is_it)
 named_charged name.FmlpPlusCloser w n t j lawful keeps l blocked =
     let a = fmlp_is_charged w n t j lawful keeps l blocked in (a.charge, a.is_it)
+named_charged name.SpinCloser w n t j lawful keeps l blocked =
+    let a = spin_charges_blocked w n t j lawful keeps l blocked in (a.charge, a.is_it)
+named_charged name.DpcpCloser w n t j lawful keeps l blocked =
+    let a = dpcp_is_charged w n t j lawful keeps l blocked in (a.charge, a.is_it)
+named_charged name.DflpCloser w n t j lawful keeps l blocked =
+    let a = dflp_is_charged w n t j lawful keeps l blocked in (a.charge, a.is_it)
 named_charged name.MpcpCloser w n t j lawful keeps l blocked =
     let a = mpcp_is_charged w n t j lawful keeps l blocked in (a.charge, a.is_it)
 

@@ -5,9 +5,9 @@ use Rattle.std.proofs.lemmas.List.{length-map}
 use Rattle.std.proofs.lemmas.List.Elements.{All-head}
 use Rattle.sporadic_model.specs.SetDef.{SetDef}
 use Rattle.sporadic_model.specs.Users.{is_user, count_of}
-use Rattle.fragments.specs.ColumnDef.{ColumnDef, IsKnown}
-use Rattle.fragments.specs.Columns.{columns_where}
-use Rattle.fragments.proofs.KnownColumns.{passing_known, passing_pass}
+use Rattle.blocking_columns.specs.ColumnDef.{ColumnDef, IsKnown}
+use Rattle.blocking_columns.specs.Columns.{columns_where}
+use Rattle.blocking_columns.proofs.KnownColumns.{passing_known, passing_pass}
 use Rattle.program_laws.specs.Programs.{cost_of}
 use Rattle.response_fixpoint.specs.Runs.{RequestsNothing}
 

@@ -23,6 +23,9 @@ choice_one name.Dflp v w t same c d = dflp_choice_one v w t same c d
 choice_one name.Spin v w t same c d = spin_choice_one v w t same c d
 choice_one name.DpcpWindows v w t same c d = dpcp_choice_one v w t same c d
 choice_one name.FmlpPlusCloser v w t same c d = fmlp_plus_choice_one v w t same c d
+choice_one name.SpinCloser v w t same c d = spin_choice_one v w t same c d
+choice_one name.DpcpCloser v w t same c d = dpcp_choice_one v w t same c d
+choice_one name.DflpCloser v w t same c d = dflp_choice_one v w t same c d
 choice_one name.MpcpCloser v w t same c d = mpcp_choice_one v w t same c d
 
 pub named_simulated_once : (p : ProtocolName) (jobs : JobsDef) (n : ℕ) (a b : List RunDef) → IsSimulated (choice_of p) jobs n a

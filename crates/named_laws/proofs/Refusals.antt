@@ -12,6 +12,8 @@ use Rattle.dflp_laws.proofs.Programs.{dflp_rises}
 use Rattle.spin_charging.proofs.SpinPrograms.{spin_rises}
 use Rattle.window_laws.proofs.Programs.{windowed_rises}
 use Rattle.closer_laws.proofs.Programs.{fmlp_closer_rises}
+use Rattle.closer_spin_laws.proofs.Programs.{spin_closer_rises}
+use Rattle.closer_distributed_laws.proofs.Programs.{dpcp_closer_rises, dflp_closer_rises}
 use Rattle.closer_mpcp_laws.proofs.Programs.{mpcp_closer_rises}
 use Rattle.response_fixpoint.specs.Rounds.{NotShown, EndsIn}
 use Rattle.response_fixpoint.proofs.RunLaws.{CostsFit}
@@ -39,6 +41,9 @@ named_rises name.Dflp set = λ i r s here most. dflp_rises set i r s here most
 named_rises name.Spin set = λ i r s here most. spin_rises set i r s here most
 named_rises name.DpcpWindows set = λ i r s here most. windowed_rises set i r s here most
 named_rises name.FmlpPlusCloser set = λ i r s here most. fmlp_closer_rises set i r s here most
+named_rises name.SpinCloser set = λ i r s here most. spin_closer_rises set i r s here most
+named_rises name.DpcpCloser set = λ i r s here most. dpcp_closer_rises set i r s here most
+named_rises name.DflpCloser set = λ i r s here most. dflp_closer_rises set i r s here most
 named_rises name.MpcpCloser set = λ i r s here most. mpcp_closer_rises set i r s here most
 
 -- The costs of an accepted set are within its latest bounds.

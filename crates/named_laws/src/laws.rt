@@ -1,7 +1,7 @@
 //! What is so of the programs of every protocol. Each function is a law: it does nothing, and what it ensures holds for every name
 //! and every set.
 
-ghost use Rattle.std.specs.Prelude.{◌≡◌, ℕ, List, IsUtf8, Some};
+ghost use Rattle.std.specs.Prelude.{◌≡◌, ℕ, List, IsUtf8};
 ghost use Rattle.program_form.specs.Certificate.{CertificateDef};
 ghost use Rattle.program_sources.specs.Fitting.{AreFitting, ComesUpAbove};
 ghost use Rattle.program_sources.specs.Valid.{IsValid};
@@ -20,7 +20,7 @@ ghost use Rattle.schedule_model.specs.Keeping.{KeepsBefore};
 ghost use Rattle.sim_engine.specs.Simulated.{IsSimulated};
 ghost use Rattle.named_laws.specs.Audited.{AreProvedFigures};
 ghost use Rattle.clock_laws.specs.Whole.{is_whole};
-ghost use Rattle.named_laws.specs.Named.{source_of, choice_of, rules_of, plain_of, SoundUnder, SoundOnClocksUnder};
+ghost use Rattle.named_laws.specs.Named.{source_of, choice_of, rules_of, IsCloserThan, SoundUnder, SoundOnClocksUnder};
 ghost use Rattle.protocol_names.specs.Names.{word_of};
 ghost use Rattle.protocol_names.specs.declared.ProtocolName.{ProtocolName};
 
@@ -48,7 +48,7 @@ pub fn programs_rise()
 
 /// Bounds that fit under a protocol fit under each closer analysis of it.
 pub fn closer_analyses_raise_no_bound()
-    ensures { (closer plain : ProtocolName) (set : SetDef) (s : List ℕ) → plain_of closer ≡ Some plain
+    ensures { (closer plain : ProtocolName) (set : SetDef) (s : List ℕ) → IsCloserThan closer plain
         → AreFitting (source_of plain set) s → AreFitting (source_of closer set) s }
 {}
 

@@ -1,5 +1,4 @@
-ghost use Rattle.std.specs.Prelude.{◌≡◌, ℕ, ◌<◌, ◌≤◌, ◌↔◌, true, List, length, slice_index, slice_index_or, IfOk, IfErr, IsErrOf};
-ghost use Rattle.std.specs.List.{All};
+ghost use Rattle.std.specs.Prelude.{◌≡◌, ℕ, ◌≤◌, ◌↔◌, true, List, IfOk, IfErr, IsErrOf};
 ghost use Rattle.program_form.specs.Certificate.{certificate_seen};
 ghost use Rattle.sporadic_model.specs.declared.limits.TheConstants.{MOST_TICKS};
 ghost use Rattle.program_sources.specs.Fitting.{AreFitting};
@@ -13,21 +12,21 @@ ghost use Rattle.response_fixpoint.specs.Answers.{Answers, IsAnswerOf, IsRight, 
 ghost use Rattle.dual_check.specs.Answers.{HasDenominators, Judges};
 ghost use Rattle.schedule_answers.specs.Conforming.{Conforms};
 ghost use Rattle.sim_engine.specs.Simulated.{IsSimulated};
-ghost use Rattle.figure_laws.specs.Audited.{Audits, LieWithin, charged_ticks};
-ghost use Rattle.schedule_answers.specs.TaskAnswers.{no_figures};
-ghost use Rattle.figure_laws.specs.Figures.{blocked_sum, blocked_ticks};
+ghost use Rattle.figure_laws.specs.Audited.{IsAudited};
 ghost use Rattle.named_laws.specs.Named.{HasHomes, rules_of, choice_of, interference_of, charges_of, source_of, SoundUnder};
 
 use audit_figures::{AuditStop, TaskFigures, audit_rows_with};
+use closer_distributed::{CloserDflp, CloserDpcp};
 use closer_fmlp::CloserFmlpPlus;
 use closer_mpcp::CloserMpcp;
+use closer_spin::CloserSpin;
 use dflp_protocol::Dflp;
 use dual_check::{Invalid, Valid, check_with};
 use program_form::Certificate;
 use protocol_names::ProtocolName;
 use request_windows::DpcpWindows;
 use response_fixpoint::{Stop, Verdict, analyse_with};
-use schedule_model::{JobList, ListedRows, RowList, RowReader};
+use schedule_model::{JobList, RowList, RowReader};
 use sim_engine::simulate_with;
 use spin_protocol::Spin;
 use sporadic_model::TaskSet;
@@ -56,6 +55,9 @@ pub fn analyse<R: Threads + Sync>(
         ProtocolName::Spin => analyse_with(rt, alloc, set, &Spin, allowance),
         ProtocolName::DpcpWindows => analyse_with(rt, alloc, set, &DpcpWindows, allowance),
         ProtocolName::FmlpPlusCloser => analyse_with(rt, alloc, set, &CloserFmlpPlus, allowance),
+        ProtocolName::SpinCloser => analyse_with(rt, alloc, set, &CloserSpin, allowance),
+        ProtocolName::DpcpCloser => analyse_with(rt, alloc, set, &CloserDpcp, allowance),
+        ProtocolName::DflpCloser => analyse_with(rt, alloc, set, &CloserDflp, allowance),
         ProtocolName::MpcpCloser => analyse_with(rt, alloc, set, &CloserMpcp, allowance),
     }
 }
@@ -79,6 +81,9 @@ pub fn check(
         ProtocolName::Spin => check_with(alloc, &Spin, set, certificate),
         ProtocolName::DpcpWindows => check_with(alloc, &DpcpWindows, set, certificate),
         ProtocolName::FmlpPlusCloser => check_with(alloc, &CloserFmlpPlus, set, certificate),
+        ProtocolName::SpinCloser => check_with(alloc, &CloserSpin, set, certificate),
+        ProtocolName::DpcpCloser => check_with(alloc, &CloserDpcp, set, certificate),
+        ProtocolName::DflpCloser => check_with(alloc, &CloserDflp, set, certificate),
         ProtocolName::MpcpCloser => check_with(alloc, &CloserMpcp, set, certificate),
     }
 }
@@ -102,22 +107,11 @@ pub fn conform_rows<R: RowReader>(
         ProtocolName::Spin => conform_rows_with(alloc, &Spin, jobs, rows),
         ProtocolName::DpcpWindows => conform_rows_with(alloc, &DpcpWindows, jobs, rows),
         ProtocolName::FmlpPlusCloser => conform_rows_with(alloc, &CloserFmlpPlus, jobs, rows),
+        ProtocolName::SpinCloser => conform_rows_with(alloc, &CloserSpin, jobs, rows),
+        ProtocolName::DpcpCloser => conform_rows_with(alloc, &CloserDpcp, jobs, rows),
+        ProtocolName::DflpCloser => conform_rows_with(alloc, &CloserDflp, jobs, rows),
         ProtocolName::MpcpCloser => conform_rows_with(alloc, &CloserMpcp, jobs, rows),
     }
-}
-
-/// The same of a list of rows.
-pub fn conform(
-    alloc: Global,
-    protocol: ProtocolName,
-    jobs: &JobList,
-    rows: &RowList,
-) -> Result<Measured, Unlawful>
-    requires suits { HasHomes protocol jobs.now.set }
-    requires fits { is_fitting rows.now jobs.now ≡ true }
-    ensures { Conforms (rules_of protocol) (interference_of protocol) (trace_in jobs.now rows.now.runs) (ticks_of rows.now.runs) result }
-{
-    conform_rows(alloc, protocol, jobs, &mut ListedRows::new(rows))
 }
 
 /// The schedule that the protocol of this name chooses, as `simulate` of `sim_engine` makes it.
@@ -140,6 +134,9 @@ pub fn simulate(
         ProtocolName::Spin => simulate_with(alloc, &Spin, jobs, ticks),
         ProtocolName::DpcpWindows => simulate_with(alloc, &DpcpWindows, jobs, ticks),
         ProtocolName::FmlpPlusCloser => simulate_with(alloc, &CloserFmlpPlus, jobs, ticks),
+        ProtocolName::SpinCloser => simulate_with(alloc, &CloserSpin, jobs, ticks),
+        ProtocolName::DpcpCloser => simulate_with(alloc, &CloserDpcp, jobs, ticks),
+        ProtocolName::DflpCloser => simulate_with(alloc, &CloserDflp, jobs, ticks),
         ProtocolName::MpcpCloser => simulate_with(alloc, &CloserMpcp, jobs, ticks),
     }
 }
@@ -157,14 +154,8 @@ pub fn audit_rows<R: RowReader>(
     requires denominators { HasDenominators (certificate_seen certificate.now) }
     requires fits { is_fitting (R.rows rows.old) jobs.now ≡ true }
     requires start { R.at rows.old ≡ 0 }
-    ensures audits { Audits (rules_of protocol) (interference_of protocol) (charges_of protocol) (source_of protocol jobs.now.set)
+    ensures { IsAudited (rules_of protocol) (interference_of protocol) (charges_of protocol) (source_of protocol jobs.now.set)
         (certificate_seen certificate.now) (trace_in jobs.now (R.rows rows.old).runs) (ticks_of (R.rows rows.old).runs) result }
-    ensures within { IfOk result (λ v. All LieWithin v.items) }
-    ensures adds_up { IfOk result (λ v. (x : ℕ) → x < length jobs.now.set.tasks → charged_ticks (slice_index_or v.items x no_figures)
-        ≡ blocked_sum (interference_of protocol) (trace_in jobs.now (R.rows rows.old).runs) (slice_index certificate.now.bounds.items)
-        (ticks_of (R.rows rows.old).runs) x) }
-    ensures adds_up_to_all { IfOk result (λ v. (x : ℕ) → x < length jobs.now.set.tasks → charged_ticks (slice_index_or v.items x no_figures)
-        ≡ blocked_ticks (interference_of protocol) (trace_in jobs.now (R.rows rows.old).runs) (ticks_of (R.rows rows.old).runs) x) }
 {
     match protocol {
         ProtocolName::Base(base) => audit_figures::audit_rows(alloc, base, certificate, jobs, rows),
@@ -174,35 +165,9 @@ pub fn audit_rows<R: RowReader>(
         ProtocolName::FmlpPlusCloser => {
             audit_rows_with(alloc, &CloserFmlpPlus, certificate, jobs, rows)
         }
+        ProtocolName::SpinCloser => audit_rows_with(alloc, &CloserSpin, certificate, jobs, rows),
+        ProtocolName::DpcpCloser => audit_rows_with(alloc, &CloserDpcp, certificate, jobs, rows),
+        ProtocolName::DflpCloser => audit_rows_with(alloc, &CloserDflp, certificate, jobs, rows),
         ProtocolName::MpcpCloser => audit_rows_with(alloc, &CloserMpcp, certificate, jobs, rows),
     }
-}
-
-/// The same of a list of rows.
-pub fn audit(
-    alloc: Global,
-    protocol: ProtocolName,
-    certificate: &Certificate,
-    jobs: &JobList,
-    rows: &RowList,
-) -> Result<Vec<TaskFigures>, AuditStop>
-    requires homes { HasHomes protocol jobs.now.set }
-    requires denominators { HasDenominators (certificate_seen certificate.now) }
-    requires fits { is_fitting rows.now jobs.now ≡ true }
-    ensures audits { Audits (rules_of protocol) (interference_of protocol) (charges_of protocol) (source_of protocol jobs.now.set)
-        (certificate_seen certificate.now) (trace_in jobs.now rows.now.runs) (ticks_of rows.now.runs) result }
-    ensures within { IfOk result (λ v. All LieWithin v.items) }
-    ensures adds_up { IfOk result (λ v. (x : ℕ) → x < length jobs.now.set.tasks → charged_ticks (slice_index_or v.items x no_figures)
-        ≡ blocked_sum (interference_of protocol) (trace_in jobs.now rows.now.runs) (slice_index certificate.now.bounds.items)
-        (ticks_of rows.now.runs) x) }
-    ensures adds_up_to_all { IfOk result (λ v. (x : ℕ) → x < length jobs.now.set.tasks → charged_ticks (slice_index_or v.items x no_figures)
-        ≡ blocked_ticks (interference_of protocol) (trace_in jobs.now rows.now.runs) (ticks_of rows.now.runs) x) }
-{
-    audit_rows(
-        alloc,
-        protocol,
-        certificate,
-        jobs,
-        &mut ListedRows::new(rows),
-    )
 }

@@ -4,7 +4,7 @@
 mod calls;
 mod refusing;
 
-pub use calls::{analyse, audit, audit_rows, check, conform, conform_rows, simulate};
+pub use calls::{analyse, audit_rows, check, conform_rows, simulate};
 pub use named_laws::{
     figures_are_proved, programs_are_sound, programs_rise, refusals_are_right,
     rounds_give_refusals_that_hold, schedules_are_unique, words_are_texts,

@@ -9,8 +9,10 @@ ghost use Rattle.refusal_cert.specs.Steps.{refusal_of};
 ghost use Rattle.refusal_cert.specs.Answers.{Refutes, IsAnswerOf, FollowsAnalysis, IsRight};
 ghost use Rattle.named_laws.specs.Named.{HasHomes, source_of};
 
+use closer_distributed::{CloserDflp, CloserDpcp};
 use closer_fmlp::CloserFmlpPlus;
 use closer_mpcp::CloserMpcp;
+use closer_spin::CloserSpin;
 use dflp_protocol::Dflp;
 use protocol_names::ProtocolName;
 use protocol_programs::Written;
@@ -48,6 +50,9 @@ pub fn refute(
             &CloserFmlpPlus,
             allowance,
         ),
+        ProtocolName::SpinCloser => refusal_cert::refute(alloc, set, &CloserSpin, allowance),
+        ProtocolName::DpcpCloser => refusal_cert::refute(alloc, set, &CloserDpcp, allowance),
+        ProtocolName::DflpCloser => refusal_cert::refute(alloc, set, &CloserDflp, allowance),
         ProtocolName::MpcpCloser => refusal_cert::refute(alloc, set, &CloserMpcp, allowance),
     }
 }
@@ -91,6 +96,9 @@ pub fn confirm<R: Threads + Sync>(
             &CloserFmlpPlus,
             refusal,
         ),
+        ProtocolName::SpinCloser => refusal_confirm::confirm(rt, alloc, set, &CloserSpin, refusal),
+        ProtocolName::DpcpCloser => refusal_confirm::confirm(rt, alloc, set, &CloserDpcp, refusal),
+        ProtocolName::DflpCloser => refusal_confirm::confirm(rt, alloc, set, &CloserDflp, refusal),
         ProtocolName::MpcpCloser => refusal_confirm::confirm(rt, alloc, set, &CloserMpcp, refusal),
     }
 }

@@ -1,4 +1,4 @@
--- Comparisons over ℤ, and the total order of values that stand over positive weights, by cross products.
+-- Comparisons over ℤ, and the total order of values over positive weights, by cross products.
 use Rattle.std.proofs.Common.{◌≡◌, ◌⊎◌, inl, inr, ◌≤ℤ◌, ℤ, pos, ◌*ℤ◌, ◌<ℤ◌, ap, ap₂, ◌∙◌, sym, refl, arith}
 use Rattle.std.specs.declared.cmp.Ordering.TheVariants.{Less, Equal, Greater}
 use Rattle.std.specs.Ordering.{int_cmp}

@@ -100,7 +100,7 @@ count_below-one (suc n) p h = elim (cases_Bool (p n)) [
   | inr away ↦ omega (arith, flag-of_false (p n) away, count_below-one n p (λ i k l m a b. h i k (omega arith) (omega arith) a b))
 ]
 
--- A sum whose terms stand only where a test passes, each at most c, is at most c for each that passes.
+-- Take a sum whose terms are above 0 only where a test passes, and at most c. It is at most c for each number that passes.
 pub sum_below-counted : (n c : ℕ) (p : ℕ → Bool) (f : ℕ → ℕ) → ((k : ℕ) → k < n → f k ≤ flag (p k) * c)
     → sum_below n f ≤ count_below n p * c
 sum_below-counted n c p f h =

@@ -51,7 +51,7 @@ odd_apart_from_power (suc k) d odd = (
       (odd_apart_from_power k d odd).2 e p smaller,
 )
 
--- beside an odd number, factors of 2 add nothing to the greatest common divisor
+-- with an odd number, factors of 2 add nothing to the greatest common divisor
 pub gcd_of_doubled : (m y g k : ℕ) → y % 2 ≡ 1 → IsGcd m y g → IsGcd (m * 2 ^ k) y g
 gcd_of_doubled m y g k odd h = (
   dvd-mul_right_of_dvd g h.0 (2 ^ k),

@@ -1,4 +1,4 @@
--- The laws of sums split by slots: each number that counts has one of so many slots.
+-- The laws of sums split by slots: each number that counts has a slot.
 use Rattle.std.proofs.Common.{◌≡◌, ℕ, ◌*◌, ◌<◌, ◌≤◌, ◌==◌, Bool, refl, sym, ◌∙◌, arith, inl, inr}
 use Rattle.std.proofs.lemmas.Bool.{cases_lt, eq-eqb, ne_eqb}
 use Rattle.number_laws.specs.Sums.{sum_below, flag, only_if}

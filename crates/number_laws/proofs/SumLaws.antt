@@ -59,7 +59,7 @@ pub sum_below-times : (n c : ℕ) (f : ℕ → ℕ) → sum_below n (λ k. c * f
 sum_below-times zero c f = omega arith
 sum_below-times (suc n) c f = omega (arith, sum_below-times n c f, times_plus c (sum_below n f) (f n))
 
--- The same where the factor stands behind.
+-- The same with the factor on the right.
 pub sum_below-times_right : (n c : ℕ) (f : ℕ → ℕ) → sum_below n (λ k. f k * c) ≡ sum_below n f * c
 sum_below-times_right n c f =
     sum_below-agree n (λ k. f k * c) (λ k. c * f k) (λ k l. mul_comm (f k) c) ∙ sum_below-times n c f ∙ mul_comm c (sum_below n f)

@@ -45,7 +45,7 @@ pub total_below-times : (n : ℕ) (c : ℤ) (f : ℕ → ℤ) → total_below n 
 total_below-times zero c f = sym (*ℤ-zero c)
 total_below-times (suc n) c f = ap (λ x. x +ℤ (c *ℤ f n)) (total_below-times n c f) ∙ sym (times_sum c (total_below n f) (f n))
 
--- The same where the factor stands behind.
+-- The same with the factor on the right.
 pub total_below-times_right : (n : ℕ) (c : ℤ) (f : ℕ → ℤ) → total_below n (λ k. f k *ℤ c) ≡ total_below n f *ℤ c
 total_below-times_right n c f =
     total_below-agree n (λ k. f k *ℤ c) (λ k. c *ℤ f k) (λ k l. *ℤ_comm (f k) c) ∙ total_below-times n c f ∙ *ℤ_comm c (total_below n f)
@@ -99,7 +99,7 @@ only_at-away i x k h = rw (ne_eqb k i h) refl
 pub total_below-none : (n i : ℕ) (x : ℤ) → n ≤ i → total_below n (only_at i x) ≡ pos 0
 total_below-none n i x h = total_below-zero n (only_at i x) (λ k l. only_at-away i x k (λ e. omega arith))
 
--- A total of zeros but at one place below the bound is what stands there.
+-- A total of zeros, except at one place below the bound, is the number at that place.
 pub total_below-only : (n i : ℕ) (x : ℤ) → i < n → total_below n (only_at i x) ≡ x
 total_below-only zero i x h = absurd (omega arith)
 total_below-only (suc n) i x h = elim (cases_lt i n) [

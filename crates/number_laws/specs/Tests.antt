@@ -1,4 +1,4 @@
--- Tests of the whole numbers below a bound: how many pass, whether all do, whether one does, and which does first.
+-- Tests of the whole numbers below a bound: how many pass, whether all do, whether one does, and which is the first that does.
 use Rattle.std.specs.Prelude.{◌≡◌, refl, ℕ, zero, suc, Bool, true, false, ◌&&◌, ◌||◌, nat_lt, if◌then◌else◌, Option, None, Some}
 use Rattle.number_laws.specs.Sums.{sum_below, flag}
 
@@ -16,12 +16,12 @@ abbrev pub any_below : ℕ → (ℕ → Bool) → Bool
 any_below zero p = false
 any_below (suc n) p = any_below n p || p n
 
--- Which is the least number below n that passes p? It is n where there is none.
+-- The least number below n that passes p. It is n if there is none.
 abbrev pub first_below : ℕ → (ℕ → Bool) → ℕ
 first_below zero p = 0
 first_below (suc n) p = if nat_lt (first_below n p) n || p n then first_below n p else suc n
 
--- The least number below n that passes p, where there is one.
+-- The least number below n that passes p, if there is one.
 abbrev pub found_below : ℕ → (ℕ → Bool) → Option ℕ
 found_below n p = if nat_lt (first_below n p) n then Some (first_below n p) else None
 

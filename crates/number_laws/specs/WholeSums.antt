@@ -1,12 +1,12 @@
--- Sums of whole numbers, below zero too, over the natural numbers below a bound.
+-- Sums of integers, over the natural numbers below a bound.
 use Rattle.std.specs.Prelude.{◌≡◌, refl, ℕ, zero, suc, ℤ, pos, negsuc, ◌+ℤ◌, nat_eq, if◌then◌else◌}
 
--- What is f 0 + f 1 + .. + f (n - 1), over whole numbers?
+-- The sum f 0 + f 1 + .. + f (n - 1), of integers.
 abbrev pub total_below : ℕ → (ℕ → ℤ) → ℤ
 total_below zero f = pos 0
 total_below (suc n) f = total_below n f +ℤ f n
 
--- What is x at the place i, and zero at every other place?
+-- x at the place i, and zero at every other place.
 abbrev pub only_at : ℕ → ℤ → ℕ → ℤ
 only_at i x k = if nat_eq k i then x else pos 0
 

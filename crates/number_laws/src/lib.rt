@@ -1,8 +1,8 @@
-//! Sums, counts, tests and first places over the whole numbers below a bound, and laws of whole numbers: ring identities and order over
-//! the integers, Euclid's lemma.
+//! Sums, counts, tests and first places over the whole numbers below a bound. And laws of whole numbers: ring identities and order over the
+//! integers, and Euclid's lemma.
 //!
-//! What contracts and proofs of the other crates take from here are the definitions in `specs/` and the laws in `proofs/`. The functions
-//! compute each kind over a slice.
+//! Contracts and proofs of the other crates use the definitions in `specs/` and the laws in `proofs/`. The functions compute each kind over
+//! a slice.
 #![tactic(auto)]
 
 ghost use Rattle.std.specs.Prelude.{◌≡◌, ℕ, ◌^◌, ◌<◌, IsTrue, true, false, length, slice_index, slice_index_or, pos};
@@ -71,7 +71,7 @@ pub fn any(marks: &[bool]) -> bool
     false
 }
 
-/// The place of the first mark that is set, or their number where none is.
+/// The position of the first mark that is set, or their number if none is.
 pub fn first(marks: &[bool]) -> usize
     ensures { result ≡ first_below (length marks.now) (λ k. slice_index_or marks.now k false) }
 {

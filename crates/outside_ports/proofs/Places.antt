@@ -1,4 +1,4 @@
--- Where a file stands in a list of files, and what is left of it.
+-- Where a file is in a list of files, and what is left of it.
 use Rattle.std.proofs.Common.{◌≡◌, ℕ, ◌+◌, ◌<◌, ◌≤◌, List, [], true, length, get_or, drop, refl, sym, ap, ◌∙◌}
 use Rattle.std.proofs.Math.Seq.{drop-nil}
 use Rattle.std.proofs.lemmas.List.{drop_more, drop_all, drop-map, at_drop_more, at_drop_all}

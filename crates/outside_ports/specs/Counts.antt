@@ -1,11 +1,11 @@
--- Counts in a number of 64 bits that stays at its last value.
+-- Counts in 64 bits that stay at the last value.
 use Rattle.std.specs.Prelude.{ℕ, ◌+◌, ◌-◌, ◌^◌, ◌≤◌, ◌≡◌, min, refl}
 
--- What does a count read after one more?
+-- What is a count after one more?
 abbrev pub counted : ℕ → ℕ
 counted count = min (count + 1) (2 ^ 64 - 1)
 
--- Did the count rise, or does it stand at its last value?
+-- Did the count rise, or is it at the last value?
 abbrev pub Rose : ℕ → ℕ → Type 0
 Rose before now = counted before ≤ now
 

@@ -1,4 +1,4 @@
--- The limit that definitions take from the code, as a number.
+-- The value of a limit of the code that definitions use.
 use Rattle.std.specs.Prelude.{◌≡◌, refl}
 use Rattle.outside_ports.specs.declared.whole.TheConstants.{GREATEST_INPUT_BYTES}
 

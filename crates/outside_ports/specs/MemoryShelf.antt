@@ -33,12 +33,12 @@ abbrev pub found : Option (List ℕ) → Result (Unit {0}) ShelfFault
 found None = Err Absent
 found (Some bytes) = Ok tt
 
--- What does the next `start` answer? It fails where its number is listed, and else it looks for the name.
+-- What does the next `start` answer? It fails if its number is listed. Else it looks for the name.
 abbrev pub start_answer : MemoryShelf → List ℕ → Result (Unit {0}) ShelfFault
 start_answer shelf name = if fails_next shelf then Err Failed else found (bytes_of shelf.inputs name)
 
--- What does every call do to the shelf's counts? It is counted, and so is its fault exactly where its number is
--- listed; what was given to `new` stays.
+-- What does every call do to the shelf's counts? It is counted. Its fault is counted exactly if its number is listed. What was given to
+-- `new` stays.
 pub record CountsCall (old new : MemoryShelf) : Type 0 where
   pub inputs : new.inputs ≡ old.inputs
   pub piece : new.piece ≡ old.piece

@@ -5,16 +5,16 @@ use Rattle.outside_ports.specs.Names.{Inputs}
 use Rattle.outside_ports.specs.MemoryShelf.{MemoryShelf}
 use Rattle.outside_ports.specs.declared.memory_shelf.MemShelf.TheInside.{Inside}
 
--- the inputs that a list of files holds
+-- the inputs of a list of files
 abbrev pub inputs_of : List (String Global × Vec ℕ Global) → Inputs
 inputs_of files = map (λ file. (string_bytes file.0, file.1.items)) files
 
--- the bytes of the first input, none where there is no input
+-- the bytes of the first input, and none if there is no input
 abbrev pub first_bytes : Inputs → List ℕ
 first_bytes [] = []
 first_bytes (input ∷ inputs) = input.1
 
--- the bytes from `at` on of the input at a place; none past the last place
+-- the bytes of the input at a place, from `at` on, and none past the last place
 abbrev pub rest_at : Inputs → ℕ → ℕ → List ℕ
 rest_at inputs place at = drop at (first_bytes (drop place inputs))
 

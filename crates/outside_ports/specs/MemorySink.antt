@@ -17,7 +17,7 @@ pub record MemorySink : Type 0 where
 abbrev pub faults_next : MemorySink → Bool
 faults_next sink = list_any (λ number. number == counted sink.calls) sink.failing || (sink.room - length sink.bytes == 0)
 
--- How many more bytes will it take with no fault? None where some write may fail.
+-- How many more bytes will it take with no fault? None if some write may fail.
 abbrev pub room_left : MemorySink → ℕ
 room_left sink = if length sink.failing == 0 then sink.room - length sink.bytes else 0
 

@@ -1,4 +1,4 @@
--- What a note adds to the past.
+-- What a note adds to the history.
 use Rattle.std.specs.Prelude.{◌∷◌, ◌++◌}
 use Rattle.outside_ports.specs.Past.{Past, begun, unbegun, extended}
 use Rattle.outside_ports.specs.declared.history.Note.{Note}

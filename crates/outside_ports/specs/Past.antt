@@ -1,10 +1,10 @@
--- What a shelf was asked for and gave, and what a sink took. Only proofs read it.
+-- What a shelf was asked for and gave, and what a sink took. Only proofs read this.
 use Rattle.std.specs.Prelude.{◌≡◌, ℕ, ◌==◌, Bool, true, false, List, [], ◌∷◌, ◌++◌, length, Option, Some, None, codes, refl}
 use Rattle.outside_ports.specs.declared.shelf.ShelfFault.{ShelfFault}
 use Rattle.outside_ports.specs.declared.shelf.ShelfFault.TheVariants.{Absent}
 
--- One start of an input: its name; why it wasn't started, where it wasn't; the bytes that reads gave since; and whether the last of
--- these reads gave none, which is the input's end.
+-- One start of an input: its name; why it wasn't started, if it wasn't; the bytes that reads gave since; and whether the last of these
+-- reads gave none, which is the input's end.
 pub record Asked : Type 0 where
   pub name : List ℕ
   pub fault : Option ShelfFault
@@ -27,12 +27,12 @@ wholly name bytes = record { name = name; fault = None; bytes = bytes; ended = t
 abbrev pub partly : List ℕ → List ℕ → Asked
 partly name bytes = record { name = name; fault = None; bytes = bytes; ended = false }
 
--- What are the readings after one more read? Its bytes belong to the start that came last, and no bytes are the end.
+-- The readings after one more read. Its bytes belong to the last start. If there are none, it is the end.
 abbrev pub extended : List Asked → List ℕ → List Asked
 extended [] bytes = []
 extended (asked ∷ earlier) bytes = record asked { bytes = asked.bytes ++ bytes; ended = length bytes == 0 } ∷ earlier
 
--- The readings of a shelf, of which the last one stands first, and the bytes that a sink took.
+-- The readings of a shelf, the last one first, and the bytes that a sink took.
 pub record Past : Type 0 where
   pub readings : List Asked
   pub written : List ℕ

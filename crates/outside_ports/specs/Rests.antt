@@ -1,4 +1,4 @@
--- The rest of a started input, where a shelf tells it.
+-- The rest of a started input, if a shelf tells it.
 use Rattle.std.specs.Prelude.{ℕ, ◌<◌, List, length, Option, Some, None}
 
 -- Has the rest more bytes than the limit?

@@ -12,10 +12,10 @@ use crate::opener::Opener;
 use crate::shelf::{Shelf, ShelfFault};
 use std::io::{self, ErrorKind, Read};
 
-/// The files that an opener opens, named by their paths. It tells no content and counts no calls.
+/// The files that an opener opens, named by their paths. It doesn't tell their content, and counts no calls.
 ///
-/// A call makes at most one opening, of the path that it was asked for, or one read of the file that is open. Each error
-/// raises the count of faults, but for want of memory at an opening.
+/// A call makes at most one opening, of the path that you asked for, or one read of the open file. Each error raises the count of faults,
+/// except for want of memory at an opening.
 #[derive(Drop)]
 pub struct FileShelf<O: Opener + Drop> {
     opener: O,
@@ -26,7 +26,7 @@ pub struct FileShelf<O: Opener + Drop> {
 }
 
 impl<O: Opener + Drop> FileShelf<O> {
-    /// A shelf on which nothing is started.
+    /// A shelf on which no file is started.
     pub fn new(opener: O) -> FileShelf<O>
         ensures calm { (⟦<FileShelf<O> as Shelf>⟧.seen result).faults ≡ 0 }
         ensures unread { (⟦<FileShelf<O> as Shelf>⟧.seen result).readings ≡ [] }
@@ -62,7 +62,7 @@ impl<O: Opener + Drop> Shelf for FileShelf<O> {
         self.take(name, opening)
     }
 
-    /// Each read is one read of the started file, and each error of it is counted.
+    /// Each read is one read of the started file. Each error of it is counted.
     fn read(&mut self, buffer: &mut [u8]) -> Result<usize, ShelfFault>
         requires { 0 < length buffer.old }
         ensures gives { FollowsRead O.File.remaining self.old.file self.new.file result buffer.new }
@@ -93,8 +93,8 @@ impl<O: Opener + Drop> Shelf for FileShelf<O> {
 }
 
 impl<O: Opener + Drop> FileShelf<O> {
-    /// Takes what an opening answered: its file is started, and after an error none is. None of it has been given yet. An
-    /// error is counted, but for want of memory.
+    /// Takes the answer of an opening. Its file is started, and none of it has been given yet. After an error no file is started. The error
+    /// is counted, except for want of memory.
     fn take(&mut self, name: &str, opening: io::Result<O::File>) -> Result<(), ShelfFault>
         ensures answer { result ≡ opening_answer opening }
         ensures file { self.new.file ≡ opened_file opening }
@@ -123,7 +123,7 @@ impl<O: Opener + Drop> FileShelf<O> {
     }
 }
 
-/// What an opening that the system refused means.
+/// The fault for an opening that the system refused.
 fn fault_of(error: &io::Error) -> ShelfFault
     ensures { result ≡ fault_by (error_kind error.now) }
 {

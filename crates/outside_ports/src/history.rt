@@ -21,8 +21,8 @@ pub(crate) enum Note<'a> {
     Took(&'a [u8]),
 }
 
-/// All calls of a port so far. Nothing ties it to memory, so it says something only of code that is generic over the
-/// traits of the ports, and only the ports write it.
+/// All calls of a port so far. Nothing ties it to memory. So it says something only of code that is generic over the traits of the ports.
+/// Only the ports write it.
 #[derive(Drop)]
 pub(crate) struct History {
     ghost past: { Past },
@@ -48,7 +48,7 @@ impl History {
         History {}
     }
 
-    /// This history and one more start, which was answered so.
+    /// This history and one more start, which had this answer.
     pub(crate) fn with_start(&self, name: &str, answer: &Result<(), ShelfFault>) -> History
         ensures asks { AsksFor self.now.past.readings result.past.readings name.now answer.now }
     {

@@ -1,5 +1,5 @@
-//! The outside of the program as two traits: a shelf from which named inputs are read, and a sink to which text is
-//! written. Each has an implementation over the system and one in memory whose faults are chosen by the caller.
+//! The outside of the program as two traits: a shelf, from which named inputs are read, and a sink, to which text is written. Each has an
+//! implementation over the system, and one in memory whose faults you choose.
 #![tactic(auto)]
 
 mod file_shelf;

@@ -13,8 +13,7 @@ use crate::history::{History, Note};
 use crate::shelf::{Shelf, ShelfFault};
 use std::marker::Model;
 
-/// A shelf in memory, whose faults the caller has chosen. It tells all that a shelf can tell, and its calls take no
-/// memory.
+/// A shelf in memory, whose faults you choose. It tells all that a shelf can tell, and its calls take no memory.
 #[derive(Drop)]
 pub struct MemShelf {
     files: Vec<(String, Vec<u8>)>,
@@ -23,7 +22,7 @@ pub struct MemShelf {
     calls: u64,
     faults: u64,
     given: u64,
-    // the started input, or the number of files where nothing is started
+    // the started input, or the number of files if none is started
     place: usize,
     at: usize,
     history: History,
@@ -43,8 +42,8 @@ impl Model for MemShelf {
 }
 
 impl MemShelf {
-    /// A shelf with these files, of which the first of equal names counts. A read gives at most `piece` bytes. The
-    /// calls of `start` and `read` are counted together from 1, and those whose numbers are in `failing` fail.
+    /// A shelf with these files. If two have the same name, the first counts. A read gives at most `piece` bytes. The calls of `start` and
+    /// `read` are counted together, from 1. The calls whose numbers are in `failing` fail.
     pub fn new(files: Vec<(String, Vec<u8>)>, piece: usize, failing: Vec<u64>) -> MemShelf
         requires { 0 < piece }
         ensures { result ≡ record {
@@ -88,8 +87,8 @@ impl Shelf for MemShelf {
 
     ghost tells_rest = { λ s told. told };
 
-    /// `Failed` comes exactly where the number of this call is in `failing`, `Absent` exactly where else no file has
-    /// the name, and `Memory` never.
+    /// `Failed` comes exactly if the number of this call is in `failing`. Else `Absent` comes exactly if no file has the name. `Memory`
+    /// never comes.
     fn start(&mut self, name: &str) -> Result<(), ShelfFault>
         ensures counts { CountsCall self.old self.new }
         ensures answer { result ≡ start_answer self.old name.now }
@@ -129,8 +128,8 @@ impl Shelf for MemShelf {
         answer
     }
 
-    /// `Failed` comes exactly where the number of this call is in `failing`. Any other call gives the least of
-    /// `piece`, the buffer's length and the length of the rest.
+    /// `Failed` comes exactly if the number of this call is in `failing`. Any other call gives as many bytes as the least of `piece`, the
+    /// buffer's length and the length of the rest.
     fn read(&mut self, buffer: &mut [u8]) -> Result<usize, ShelfFault>
         requires { 0 < length buffer.old }
         ensures counts { CountsCall self.old self.new }
@@ -177,7 +176,7 @@ fn place_of(files: &[(String, Vec<u8>)], name: &str) -> Option<usize>
     None
 }
 
-/// The bytes from `at` on of the file at a place, and none past the last file.
+/// The bytes of the file at a place, from `at` on, and none past the last file.
 fn rest_from(files: &[(String, Vec<u8>)], place: usize, at: usize) -> &[u8]
     ensures bytes { result.now ≡ rest_at (inputs_of files.now) place at }
     ensures fits { at + length result.now < 2 ^ 64 }

@@ -9,7 +9,7 @@ use crate::sink::{Sink, SinkFault};
 use std::alloc::{AllocError, Global};
 use std::marker::Model;
 
-/// A sink in memory, whose faults the caller has chosen. It tells its bytes, and it takes all its memory in `new`.
+/// A sink in memory, whose faults you choose. It tells its bytes, and takes all its memory in `new`.
 #[derive(Drop)]
 pub struct MemSink {
     bytes: Vec<u8>,
@@ -33,8 +33,8 @@ impl Model for MemSink {
 }
 
 impl MemSink {
-    /// A sink with room for so many bytes, of which a write takes at most `piece`. The writes are counted from 1, and
-    /// those whose numbers are in `failing` fail, as does each write to a full sink.
+    /// A sink with room for this many bytes. A write takes at most `piece` bytes. The writes are counted from 1. The writes whose numbers
+    /// are in `failing` fail, and so does each write to a full sink.
     pub fn new(
         alloc: Global,
         room: usize,
@@ -72,7 +72,7 @@ impl Sink for MemSink {
       room = room_left s;
     } };
 
-    /// A fault exactly where the number of this write is in `failing` or the room is full. Any other write takes the
+    /// A fault comes exactly if the number of this write is in `failing`, or the room is full. Any other write takes as many bytes as the
     /// least of `piece`, the length of the given bytes and the room that is left.
     fn write(&mut self, piece: &[u8]) -> Result<usize, SinkFault>
         requires { 0 < length piece.now }

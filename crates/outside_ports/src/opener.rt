@@ -5,7 +5,7 @@ use std::io::Read;
 use std::rt::Files;
 use std::{fs, io};
 
-/// What opens files by their paths.
+/// A trait of what opens files by their paths.
 ///
 /// `opens` relates a path to what this opener may answer to it. So a contract that cites it says which path was opened.
 pub trait Opener {
@@ -13,13 +13,12 @@ pub trait Opener {
 
     ghost opens: { Self → List ℕ → Result Self.File Error → Type 0 };
 
-    /// Opens the file at this path, to be read.
+    /// Opens the file at this path for reading.
     fn open(&self, path: &str) -> io::Result<Self::File>
         ensures { opens self.now path.now result };
 }
 
-/// The files of the system. No clause can say of them that the path is the one that was asked for: that is read in the
-/// one line of `open`.
+/// The files of the system. No clause can say that the system opened the path that it was asked for. You see it in the one line of `open`.
 #[derive(Drop)]
 pub struct SystemFiles<'a, R: Files> {
     runtime: &'a R,

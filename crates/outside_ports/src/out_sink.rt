@@ -7,10 +7,9 @@ use crate::history::{History, Note};
 use crate::sink::{Sink, SinkFault};
 use std::io::{self, Write};
 
-/// A writer, as the standard output. It tells the bytes that the writer took, and counts no writes.
+/// A writer, such as standard output. It tells the bytes that the writer took, and counts no writes.
 ///
-/// A call makes at most one write of the writer. An error of it, or a write that took no byte, raises the count of
-/// faults.
+/// A call makes at most one write of the writer. An error of that write raises the count of faults, and so does a write that took no byte.
 #[derive(Drop)]
 pub struct OutSink<W: Write + Drop> {
     out: W,
@@ -35,8 +34,7 @@ impl<W: Write + Drop> OutSink<W> {
 impl<W: Write + Drop> Sink for OutSink<W> {
     ghost seen = { λ s. record { written = Some s.history.past.written; faults = s.faults; calls = 0; room = 0 } };
 
-    /// Each write hands this very piece to the writer (`passes`). A write that took no byte is a fault, and each fault is
-    /// counted.
+    /// Each write passes exactly this piece to the writer (`passes`). A write that took no byte is a fault. Each fault is counted.
     fn write(&mut self, piece: &[u8]) -> Result<usize, SinkFault>
         requires { 0 < length piece.now }
         ensures counts { self.new.faults ≡ faults_called self.old.faults result }
@@ -49,7 +47,7 @@ impl<W: Write + Drop> Sink for OutSink<W> {
         ensures failed { OnErr result (Rose self.old.faults self.new.faults) }
     {
         let answer = self.out.write(piece);
-        let result = counted(answer);
+        let result = bytes_taken(answer);
         match result {
             Ok(count) => self.history = self.history.with(&Note::Took(&piece[..count])),
             Err(SinkFault) => self.faults = self.faults.saturating_add(1),
@@ -58,8 +56,8 @@ impl<W: Write + Drop> Sink for OutSink<W> {
     }
 }
 
-/// What a write of the writer comes to. One that took no byte is a fault.
-fn counted(answer: io::Result<usize>) -> Result<usize, SinkFault>
+/// The answer for a write of the writer. One that took no byte is a fault.
+fn bytes_taken(answer: io::Result<usize>) -> Result<usize, SinkFault>
     ensures { FollowsWrite answer result }
 {
     match answer {

@@ -10,7 +10,7 @@ ghost use Rattle.outside_ports.specs.declared.shelf.ShelfFault.{ShelfFault};
 
 use thiserror::Error;
 
-/// Why a shelf gave no input, or no byte of one.
+/// Why a shelf didn't start an input, or a read failed.
 #[derive(Clone, Copy, Debug, PartialEq, Eq, Error)]
 pub enum ShelfFault {
     /// There is no input of this name.
@@ -24,29 +24,31 @@ pub enum ShelfFault {
     Memory,
 }
 
-/// Named inputs, of which one at a time is read from its front.
+/// Named inputs. One at a time is read, from its front on.
 ///
-/// What a contract sees of it (`seen`) are its inputs with their bytes, where it tells them (`names`); the rest of the
-/// started input, where it tells it (`rest`); the number of bytes given since the last `start` (`given`); and a count
-/// of faults that never falls (`faults`). Which of these it tells never changes, and the inputs stay as they are. Both
-/// numbers stay at 2^64 - 1.
+/// A contract sees of it (`seen`):
 ///
-/// It also sees each start of an input, with its name, why it failed, and the bytes that reads gave since (`readings`,
-/// the last one first). Only proofs read these.
+/// - its inputs with their bytes, if it tells them (`names`);
+/// - the rest of the started input, if it tells it (`rest`);
+/// - the number of bytes given since the last `start` (`given`), and a count of faults that never falls (`faults`). Both stay at 2^64 - 1
+///   once they are there;
+/// - each start of an input, with its name, why it failed, and the bytes that reads gave since (`readings`, the last one first). Only
+///   proofs read these;
+/// - its number of calls (`calls`), and a promise that no later call fails (`steady`). A shelf need count no calls. Then `calls` stays 0,
+///   and a bound on calls says nothing of it.
 ///
-/// A shelf may also count its calls (`calls`), and promise that no later call fails (`steady`). For a shelf that
-/// counts none `calls` stays 0, and a bound on calls says nothing of it.
+/// Which of these it tells never changes, and the inputs stay as they are.
 pub trait Shelf {
     ghost seen: { Self → ShelfDef };
 
-    // what this shelf's `start` may answer, and what shelf it leaves
+    // what this shelf's `start` may answer, and the shelf after it
     ghost start_gives: { Self → List ℕ → Result (Unit {0}) ShelfFault → Self → Type 0 };
 
-    /// Makes the bytes of the named input the rest. After an error no input is started.
+    /// Starts the named input: its bytes become the rest. After an error no input is started.
     ///
-    /// `Absent` comes where the told names lack this one, or where names are not told and the count of faults rose;
-    /// `Failed` only where the count rose; `Memory` is want of memory alone, which leaves the count as it was, and so
-    /// does a start that succeeds. The readings get this name, and why it wasn't started (`asks`).
+    /// `Absent` comes only if the told names lack this one. If names are not told, it comes only if the count of faults rose. `Failed`
+    /// comes only if the count rose. `Memory` comes only for want of memory. It leaves the count as it was, and so does a start that
+    /// succeeds. The readings get this name, and why it wasn't started (`asks`).
     fn start(&mut self, name: &str) -> Result<(), ShelfFault>
         ensures same { (seen self.new).names ≡ (seen self.old).names }
         ensures tells { is_some (seen self.new).rest ≡ is_some (seen self.old).rest }
@@ -63,11 +65,11 @@ pub trait Shelf {
         ensures one_call { (seen self.new).calls ≤ (seen self.old).calls + 1 }
         ensures steady { (seen self.old).steady ≡ true → ((seen self.new).steady ≡ true) × ((seen self.new).faults ≡ (seen self.old).faults) × (IsErrOf result ShelfFault.Failed → ⊥) };
 
-    /// Moves bytes from the front of the rest to the front of the buffer, and says how many. It says 0 where the
-    /// rest is empty or nothing is started.
+    /// Moves bytes from the front of the rest to the front of the buffer, and says how many. It says 0 if the rest is empty or no input is
+    /// started.
     ///
-    /// The one error is `Failed`. It comes only where the count of faults rose, and no byte was moved. A read that
-    /// succeeds leaves the count as it was. The readings get the bytes that stand at the front of the buffer (`reads`).
+    /// The only error is `Failed`. It comes only if the count of faults rose, and no byte was moved. A read that succeeds leaves the count
+    /// as it was. The readings get the bytes at the front of the buffer (`reads`).
     fn read(&mut self, buffer: &mut [u8]) -> Result<usize, ShelfFault>
         requires { 0 < length buffer.old }
         ensures same { (seen self.new).names ≡ (seen self.old).names }

@@ -10,18 +10,18 @@ use thiserror::Error;
 #[error("the text could not be written")]
 pub struct SinkFault;
 
-/// A place to which text is written, piece after piece.
+/// A place to which text is written, one piece after another.
 ///
-/// What a contract sees of it (`seen`) are the bytes written, where it tells them (`written`), and a count of faults
-/// that never falls and stays at 2^64 - 1 (`faults`). Whether it tells the bytes never changes.
+/// A contract sees of it (`seen`) the bytes written, if it tells them (`written`), and a count of faults that never falls, and stays at
+/// 2^64 - 1 once it is there (`faults`). Whether it tells the bytes never changes.
 ///
-/// A sink may also count its writes (`calls`), and promise to take so many more bytes with no fault (`room`). For a
-/// sink that counts none `calls` stays 0, and a bound on writes says nothing of it.
+/// A sink may also count its writes (`calls`), and promise to take this many more bytes with no fault (`room`). If it counts none, `calls`
+/// stays 0, and a bound on writes says nothing of it.
 pub trait Sink {
     ghost seen: { Self → SinkDef };
 
-    /// Appends 1 byte or more from the front of the piece, and says how many. An error comes only where the count of
-    /// faults rose, and nothing was appended.
+    /// Appends 1 byte or more from the front of the piece, and says how many. An error comes only if the count of faults rose, and then
+    /// nothing was appended.
     fn write(&mut self, piece: &[u8]) -> Result<usize, SinkFault>
         requires { 0 < length piece.now }
         ensures some { IfOk result (λ n. 0 < n) }

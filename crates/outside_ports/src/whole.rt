@@ -1,11 +1,11 @@
-ghost use Rattle.std.specs.Prelude.{◌≡◌, ℕ, ◌+◌, ◌-◌, ◌<◌, ◌≤◌, ◌↔◌, true, length, vec_len, Result, is_some, IfOk, IsOk, OnOk, OnErr, IsErrOf};
-ghost use Rattle.std.specs.Io.KnownBytes.{Appends, Consumes, IsAtEnd};
+ghost use Rattle.std.specs.Prelude.{◌≡◌, ℕ, ◌+◌, ◌-◌, ◌≤◌, length, Result, is_some, IfOk, IsOk, OnOk, OnErr, IsErrOf};
+ghost use Rattle.std.specs.Io.KnownBytes.{Appends, Consumes};
 ghost use Rattle.outside_ports.specs.Counts.{Rose};
 ghost use Rattle.outside_ports.specs.Names.{IsNamed, IsLonger, IsAbsent};
 ghost use Rattle.outside_ports.specs.Prefix.{AppendsPart};
 ghost use Rattle.outside_ports.specs.Answers.{FollowsStart};
 ghost use Rattle.outside_ports.specs.Rests.{HasMore};
-ghost use Rattle.outside_ports.specs.Loads.{Leaves, LeavesBegun};
+ghost use Rattle.outside_ports.specs.Loads.{Leaves, LeavesBegun, LoadsFrom};
 ghost use Rattle.outside_ports.specs.declared.shelf.ShelfFault.{ShelfFault};
 
 use crate::shelf::{Shelf, ShelfFault};
@@ -43,35 +43,23 @@ impl From<AllocError> for LoadFault {
     }
 }
 
-/// All bytes of the named input, read to its end.
+/// Loads the named input: all of its bytes, read to the end.
 ///
-/// `Absent` comes exactly where the shelf's `start` answered so, `Read` only where the shelf's count of faults rose
-/// in this call, and `TooLong` exactly where more than [`GREATEST_INPUT_BYTES`] bytes were given. Want of memory, as
-/// success, leaves the count as it was: a fault that was counted is answered as one. After an error the
-/// shelf stands where its last call left it. A shelf that counts its calls shows that there are at most two more of
-/// them than an input may have bytes.
+/// `Absent` comes exactly if the shelf's `start` answered so. `Read` comes only if the shelf's count of faults rose in this call. `TooLong`
+/// comes exactly if more than [`GREATEST_INPUT_BYTES`] bytes were given. Want of memory leaves the count as it was, and so does success: a
+/// counted fault is always answered as one. After an error the shelf is as its last call left it. If a shelf counts its calls, there are at
+/// most two more of them than an input may have bytes.
 ///
-/// The shelf's readings get one more, of this name. The bytes are what that reading gave, from its start to its end
-/// (`leaves`).
+/// The shelf's readings get one more, of this name. The result is what that reading gave, from its start to its end (`leaves`).
 pub fn load<S: Shelf>(alloc: Global, shelf: &mut S, name: &str) -> Result<Vec<u8>, LoadFault>
     ensures whole { IfOk result (λ bytes. IsNamed (S.seen shelf.old).names name.now bytes.items) }
-    ensures ended { OnOk result (IsAtEnd (S.seen shelf.new).rest) }
-    ensures size { IfOk result (λ bytes. (vec_len bytes ≡ (S.seen shelf.new).given) × (vec_len bytes ≤ GREATEST_INPUT_BYTES)) }
+    ensures loads { LoadsFrom (S.seen shelf.old) (S.seen shelf.new) result }
     ensures absent { IsErrOf result LoadFault.Absent → IsAbsent (S.seen shelf.old).names name.now (S.seen shelf.old).faults (S.seen shelf.new).faults }
     ensures started { (answer : Result (Unit {0}) ShelfFault) × (mid : S) × S.start_gives shelf.old name.now answer mid
         × FollowsStart answer result }
     ensures leaves { Leaves result name.now (S.seen shelf.old).readings (S.seen shelf.new).readings }
-    ensures read { IsErrOf result LoadFault.Read → Rose (S.seen shelf.old).faults (S.seen shelf.new).faults }
-    ensures too_long { (IsErrOf result LoadFault.TooLong) ↔ (GREATEST_INPUT_BYTES < (S.seen shelf.new).given) }
     ensures longer { IsErrOf result LoadFault.TooLong → IsLonger (S.seen shelf.old).names name.now GREATEST_INPUT_BYTES }
-    ensures same { (S.seen shelf.new).names ≡ (S.seen shelf.old).names }
-    ensures tells { is_some (S.seen shelf.new).rest ≡ is_some (S.seen shelf.old).rest }
-    ensures later { (S.seen shelf.old).faults ≤ (S.seen shelf.new).faults }
-    ensures calm { OnOk result ((S.seen shelf.new).faults ≡ (S.seen shelf.old).faults) }
-    ensures want { IsErrOf result LoadFault.Memory → (S.seen shelf.new).faults ≡ (S.seen shelf.old).faults }
     ensures few_calls { (S.seen shelf.new).calls ≤ (S.seen shelf.old).calls + (GREATEST_INPUT_BYTES + 2) }
-    ensures steady { (S.seen shelf.old).steady ≡ true
-        → ((S.seen shelf.new).steady ≡ true) × ((S.seen shelf.new).faults ≡ (S.seen shelf.old).faults) × (IsErrOf result LoadFault.Read → ⊥) }
 {
     match shelf.start(name) {
         Ok(()) => read_all(alloc, shelf),
@@ -85,21 +73,11 @@ pub fn load<S: Shelf>(alloc: Global, shelf: &mut S, name: &str) -> Result<Vec<u8
 fn read_all<S: Shelf>(alloc: Global, shelf: &mut S) -> Result<Vec<u8>, LoadFault>
     requires { (S.seen shelf.old).given ≡ 0 }
     ensures whole { IfOk result (λ bytes. Consumes (S.seen shelf.old).rest (S.seen shelf.new).rest bytes.items) }
-    ensures ended { OnOk result (IsAtEnd (S.seen shelf.new).rest) }
-    ensures size { IfOk result (λ bytes. (vec_len bytes ≡ (S.seen shelf.new).given) × (vec_len bytes ≤ GREATEST_INPUT_BYTES)) }
+    ensures loads { LoadsFrom (S.seen shelf.old) (S.seen shelf.new) result }
     ensures present { IsErrOf result LoadFault.Absent → ⊥ }
     ensures leaves { LeavesBegun result (S.seen shelf.old).readings (S.seen shelf.new).readings }
-    ensures read { IsErrOf result LoadFault.Read → Rose (S.seen shelf.old).faults (S.seen shelf.new).faults }
-    ensures too_long { (IsErrOf result LoadFault.TooLong) ↔ (GREATEST_INPUT_BYTES < (S.seen shelf.new).given) }
     ensures longer { IsErrOf result LoadFault.TooLong → HasMore (S.seen shelf.old).rest GREATEST_INPUT_BYTES }
-    ensures same { (S.seen shelf.new).names ≡ (S.seen shelf.old).names }
-    ensures tells { is_some (S.seen shelf.new).rest ≡ is_some (S.seen shelf.old).rest }
-    ensures later { (S.seen shelf.old).faults ≤ (S.seen shelf.new).faults }
-    ensures calm { OnOk result ((S.seen shelf.new).faults ≡ (S.seen shelf.old).faults) }
-    ensures want { IsErrOf result LoadFault.Memory → (S.seen shelf.new).faults ≡ (S.seen shelf.old).faults }
     ensures few_calls { (S.seen shelf.new).calls ≤ (S.seen shelf.old).calls + (GREATEST_INPUT_BYTES + 1) }
-    ensures steady { (S.seen shelf.old).steady ≡ true
-        → ((S.seen shelf.new).steady ≡ true) × ((S.seen shelf.new).faults ≡ (S.seen shelf.old).faults) × (IsErrOf result LoadFault.Read → ⊥) }
 {
     let mut bytes = Vec::new(alloc);
     let mut buffer = [0u8; 4096];
@@ -118,10 +96,10 @@ fn read_all<S: Shelf>(alloc: Global, shelf: &mut S) -> Result<Vec<u8>, LoadFault
     }
 }
 
-/// Writes all of the text.
+/// Writes the whole text.
 ///
-/// An error comes only where the sink's count of faults rose in this call; the sink has then taken a proper prefix
-/// of the text. A sink that counts its writes shows that there is at most one for each byte.
+/// An error comes only if the sink's count of faults rose in this call. The sink has then taken a proper prefix of the text. If a sink
+/// counts its writes, there is at most one for each byte.
 pub fn put_all<K: Sink>(sink: &mut K, text: &[u8]) -> Result<(), SinkFault>
     ensures whole { OnOk result (Appends (K.seen sink.old).written (K.seen sink.new).written text.now) }
     ensures part { OnErr result (AppendsPart (K.seen sink.old).written (K.seen sink.new).written text.now) }

@@ -290,7 +290,7 @@ issued_shown m rows j shows l =
     (λ n q h. issue_shown m rows j n q shows l h)
     ∙ ap (λ p. issued_in p (issue_tick_of (under m rows) m.tick j)) (phase_shown m rows j shows l)
 
--- A row can be taken exactly where it can stand at this tick of the schedule.
+-- A row can be taken exactly if it is possible at this tick of the schedule.
 pub can_take : (m : MachineDef) (rows : ℕ → RowDef) → Shows m rows → CanBeTaken (under m rows) m.tick → CanTake m (rows m.tick)
 can_take m rows shows can = record {
   fits = record { sized = can.fits.sized; running = can.fits.running; holders = can.fits.holders };

@@ -60,7 +60,7 @@ pub record GoesOn (w : Trace) (t x : ℕ) (p : ScriptPlace) (n : ℕ) : Type 0 w
   pub others : (i e : ℕ) → i < n → task_of w e ≡ x → (e ≡ p.job → ⊥) → runs_in (w.row (t + i)) e ≡ false
   pub left : n ≤ left_at w.jobs p
 
--- The place so many ticks further in its phase.
+-- The place this many ticks further in its phase.
 abbrev pub further_on : ScriptPlace → ℕ → ScriptPlace
 further_on p i = record { job = p.job; segment = p.segment; ticks = p.ticks + i; issued = p.issued }
 

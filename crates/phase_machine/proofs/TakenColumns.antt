@@ -1,5 +1,4 @@
--- The columns of a row one after the other: a job that runs stands in a column, and the places move with each column
--- that is taken.
+-- The columns of a row one after the other. A running job is in a column, and the places move with each column that is taken.
 use Rattle.std.proofs.Common.{◌≡◌, ℕ, ◌+◌, ◌<◌, ◌≤◌, ◌||◌, true, false, List, length, get_or, take}
 use Rattle.std.proofs.Common.{sym, ap, ◌∙◌, arith, inl, inr, Option, Some, None}
 use Rattle.std.specs.List.{list_any}
@@ -28,7 +27,7 @@ named_before names n j h =
           absurd (cc)
     ]
 
--- A job in a column stands in none before.
+-- A job in a column is in no column before.
 pub not_before : (jobs : List JobDef) (places : List ScriptPlace) (names : List (Option ℕ)) (n j : ℕ)
     → AreCurrent jobs places names → get_or names n None ≡ Some j
     → list_any (is_job j) (take n names) ≡ false

@@ -43,7 +43,7 @@ row_current m row can = record {
   same : (c d : ℕ) → suc c ≡ suc d → c ≡ d
   same c d e = omega arith
 
--- What became of a machine that took a row so many times.
+-- What a machine is after it took a row a number of times.
 pub record Took (m : MachineDef) (row : RowDef) (more : ℕ) (n : MachineDef) : Type 0 where
   pub list : n.list ≡ m.list
   pub tick : n.tick ≡ m.tick + more

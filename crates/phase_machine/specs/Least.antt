@@ -1,4 +1,4 @@
--- The least of numbers, and of which ones the length of a stretch is the least.
+-- The least of some numbers, and of which numbers the length of a stretch is the least.
 use Rattle.std.specs.Prelude.{◌≡◌, ℕ, ◌+◌, ◌<◌, ◌≤◌, List, length, Option, None, Some, slice_index_or}
 use Rattle.schedule_model.specs.JobDef.{JobDef, job_of}
 use Rattle.phase_machine.specs.declared.place.ScriptPlace.{ScriptPlace}
@@ -16,7 +16,7 @@ abbrev pub IsLeft : List JobDef → List ScriptPlace → List (Option ℕ) → �
 IsLeft jobs places running columns v = (c j : ℕ) × (c < columns) × (slice_index_or running c None ≡ Some j)
     × (left_at jobs (slice_index_or places (task_in jobs j) no_place) ≡ v)
 
--- Does one of the first tasks' next job come v ticks after this one?
+-- Is the next job of one of the first tasks released v ticks after this one?
 abbrev pub IsAhead : List JobDef → ℕ → List ℕ → ℕ → ℕ → Type 0
 IsAhead jobs tick coming tasks v = (x : ℕ) × (x < tasks) × (slice_index_or coming x 0 < length jobs)
     × ((job_of jobs (slice_index_or coming x 0)).release ≡ tick + v)

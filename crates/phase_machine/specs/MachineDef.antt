@@ -1,4 +1,4 @@
--- A machine as mathematics sees it: how far each task has come, and who held which resource in the last row.
+-- A machine as mathematics sees it: how far each task is, and which job held which resource in the last row.
 use Rattle.std.specs.Prelude.{◌≡◌, ℕ, ◌<◌, ◌≤◌, List, length, Option, None, Some, slice_index_or}
 use Rattle.sporadic_model.specs.declared.limits.TheConstants.{MOST_TICKS}
 use Rattle.schedule_model.specs.JobDef.{SegmentDef, JobDef, JobsDef, job_of, segment_ticks, no_segment}
@@ -8,8 +8,8 @@ use Rattle.sporadic_model.specs.Accepted.{TaskNumbers}
 use Rattle.schedule_model.specs.RowDef.{RowDef, Trace}
 use Rattle.phase_machine.specs.declared.place.ScriptPlace.{ScriptPlace}
 
--- The jobs that a machine carries, the number of rows that it took, the place of each task, the holder of each
--- resource in the last row, and for each task its next job to be released.
+-- The jobs of a machine, the number of rows that it took, the place of each task, the holder of each resource in the last row, and for each
+-- task its next job to be released.
 pub record MachineDef : Type 0 where
   pub list : JobsDef
   pub tick : ℕ
@@ -25,7 +25,7 @@ no_place = record { job = 0; segment = 0; ticks = 0; issued = 0 }
 abbrev pub place_of : MachineDef → ℕ → ScriptPlace
 place_of m x = slice_index_or m.places x no_place
 
--- The task's next job to be released, or the number of jobs where none is left.
+-- The task's next job to be released, or the number of jobs if none is left.
 abbrev pub coming_of : MachineDef → ℕ → ℕ
 coming_of m x = slice_index_or m.coming x 0
 
@@ -37,40 +37,40 @@ task_in jobs j = (job_of jobs j).task
 abbrev pub segment_in : List JobDef → ℕ → ℕ → SegmentDef
 segment_in jobs j n = slice_index_or (job_of jobs j).script n no_segment
 
--- The machine's jobs under a schedule.
+-- The machine's jobs with these rows as a trace.
 abbrev pub under : MachineDef → (ℕ → RowDef) → Trace
 under m rows = record { set = m.list.set; jobs = m.list.jobs; row = rows }
 
--- Is j the first job of task x from number `from` on, or the number of jobs where there is none?
+-- Is j the first job of task x from number `from` on, or the number of jobs if there is none?
 pub record IsNext (jobs : List JobDef) (x from j : ℕ) : Type 0 where
   pub from_on : from ≤ j
   pub most : j ≤ length jobs
   pub own : j < length jobs → task_in jobs j ≡ x
   pub first : (e : ℕ) → from ≤ e → e < j → task_in jobs e ≡ x → ⊥
 
--- A place of task x: its job is one of the task or the end of the list, and the job stands inside one of its segments.
+-- A place of task x. Its job is one of the task, inside one of its segments. Or it is the end of the list.
 pub record IsPlace (jobs : List JobDef) (x : ℕ) (p : ScriptPlace) : Type 0 where
   pub most : p.job ≤ length jobs
   pub own : p.job < length jobs → task_in jobs p.job ≡ x
   pub segment : p.job < length jobs → p.segment < length (job_of jobs p.job).script
   pub ticks : p.job < length jobs → p.ticks < segment_ticks (segment_in jobs p.job p.segment)
 
--- Is j the task's first job that is released after the tick, or the number of jobs where there is none?
+-- Is j the task's first job that is released after the tick, or the number of jobs if there is none?
 pub record IsComing (jobs : List JobDef) (tick x j : ℕ) : Type 0 where
   pub most : j ≤ length jobs
   pub own : j < length jobs → task_in jobs j ≡ x
   pub later : j < length jobs → tick < (job_of jobs j).release
   pub earlier : (e : ℕ) → e < j → task_in jobs e ≡ x → (job_of jobs e).release ≤ tick
 
--- The same of the first job that is released at the tick or after it.
+-- The same for the first job that is released at the tick or after it.
 pub record IsDue (jobs : List JobDef) (tick x j : ℕ) : Type 0 where
   pub most : j ≤ length jobs
   pub own : j < length jobs → task_in jobs j ≡ x
   pub later : j < length jobs → tick ≤ (job_of jobs j).release
   pub earlier : (e : ℕ) → e < j → task_in jobs e ≡ x → (job_of jobs e).release ≤ tick
 
--- What is true of every machine, whatever rows it took: its jobs are lawful and of an accepted set, each task has its
--- place and its next job to be released, and the holders are listed jobs.
+-- What is true of every machine, whatever rows it took. Its jobs are lawful and of an accepted set. Each task has its place and its next
+-- job to be released. The holders are listed jobs.
 pub record IsMachine (m : MachineDef) : Type 0 where
   pub lawful : AreLawfulJobs m.list
   pub numbers : (x : ℕ) → x < length m.list.set.tasks → TaskNumbers m.list.set x
@@ -81,7 +81,7 @@ pub record IsMachine (m : MachineDef) : Type 0 where
   pub coming : (x : ℕ) → x < length m.list.set.tasks → IsComing m.list.jobs m.tick x (coming_of m x)
   pub named : (q j : ℕ) → slice_index_or m.holders q None ≡ Some j → j < length m.list.jobs
 
--- And the limits that every machine keeps: those of its list, and at most 10^9 rows.
+-- The limits that every machine keeps too: those of its list, and at most 10^9 rows.
 pub record IsWithinLimits (m : MachineDef) : Type 0 where
   pub list : IsJobList m.list
   pub most : m.tick ≤ MOST_TICKS

@@ -1,4 +1,4 @@
--- What a machine answers of the tick that it stands at.
+-- What a machine answers about its tick.
 use Rattle.std.specs.Prelude.{◌≡◌, refl, ℕ, ◌&&◌, ◌||◌, not, Bool, nat_lt, nat_le, if◌then◌else◌, List, length, Option}
 use Rattle.std.specs.Prelude.{None, Some, slice_index_or}
 use Rattle.sporadic_model.specs.SetDef.{task_at}
@@ -10,7 +10,7 @@ use Rattle.schedule_model.specs.Activity.{is_active, issue_tick_of, holds_by}
 use Rattle.phase_machine.specs.declared.place.ScriptPlace.{ScriptPlace}
 use Rattle.phase_machine.specs.MachineDef.{MachineDef, place_of, task_in, segment_in}
 
--- The phase in segment number n after so many of its ticks.
+-- The phase in segment number n after this many of its ticks.
 abbrev pub phase_in : ℕ → SegmentDef → ℕ → Phase
 phase_in n s ticks = if nat_lt ticks s.local then Local else asking n s.request
 
@@ -20,8 +20,7 @@ local_at_first = refl
 pub then_a_request : phase_in 0 (record { local = 1; request = Some (4, 2) }) 1 ≡ Asking 0 4
 then_a_request = refl
 
--- The phase of job j, where its task is at this place: the jobs before the place's are finished, the later ones have
--- executed nothing.
+-- The phase of job j if its task is at this place. Jobs before the place's are finished, and later ones have executed nothing.
 abbrev pub phase_at_place : List JobDef → ℕ → ScriptPlace → Phase
 phase_at_place jobs j p =
     if nat_lt j p.job then Finished
@@ -30,7 +29,7 @@ phase_at_place jobs j p =
 unfoldable pub phase_now : MachineDef → ℕ → Phase
 phase_now m j = phase_at_place m.list.jobs j (place_of m (task_in m.list.jobs j))
 
--- The active job of task x, where it has one.
+-- The active job of task x, if it has one.
 abbrev pub current_in : List JobDef → ℕ → ScriptPlace → Option ℕ
 current_in jobs tick p = if nat_lt p.job (length jobs) && nat_le (job_of jobs p.job).release tick then Some p.job else None
 
@@ -45,11 +44,11 @@ active_now m j = is_job j (current_now m (task_in m.list.jobs j))
 abbrev pub holder_now : MachineDef → ℕ → Option ℕ
 holder_now m q = slice_index_or m.holders q None
 
--- With these holders: is a job that is active or not, and in this phase, ready?
+-- With these holders: is a job ready that is active or not, and in this phase?
 abbrev pub is_ready_by : (ℕ → Option ℕ) → ℕ → Bool → Phase → Bool
 is_ready_by holder j active phase = active && (is_local phase || holds_by holder j phase)
 
--- Is job j ready by the holders of the last row: active, and Local or the holder of what it requests?
+-- Is job j ready by the holders of the last row: active, and Local or the holder of the resource that it requests?
 unfoldable pub ready_now : MachineDef → ℕ → Bool
 ready_now m j = is_ready_by (holder_now m) j (active_now m j) (phase_now m j)
 
@@ -61,7 +60,7 @@ waiting_now m j = active_now m j && not (ready_now m j)
 unfoldable pub requester_now : MachineDef → ℕ → ℕ → Bool
 requester_now m q j = active_now m j && is_asking q (phase_now m j)
 
--- The issue tick of the request that a job in this phase is in, where it is in one.
+-- The issue tick of the request of a job in this phase, if it is in one.
 abbrev pub issued_in : Phase → ℕ → Option ℕ
 issued_in (Asking n q) tick = Some tick
 issued_in _ tick = None
@@ -73,7 +72,7 @@ issued_now m j = issued_in (phase_now m j) (place_of m (task_in m.list.jobs j)).
 abbrev pub processor_now : MachineDef → ℕ → ℕ
 processor_now m j = (task_at m.list.set (task_in m.list.jobs j)).processor
 
--- Is job j Local, or with these holders the holder of what it requests, if it is active?
+-- Is job j Local? Or, if it is active, does it hold the resource that it requests, with these holders?
 abbrev pub is_local_now : MachineDef → ℕ → Bool
 is_local_now m j = is_local (phase_now m j)
 
@@ -83,7 +82,7 @@ holds_now m held j = holds_by held j (phase_now m j)
 abbrev pub may_run_now : MachineDef → (ℕ → Option ℕ) → ℕ → Bool
 may_run_now m held j = is_local_now m j || holds_now m held j
 
--- The same notions of a schedule, at a tick, by the holders of the row before.
+-- The same for a schedule at a tick, by the holders of the row before.
 unfoldable pub is_ready_before : Trace → ℕ → ℕ → Bool
 is_ready_before w t j = is_ready_by (held_before w t) j (is_active w t j) (phase_of w t j)
 

@@ -10,7 +10,7 @@ phase_seen phase.Local = Local
 phase_seen (phase.Asking n q) = Asking n q.0
 phase_seen phase.Finished = Finished
 
--- Is the resource that the phase names, if it names one, among the first n?
+-- Is the resource that the phase names, if any, among the first n?
 abbrev pub NamesResource : ℕ → Phase → Type 0
 NamesResource n (phase.Asking _ q) = q.0 < n
 NamesResource n _ = Unit {0}

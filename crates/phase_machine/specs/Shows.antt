@@ -1,4 +1,4 @@
--- Which schedules does a machine show? Those whose rows before its tick have brought it there.
+-- Which schedules does a machine show? Those whose rows before its tick lead to its places and its holders.
 use Rattle.std.specs.Prelude.{◌≡◌, ℕ, ◌+◌, ◌<◌, ◌≤◌, List, length, take, Option, slice_index_or}
 use Rattle.schedule_model.specs.JobDef.{JobDef, job_of, total_ticks}
 use Rattle.schedule_model.specs.RowDef.{RowDef, Trace, jobs_of, held_before}
@@ -9,9 +9,9 @@ use Rattle.phase_machine.specs.declared.place.ScriptPlace.{ScriptPlace}
 use Rattle.phase_machine.specs.MachineDef.{MachineDef, IsMachine, IsNext, no_place, place_of, segment_in, under}
 use Rattle.phase_machine.specs.Now.{holder_now}
 
--- Has task x at tick t of the schedule come to this place: its earlier jobs are finished, its later ones have executed
--- nothing, the place's own has executed the segments before the place's and so many ticks of that one, and its request,
--- where it is in one, was issued at the tick that the place says?
+-- Is task x, at tick t of the schedule, at this place? Its earlier jobs are finished, and its later ones have executed nothing. The place's
+-- job has executed all segments before the place's, and this many ticks of that segment. If the job is in a request, it was issued at the
+-- place's issue tick.
 pub record ShowsPlace (w : Trace) (t x : ℕ) (p : ScriptPlace) : Type 0 where
   pub before : (e : ℕ) → e < p.job → task_of w e ≡ x → phase_of w t e ≡ Finished
   pub after : (e : ℕ) → p.job < e → e < length w.jobs → task_of w e ≡ x → executed w t e ≡ 0
@@ -30,7 +30,7 @@ ArePlacesAtFirst jobs tasks places = (x : ℕ) → x < tasks →
     × ((slice_index_or places x no_place).segment ≡ 0)
     × ((slice_index_or places x no_place).ticks ≡ 0)
 
--- A machine that shows the schedule after its rows before tick n.
+-- Does some machine show the schedule after its rows before tick n?
 pub record Shown (w : Trace) (n : ℕ) : Type 0 where
   pub places : List ScriptPlace
   pub holders : List (Option ℕ)

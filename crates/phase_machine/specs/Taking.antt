@@ -7,11 +7,11 @@ use Rattle.schedule_model.specs.TakenRows.{FitsJobs}
 use Rattle.phase_machine.specs.MachineDef.{MachineDef}
 use Rattle.phase_machine.specs.Now.{active_now}
 
--- Has the row one place per processor and per resource of the jobs' set, and does it name jobs of the list alone?
+-- Has the row one place for each processor and each resource of the jobs' set, and does it name only jobs of the list?
 abbrev pub IsRowFor : JobsDef → RowDef → Type 0
 IsRowFor list row = FitsJobs (record { set = list.set; jobs = list.jobs; row = λ t. row }) 0
 
--- Is the job in column c, if there is one, active, and in no column before?
+-- If there is a job in column c: is it active, and in no column before?
 pub record RunsAlone (m : MachineDef) (running : List (Option JobId)) (c : ℕ) : Type 0 where
   pub active : (j : JobId) → slice_index_or running c None ≡ Some j → active_now m j.0 ≡ true
   pub once : (b : ℕ) (j : JobId) → b < c → slice_index_or running c None ≡ Some j → slice_index_or running b None ≡ Some j → ⊥

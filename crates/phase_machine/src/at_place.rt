@@ -10,7 +10,7 @@ use crate::place::ScriptPlace;
 use crate::script::{segment_at, task_of};
 use schedule_model::{JobId, JobList};
 
-/// The phase of the job whose task is at this place.
+/// The phase of the job, whose task is at this place.
 pub(crate) fn phase_at(jobs: &JobList, place: &ScriptPlace, j: JobId) -> Phase
     requires listed { j.0 < length jobs.now.jobs }
     requires place { IsPlace jobs.now.jobs (task_in jobs.now.jobs j.0) place.now }
@@ -33,7 +33,7 @@ pub(crate) fn phase_at(jobs: &JobList, place: &ScriptPlace, j: JobId) -> Phase
     }
 }
 
-/// The job of the place, where it is released at the tick.
+/// The job of the place, if it is released by the tick.
 pub(crate) fn current_at(jobs: &JobList, tick: u64, place: &ScriptPlace) -> Option<JobId>
     requires { place.now.job ≤ length jobs.now.jobs }
     ensures value { place_seen result ≡ current_in jobs.now.jobs tick place.now }

@@ -11,9 +11,9 @@ use crate::lookup::{column_at, processor_of};
 use crate::machine::Machine;
 use schedule_model::{JobId, Row};
 
-/// Where a protocol runs jobs.
+/// On which processors a protocol runs jobs.
 pub trait Columns {
-    /// Which sets have a place for each job.
+    /// For which sets each job has a processor.
     ghost suits: { Self → SetDef → Type 0 };
 
     /// The processor that a job runs on, counted from 1.
@@ -41,7 +41,7 @@ impl Columns for OwnProcessors {
     }
 }
 
-/// What runs where the job would.
+/// The job that runs on the processor where the job would run.
 pub fn running_instead<C: Columns>(
     columns: &C,
     machine: &Machine,

@@ -14,17 +14,17 @@ ghost use Rattle.phase_machine.specs.Judged.{Judged};
 use crate::machine::Machine;
 use schedule_model::{BlockingProtocol, JobId, Row, Rule};
 
-/// A locking protocol whose rules are judged row by row, with a machine that stands at the row's tick. Each clause holds
-/// for every schedule that the machine shows and that has the row there.
+/// A locking protocol that judges schedules row by row, with a machine that is at the row's tick. Each clause holds for every schedule that
+/// the machine shows and that has the row there.
 pub trait Judge: BlockingProtocol {
-    /// Does the row keep all five rules? Else the first that it breaks, in the order in which they stand in [`Rule`].
+    /// Ok if the row keeps all five rules. Else the first rule that it breaks, in the order of [`Rule`].
     fn judge(&self, machine: &Machine, row: &Row) -> Result<(), Rule>
         requires suits { Self.suits self.now machine.now.list.set }
         requires fits { IsRowFor machine.now.list (row_seen row.now) }
         ensures { (rows : ℕ → RowDef) → Shows machine.now rows → rows machine.now.tick ≡ row_seen row.now
             → Judged (Self.keeps self.now) (under machine.now rows) machine.now.tick result };
 
-    /// Makes the lent row the chosen one, after rows that keep the rules, and leaves its sizes.
+    /// Makes the lent row the chosen one, after rows that keep the rules. Its sizes stay.
     fn choose(&self, machine: &Machine, row: &mut Row)
         requires suits { Self.suits self.now machine.now.list.set }
         requires sized { IsSized machine.now.list.set (row_seen row.old) }
@@ -42,16 +42,16 @@ pub trait Judge: BlockingProtocol {
             → KeepsRow (Self.keeps self.now) (under machine.now rows) machine.now.tick
             → result ≡ is_blocked (Self.interferes self.now) (under machine.now rows) machine.now.tick j.0 };
 
-    /// Whether a row keeps a rule depends on the rows up to it alone.
+    /// Whether a row keeps a rule depends only on the rows up to it.
     ghost rules_read: { (p : Self) → RulesReadUpTo (Self.keeps p) };
 
-    /// Whether a row is the chosen one depends on the rows up to it alone.
+    /// Whether a row is the chosen one depends only on the rows up to it.
     ghost choice_reads: { (p : Self) → ChoiceReadsUpTo (Self.chooses p) };
 
-    /// What a tick is for a job depends on the rows up to it alone.
+    /// What a tick is for a job depends only on the rows up to it.
     ghost ticks_read: { (p : Self) → TicksReadUpTo (Self.interferes p) };
 
-    /// Through a steady stretch, in which no phase of a running job ends and no job is released, a row that keeps the rules at
-    /// its first tick keeps them at each, the same jobs are blocked, and a row that is the chosen one at first stays it.
+    /// Take a steady stretch, in which no phase of a running job ends and no job is released. If its first row keeps the rules, each of its
+    /// rows does, and the same jobs are blocked in each. If its first row is the chosen one, each of its rows is.
     ghost stays_lawful: { (p : Self) → StaysLawful (Self.suits p) (Self.keeps p) (Self.chooses p) (Self.interferes p) };
 }

@@ -12,8 +12,8 @@ ghost use Rattle.phase_machine.specs.Now.{is_ready_before, is_waiting_before, is
 ghost use Rattle.phase_machine.specs.Taking.{CanTake};
 ghost use Rattle.phase_machine.specs.Shows.{Shows, Shown};
 
-/// What a machine answers is what the definitions say of each schedule that it shows, at the tick that it stands at;
-/// who is ready and who waits goes by the holders of the row before. This says so, and does nothing.
+/// A machine's answers are those of the definitions, for each schedule that it shows, at its tick. Which jobs are ready and which wait
+/// depends on the holders of the row before. This is a law, and does nothing.
 pub fn machines_show_the_definitions()
     ensures phase { (m : MachineDef) (rows : ℕ → RowDef) → Shows m rows → (j : ℕ) → j < length m.list.jobs
         → phase_now m j ≡ phase_of (under m rows) m.tick j }
@@ -33,20 +33,20 @@ pub fn machines_show_the_definitions()
         → waiting_now m j ≡ is_waiting_before (under m rows) m.tick j }
 {}
 
-/// A machine can take a row exactly where the row can stand at that tick of each schedule that the machine shows and that
-/// has it. This says so, and does nothing.
+/// A machine can take a row exactly if the row is possible at that tick, in each schedule that the machine shows and that has the row. This
+/// is a law, and does nothing.
 pub fn machines_take_what_can_be_taken()
     ensures { (m : MachineDef) (rows : ℕ → RowDef) → Shows m rows
         → CanTake m (rows m.tick) ↔ CanBeTaken (under m rows) m.tick }
 {}
 
-/// Which schedules a machine shows depends on their rows before its tick alone. This says so, and does nothing.
+/// Which schedules a machine shows depends only on their rows before its tick. This is a law, and does nothing.
 pub fn machines_read_earlier_rows()
     ensures { (m : MachineDef) (rows more : ℕ → RowDef) → ((t : ℕ) → t < m.tick → rows t ≡ more t) → Shows m rows → Shows m more }
 {}
 
-/// Each schedule of lawful jobs of an accepted set is shown by a machine, as far as its rows can be taken. This says so, and
-/// does nothing.
+/// For each schedule of lawful jobs of an accepted set there is a machine that shows it, as far as its rows can be taken. This is a law,
+/// and does nothing.
 pub fn each_schedule_is_shown()
     ensures { (w : Trace) (n : ℕ) → IsAccepted w.set → AreLawfulJobs (jobs_of w) → CanBeTakenBefore w n → Shown w n }
 {}

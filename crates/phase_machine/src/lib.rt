@@ -1,5 +1,5 @@
-//! A machine that carries what the rows of a schedule have brought about, what it and a row say of a job, and the traits of what
-//! judges and chooses rows with it.
+//! A machine that takes the rows of a schedule and keeps what they lead to, what it and a row say of a job, and the traits of what judges
+//! and chooses rows with it.
 #![tactic(auto)]
 
 mod at_place;

@@ -53,7 +53,7 @@ pub fn named_at(places: &[Option<JobId>], i: usize) -> Option<JobId>
     places[i]
 }
 
-/// What runs in the column, counted from 0.
+/// The job that runs in the column, counted from 0.
 pub fn column_at(machine: &Machine, row: &Row, c: usize) -> Option<JobId>
     requires fits { IsRowFor machine.now.list (row_seen row.now) }
     requires column { c < length (row_seen row.now).running }
@@ -63,7 +63,7 @@ pub fn column_at(machine: &Machine, row: &Row, c: usize) -> Option<JobId>
     row.running[c]
 }
 
-/// What holds the resource.
+/// The job that holds the resource.
 pub fn holder_at(machine: &Machine, row: &Row, q: ResourceId) -> Option<JobId>
     requires fits { IsRowFor machine.now.list (row_seen row.now) }
     requires resource { q.0 < length machine.now.list.set.resources }
@@ -73,7 +73,7 @@ pub fn holder_at(machine: &Machine, row: &Row, q: ResourceId) -> Option<JobId>
     row.holders[q.0 as usize]
 }
 
-/// What runs on the job's processor?
+/// The job that runs on the job's processor.
 pub fn running_beside(machine: &Machine, row: &Row, j: JobId) -> Option<JobId>
     requires fits { IsRowFor machine.now.list (row_seen row.now) }
     requires listed { j.0 < length machine.now.list.jobs }
@@ -104,7 +104,7 @@ pub fn is_local(machine: &Machine, j: JobId) -> bool
     machine.phase(j) == Phase::Local
 }
 
-/// With these holders: does the job hold what it requests?
+/// With these holders: does the job hold the resource that it requests?
 pub fn holds(machine: &Machine, holders: &[Option<JobId>], j: JobId) -> bool
     requires listed { j.0 < length machine.now.list.jobs }
     requires sized { length holders.now ≡ length machine.now.list.set.resources }
@@ -116,7 +116,7 @@ pub fn holds(machine: &Machine, holders: &[Option<JobId>], j: JobId) -> bool
     }
 }
 
-/// Is the job Local, or with these holders the holder of what it requests?
+/// Is the job Local? Or, with these holders, does it hold the resource that it requests?
 pub fn may_run(machine: &Machine, holders: &[Option<JobId>], j: JobId) -> bool
     requires listed { j.0 < length machine.now.list.jobs }
     requires sized { length holders.now ≡ length machine.now.list.set.resources }

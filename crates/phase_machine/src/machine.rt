@@ -22,8 +22,7 @@ use sporadic_model::{ResourceId, TaskId};
 use std::alloc::{AllocError, Global};
 use std::marker::Model;
 
-/// What the rows that were taken so far have brought about: how far each task's jobs have come, and who held which
-/// resource in the last row.
+/// A machine that takes the rows of a schedule. It knows how far each task's jobs are, and which job held which resource in the last row.
 #[derive(Drop)]
 pub struct Machine<'a> {
     jobs: &'a JobList<'a>,
@@ -46,7 +45,7 @@ impl<'a> Model for Machine<'a> {
 }
 
 impl<'a> Machine<'a> {
-    /// A machine at tick 0, before any row. It takes here all the memory that it will need.
+    /// A machine at tick 0, before any row. It takes all its memory here.
     pub fn new(alloc: Global, jobs: &'a JobList<'a>) -> Result<Machine<'a>, AllocError>
         ensures list { IfOk result (λ m. m.list ≡ jobs.now) }
         ensures tick { IfOk result (λ m. m.tick ≡ 0) }
@@ -103,8 +102,8 @@ impl<'a> Machine<'a> {
         phase_at(self.jobs, self.place(j), j)
     }
 
-    /// The active job of the task: the one that is released and not finished, while the task's earlier jobs are. None
-    /// exactly where the task has none.
+    /// The active job of the task: it is released and not finished, and the task's earlier jobs are finished. None exactly if the task has
+    /// none.
     #[tactic(auto, unfolding(crate::specs::Now::current_now))]
     pub fn current(&self, x: TaskId) -> Option<JobId>
         requires { x.0 < length self.now.list.set.tasks }
@@ -114,7 +113,7 @@ impl<'a> Machine<'a> {
         current_at(self.jobs, self.tick, &self.places[x.0 as usize])
     }
 
-    /// Is the job active: released and not finished, while the earlier jobs of its task are?
+    /// Is the job active: released and not finished, with the earlier jobs of its task finished?
     #[tactic(auto, unfolding(crate::specs::Now::active_now))]
     pub fn active(&self, j: JobId) -> bool
         requires { j.0 < length self.now.list.jobs }
@@ -123,7 +122,7 @@ impl<'a> Machine<'a> {
         self.current(task_of(self.jobs, j.0)) == Some(j)
     }
 
-    /// The resource's holder in the last row; none before the first.
+    /// The resource's holder in the last row, and none before the first row.
     pub fn holder(&self, q: ResourceId) -> Option<JobId>
         requires { q.0 < length self.now.list.set.resources }
         ensures value { place_seen result ≡ holder_now self.now q.0 }
@@ -132,7 +131,7 @@ impl<'a> Machine<'a> {
         self.holders[q.0 as usize]
     }
 
-    /// Is the job active, and Local or the last row's holder of what it requests?
+    /// Is the job active, and Local or the last row's holder of the resource that it requests?
     #[tactic(auto, unfolding(crate::specs::Now::ready_now))]
     pub fn ready(&self, j: JobId) -> bool
         requires { j.0 < length self.now.list.jobs }
@@ -155,7 +154,7 @@ impl<'a> Machine<'a> {
         self.active(j) && !self.ready(j)
     }
 
-    /// The tick at which the request was issued that the job is in; none exactly where it is in none.
+    /// The tick at which the request was issued that the job is in. None exactly if it is in no request.
     #[tactic(auto, unfolding(crate::specs::Now::issued_now))]
     pub fn issued(&self, j: JobId) -> Option<u64>
         requires { j.0 < length self.now.list.jobs }
@@ -178,8 +177,8 @@ impl<'a> Machine<'a> {
         self.advance_by(row, 1);
     }
 
-    /// How often the row is to be taken until something changes first: until the phase ends that a running job is in, or a job
-    /// is released. At least 1; 10^9 where it is more often than that, or never.
+    /// How often the row can be taken until something changes: until the phase of a running job ends, or a job is released. It is at least
+    /// 1. It is 10^9 if nothing changes sooner.
     pub fn steady(&self, row: &Row) -> u64
         requires row { CanTake self.now (row_seen row.now) }
         ensures value { IsStretch self.now (row_seen row.now) result }
@@ -192,8 +191,7 @@ impl<'a> Machine<'a> {
         least_left(self.jobs, &row.running, &self.places, most)
     }
 
-    /// Takes the row so many times, at least once and at most as often as `steady` answers: nothing may change before the last
-    /// of them is taken.
+    /// Takes the row this many times, at least once and at most as often as `steady` answers. So nothing changes before the last of them.
     pub fn advance_by(&mut self, row: &Row, ticks: u64)
         requires row { CanTake self.old (row_seen row.now) }
         requires some { 1 ≤ ticks }

@@ -6,10 +6,10 @@ ghost use Rattle.phase_machine.specs.Order.{GivesRanks};
 use crate::machine::Machine;
 use schedule_model::JobId;
 
-/// The order in which a protocol grants requests, and in which it runs holders: the job with the lower number goes first.
-/// The numbers are those of jobs that are in a request; of others they say nothing.
+/// The order in which a protocol grants requests, and the one in which it runs holders: the job with the lower number goes first. Only the
+/// numbers of jobs in a request count.
 pub trait Order {
-    /// The order, by a schedule and a tick.
+    /// The two orders, for a schedule and a tick.
     ghost ranks: { Self → Ranks };
 
     /// The numbers of jobs at a machine.
@@ -27,6 +27,6 @@ pub trait Order {
         requires { j.0 < length machine.now.list.jobs }
         ensures { result ≡ run self.now machine.now j.0 };
 
-    /// The numbers are those of the order, at the tick that the machine stands at.
+    /// The numbers are those of the order, at the machine's tick.
     ghost gives: { (o : Self) → GivesRanks (ranks o) (grant o) (run o) };
 }

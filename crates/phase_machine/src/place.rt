@@ -1,12 +1,12 @@
-/// How far a task has come: where the first of its jobs stands that isn't finished.
+/// How far a task is: where the first of its jobs that isn't finished is in its script.
 #[derive(Clone, Copy, Debug, PartialEq, Eq)]
 pub struct ScriptPlace {
-    /// That job, in the order of the list; the number of jobs where all jobs of the task are finished.
+    /// The number of that job in the list. If all jobs of the task are finished, it is the number of jobs.
     pub job: u32,
-    /// The segment of its script that it is in, counted from 0.
+    /// The segment of its script that the job is in, counted from 0.
     pub segment: u32,
-    /// The ticks of that segment that it has executed.
+    /// The ticks of that segment that the job has executed.
     pub ticks: u64,
-    /// The tick at which the request was issued that it is in, where it is in one.
+    /// The tick at which the job's request was issued, if it is in one.
     pub issued: u64,
 }

@@ -10,7 +10,8 @@ ghost use Rattle.phase_machine.specs.MachineDef.{IsNext, segment_in, task_in};
 use schedule_model::{JobId, JobList, Segment};
 use sporadic_model::TaskId;
 
-/// Every list of jobs is lawful, and each task of its set has numbers in their ranges. This says so, and does nothing.
+/// The jobs of every list are lawful, and each task of its set has its numbers in their ranges. This call says so in a proof, and does
+/// nothing.
 pub(crate) fn list_is_lawful(jobs: &JobList)
     ensures lawful { AreLawfulJobs jobs.now }
     ensures listed { IsJobList jobs.now }
@@ -41,7 +42,7 @@ pub(crate) fn segments_of(jobs: &JobList, j: u32) -> u32
     jobs.job(JobId(j)).script.len() as u32
 }
 
-/// How many ticks the segment takes, its request among them.
+/// How many ticks the segment takes, with its request.
 pub(crate) fn ticks_of(segment: &Segment) -> u64
     requires { is_listed_segment (segment_seen segment.now) ≡ true }
     ensures value { result ≡ segment_ticks (segment_seen segment.now) }
@@ -62,7 +63,7 @@ pub(crate) fn task_of(jobs: &JobList, j: u32) -> TaskId
     jobs.job(JobId(j)).task
 }
 
-/// The task's first job from this one on, or the number of jobs where there is none.
+/// The task's first job from this one on, or the number of jobs if there is none.
 pub(crate) fn next_of(jobs: &JobList, x: u32, from: u32) -> u32
     requires { from ≤ length jobs.now.jobs }
     ensures { IsNext jobs.now.jobs x from result }

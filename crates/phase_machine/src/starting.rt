@@ -40,7 +40,7 @@ pub(crate) fn first_coming(alloc: Global, jobs: &JobList) -> Result<Vec<u32>, Al
     Ok(coming)
 }
 
-/// No holder for each of so many resources.
+/// No holder for each of this many resources.
 pub(crate) fn no_holders(alloc: Global, resources: u32) -> Result<Vec<Option<JobId>>, AllocError>
     ensures { IfOk result (λ v. map place_seen v.items ≡ replicate resources None) }
 {

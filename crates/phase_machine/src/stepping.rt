@@ -9,7 +9,7 @@ use crate::place::ScriptPlace;
 use crate::script::{list_is_lawful, next_of, segment_at, segments_of, task_of, ticks_of};
 use schedule_model::{JobId, JobList};
 
-/// The place of task `x` after its job has executed so many more ticks of the segment, at tick `after`.
+/// The place of task `x` after its job has executed this many more ticks of the segment, at tick `after`.
 fn stepped(jobs: &JobList, after: u64, more: u64, x: u32, place: &ScriptPlace) -> ScriptPlace
     requires listed { place.now.job < length jobs.now.jobs }
     requires place { IsPlace jobs.now.jobs x place.now }
@@ -49,7 +49,7 @@ fn stepped(jobs: &JobList, after: u64, more: u64, x: u32, place: &ScriptPlace) -
     }
 }
 
-/// Steps the place of the task whose current job this is.
+/// Moves the place of the task that has this current job.
 fn step_one(jobs: &JobList, after: u64, more: u64, j: JobId, places: &mut [ScriptPlace])
     requires len { length places.old ≡ length jobs.now.set.tasks }
     requires listed { j.0 < length jobs.now.jobs }
@@ -66,7 +66,7 @@ fn step_one(jobs: &JobList, after: u64, more: u64, j: JobId, places: &mut [Scrip
     places[x.0 as usize] = stepped(jobs, after, more, x.0, &places[x.0 as usize]);
 }
 
-/// Moves the places of the tasks whose jobs run in the columns, so many ticks on.
+/// Moves the places of the tasks whose jobs run in the columns, this many ticks on.
 pub(crate) fn step_all(
     jobs: &JobList,
     after: u64,
@@ -90,7 +90,7 @@ pub(crate) fn step_all(
     }
 }
 
-/// The first job of task `x` that is released after the tick, from the first that is released at it or later.
+/// The first job of task `x` that is released after the tick. The search begins with the first one released at the tick or later.
 #[tactic(auto, using(crate::proofs::Coming::coming_here))]
 pub(crate) fn coming_after(jobs: &JobList, tick: u64, x: u32, due: u32) -> u32
     requires numbers { TaskNumbers jobs.now.set x }
@@ -103,7 +103,7 @@ pub(crate) fn coming_after(jobs: &JobList, tick: u64, x: u32, due: u32) -> u32
     due
 }
 
-/// Moves on to the jobs that are released after the tick.
+/// Goes on to the jobs that are released after the tick.
 pub(crate) fn move_on(jobs: &JobList, tick: u64, coming: &mut [u32])
     requires len { length coming.old ≡ length jobs.now.set.tasks }
     requires numbers { (x : ℕ) → x < length jobs.now.set.tasks → TaskNumbers jobs.now.set x }

@@ -12,7 +12,7 @@ use crate::script::{segment_at, task_of, ticks_of};
 use schedule_model::{JobId, JobList};
 use sporadic_model::MOST_TICKS;
 
-/// How many ticks are left of the phase that the place's job is in.
+/// How many ticks are left of the phase of the place's job.
 fn left_at(jobs: &JobList, place: &ScriptPlace) -> u64
     requires listed { place.now.job < length jobs.now.jobs }
     requires segment { place.now.segment < length (job_of jobs.now.jobs place.now.job).script }
@@ -27,7 +27,7 @@ fn left_at(jobs: &JobList, place: &ScriptPlace) -> u64
     ticks_of(&segment) - place.ticks
 }
 
-/// How many ticks are left of the phase that the current job of a task is in.
+/// How many ticks are left of the phase of a task's current job.
 fn left_of(jobs: &JobList, j: JobId, places: &[ScriptPlace]) -> u64
     requires places { ArePlaces jobs.now places.now }
     requires listed { j.0 < length jobs.now.jobs }
@@ -38,7 +38,7 @@ fn left_of(jobs: &JobList, j: JobId, places: &[ScriptPlace]) -> u64
     left_at(jobs, &places[task_of(jobs, j.0).0 as usize])
 }
 
-/// The least of `most` and of what is left of the phases of these running jobs.
+/// The least of `most` and the ticks that are left of the phases of these running jobs.
 pub(crate) fn least_left(
     jobs: &JobList,
     running: &[Option<JobId>],
@@ -60,7 +60,7 @@ pub(crate) fn least_left(
     least
 }
 
-/// In how many ticks the job is released; 10^9 where the number is that of no job.
+/// In how many ticks the job is released. If no job has the number, it is 10^9.
 fn ahead(jobs: &JobList, tick: u64, j: u32) -> u64
     requires { j < length jobs.now.jobs → tick < (job_of jobs.now.jobs j).release }
     ensures release { j < length jobs.now.jobs → (job_of jobs.now.jobs j).release ≡ tick + result }
@@ -73,7 +73,7 @@ fn ahead(jobs: &JobList, tick: u64, j: u32) -> u64
     MOST_TICKS
 }
 
-/// The least of 10^9 and of the ticks until the tasks' next jobs are released.
+/// The least of 10^9 and the ticks until the tasks' next jobs are released.
 pub(crate) fn least_ahead(jobs: &JobList, tick: u64, coming: &[u32]) -> u64
     requires { (x : ℕ) → x < length coming.now → IsComing jobs.now.jobs tick x (slice_index_or coming.now x 0) }
     ensures some { 1 ≤ result }

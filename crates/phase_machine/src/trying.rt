@@ -1,4 +1,4 @@
-//! Whether a machine can take a row: for callers that don't know it otherwise.
+//! Whether a machine can take a row, for callers that don't know it otherwise.
 
 ghost use Rattle.std.specs.Prelude.{◌≡◌, ◌↔◌, ℕ, ◌<◌, true, false, Some, None, length, map, slice_index_or};
 ghost use Rattle.std.specs.List.{list_all};
@@ -10,7 +10,7 @@ ghost use Rattle.phase_machine.specs.Taking.{IsRowFor, CanTake, RunsAlone, AreAl
 use crate::machine::Machine;
 use schedule_model::{JobId, Row};
 
-/// Do the places name jobs below this number alone?
+/// Do the places name only jobs below this number?
 fn name_below(places: &[Option<JobId>], jobs: u32) -> bool
     ensures { result ≡ names_below jobs (map place_seen places.now) }
 {
@@ -34,7 +34,7 @@ fn runs_before(running: &[Option<JobId>], c: usize, j: JobId) -> bool
     false
 }
 
-/// Is the job in this column, if there is one, active, and in no column before?
+/// If there is a job in this column: is it active, and in no column before?
 fn runs_alone(machine: &Machine, running: &[Option<JobId>], c: usize) -> bool
     requires column { c < length running.now }
     requires listed { (c : ℕ) (j : JobId) → slice_index_or running.now c None ≡ Some j → j.0 < length machine.now.list.jobs }
@@ -61,7 +61,7 @@ fn run_well(machine: &Machine, running: &[Option<JobId>]) -> bool
     true
 }
 
-/// Has the row the sizes of the machine's set, and does it name listed jobs alone?
+/// Has the row the sizes of the machine's set, and does it name only listed jobs?
 fn is_fitting(machine: &Machine, row: &Row) -> bool
     ensures { result ≡ fits_row machine.now.list.set.processors (length machine.now.list.set.resources)
         (length machine.now.list.jobs) (row_seen row.now) }
@@ -73,7 +73,7 @@ fn is_fitting(machine: &Machine, row: &Row) -> bool
     is_sized && (name_below(&row.running, jobs.len()) && name_below(&row.holders, jobs.len()))
 }
 
-/// Is the row one for the machine's jobs: has it the set's sizes, and does it name listed jobs alone?
+/// Is the row one for the machine's jobs: has it the set's sizes, and does it name only listed jobs?
 pub fn is_row_for(machine: &Machine, row: &Row) -> bool
     ensures { (result ≡ true) ↔ IsRowFor machine.now.list (row_seen row.now) }
 {

@@ -1,4 +1,4 @@
-//! The rows of preemption blocking: what requests of lower tasks on the analysed task's processor can do to it.
+//! The rows of preemption blocking: how often requests of lower tasks can preempt a job of the analysed task on its processor.
 #![tactic(auto)]
 
 ghost use Rattle.std.specs.Prelude.{◌≡◌, ◌<◌, ◌+◌, map, length, slice_index, IfOk, OnOk, [], ◌∷◌, if◌then◌else◌, ◌&&◌};
@@ -7,13 +7,13 @@ ghost use Rattle.number_laws.specs.Sums.{flag};
 ghost use Rattle.program_form.specs.RowBlock.{block_seen};
 ghost use Rattle.program_sources.specs.Bounds.{AreWithinDeadlines};
 ghost use Rattle.sporadic_model.specs.Homes.{HasHomesFor};
-ghost use Rattle.fragments.specs.declared.columns.Class.TheVariants.{Preemption};
-ghost use Rattle.fragments.specs.ColumnDef.{column_seen, is_class, AreKnown};
-ghost use Rattle.fragments.specs.Columns.{columns_of, is_lower_local};
-ghost use Rattle.fragments.specs.Windows.{all_requests};
+ghost use Rattle.blocking_columns.specs.declared.columns.Class.TheVariants.{Preemption};
+ghost use Rattle.blocking_columns.specs.ColumnDef.{column_seen, is_class, AreKnown};
+ghost use Rattle.blocking_columns.specs.Columns.{columns_of, is_lower_local};
+ghost use Rattle.blocking_columns.specs.Windows.{all_requests};
 ghost use Rattle.fragments.specs.Constraints.{block_of};
-ghost use Rattle.fragments.specs.Stretches.{AreInOrder};
-ghost use Rattle.fragments.specs.TaskPlaces.{ArePlaces};
+ghost use Rattle.blocking_columns.specs.Stretches.{AreInOrder};
+ghost use Rattle.blocking_columns.specs.TaskPlaces.{ArePlaces};
 ghost use Rattle.preempt_constraints.specs.Rows.{interval_row, preemption_rows};
 
 use fragments::{
@@ -24,7 +24,7 @@ use program_form::RowBlock;
 use sporadic_model::{Protocol, TaskId, TaskSet};
 use std::alloc::{AllocError, Global};
 
-// Of one task: in each interval at which a job of the analysed task can be preempted, at most one of its requests preempts.
+// Of one task: in each interval in which a job of the analysed task can be preempted, at most one of the task's requests preempts it.
 #[derive(Drop)]
 struct Interval {
     // How many intervals a job of the analysed task has: one begins at its release, and one at the end of each request.
@@ -77,8 +77,8 @@ impl PerTask for Intervals {
     }
 }
 
-/// Adds the rows of preemption blocking behind those that the taker has, over any columns that stand in order: one for each lower
-/// task on `i`'s processor that has a column of preemption. Its limit is one more than the requests that a job of `i` can make.
+/// Adds the rows of preemption blocking behind those that the taker has, over any columns in order. There is one for each lower task on
+/// `i`'s processor that has a column of preemption. Its limit is one more than the requests that a job of `i` can make.
 pub fn add_interval_rows<T: RowTaker>(
     alloc: Global,
     taker: &mut T,
@@ -101,7 +101,7 @@ pub fn add_interval_rows<T: RowTaker>(
     add_per_lower_task(alloc, taker, &rows, set, i, bounds, columns, places)
 }
 
-/// The rows of preemption blocking, the same under every protocol.
+/// The rows of preemption blocking, the same under every protocol. It fails only for want of memory.
 pub fn rows(
     alloc: Global,
     set: &TaskSet,

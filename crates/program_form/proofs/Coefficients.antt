@@ -1,4 +1,4 @@
--- Coefficients that aren't zero, and the full rows that they stand for.
+-- Nonzero coefficients, and the full rows that they give.
 use Rattle.std.proofs.Common.{◌≡◌, ◌≢◌, inl, inr, ℕ, zero, suc, ◌+◌, ◌<◌, ◌≤◌, List, [], ◌∷◌, ◌++◌, length, replicate, set, take}
 use Rattle.std.proofs.Common.{slice_index, refl, sym, ◌∙◌, ap, arith, get_or-set_same, get_or-set_other, get_or-take, length-take-le}
 use Rattle.std.proofs.lemmas.Bool.{cases_eq, cases_lt, eq-eqb, ne_eqb}
@@ -48,7 +48,7 @@ number-push (d ∷ ds) c v below is =
     let first : d.column < c.column = below 0 (omega arith) in
     number-on d (ds ++ c ∷ []) v (λ q. omega arith) ∙ number-push ds c v (λ k l. below (suc k) (omega arith)) is
 
--- one coefficient more has its number at its column
+-- one more coefficient has its number at its column
 pub number_push : (cs : List Coefficient) (c : Coefficient) → AreCoefficients c.column cs → number_at (cs ++ c ∷ []) c.column ≡ c.number
 number_push cs c h = number-push cs c c.column h.below refl
 
@@ -82,7 +82,7 @@ push-last cs c k at = get_or_at cs c [] (record { column = 0; number = 0 }) k (s
 push-earlier : (cs : List Coefficient) (c : Coefficient) (k : ℕ) → k < length cs → coefficient_at (cs ++ c ∷ []) k ≡ coefficient_at cs k
 push-earlier cs c k l = get_or_append_left cs (c ∷ []) (record { column = 0; number = 0 }) k l
 
--- one coefficient more, behind the others
+-- one more coefficient, at the end
 pub coefficients_push : (n : ℕ) (cs : List Coefficient) (c : Coefficient) → AreCoefficients c.column cs → c.column < n → 0 < c.number
     → AreCoefficients n (cs ++ c ∷ [])
 coefficients_push n cs c h within above = record {
@@ -140,7 +140,7 @@ full_row_is n cs xs long each =
 pub full_row_none : (n : ℕ) → full_row n [] ≡ replicate n 0
 full_row_none n = full_row_is n [] (replicate n 0) (length-replicate n 0) (λ v l. sym (get_or-replicate n v 0 0 l))
 
--- one coefficient more writes its number at its column, where zero stood
+-- one more coefficient writes its number at its column, where zero was
 pub full_row_push : (n : ℕ) (cs : List Coefficient) (c : Coefficient) → AreCoefficients c.column cs → c.column < n
     → full_row n (cs ++ c ∷ []) ≡ set (full_row n cs) c.column c.number
 full_row_push n cs c h within =
@@ -154,12 +154,12 @@ full_row_push n cs c h within =
           ∙ sym (get_or-set_other (full_row n cs) c.column v c.number 0 other ∙ full_row_at n cs v l)
     ])
 
--- one column more, of number zero
+-- one more column, of number zero
 pub full_row_zero : (n : ℕ) (cs : List Coefficient) → AreCoefficients n cs → full_row (n + 1) cs ≡ full_row n cs ++ 0 ∷ []
 full_row_zero n cs h =
     map-range_with_len_more (number_at cs) 0 n n (omega arith) ∙ ap (λ x. full_row n cs ++ x ∷ []) (number_past n cs n h (omega arith))
 
--- one column more, of a number above zero
+-- one more column, of a number above zero
 pub full_row_more : (n : ℕ) (cs : List Coefficient) (number : ℕ) → AreCoefficients n cs
     → full_row (n + 1) (cs ++ record { column = n; number = number } ∷ []) ≡ full_row n cs ++ number ∷ []
 full_row_more n cs number h =

@@ -1,4 +1,4 @@
--- Weak duality, and what follows where a point and a dual have equal values.
+-- Weak duality, and what follows if a point and a dual have equal values.
 use Rattle.std.proofs.Common.{◌≡◌, ℕ, ◌*◌, ◌/◌, ◌<◌, ◌≤◌, sym, ap, ◌∙◌, arith}
 use Rattle.std.proofs.Math.Nat.{mul_comm, mul-le-mul_left, le_of_mul-le-mul_right, mul_assoc, mul_left_comm}
 use Rattle.std.proofs.lemmas.Nat.{le-div, div-add-mod'}
@@ -49,7 +49,7 @@ weak_duality p s ys den num point dual =
     let rows_first = kept_limits (height p) s (λ r. sum_below (columns p) (λ c. entry p r c * ys c)) (limit p) num point.kept in
     omega (arith, columns_first, rows_first, by_rows (height p) (columns p) (entry p) ys num)
 
--- Where a point's value equals a feasible dual's, it is the optimum.
+-- If a point's value equals a feasible dual's, it is the optimum.
 pub equal_values_optimum : (p : ProgramDef) (s : ℕ) (ys : ℕ → ℕ) (den : ℕ) (num : ℕ → ℕ)
     → IsScaledPoint p s ys → Covers p den num → worth p ys * den ≡ s * dual_total p num → IsOptimum p (dual_total p num) den
 equal_values_optimum p s ys den num point dual equal = record {
@@ -58,7 +58,7 @@ equal_values_optimum p s ys den num point dual equal = record {
   not_passed = λ t zs other. omega (arith, weak_duality p t zs den num other dual, mul_comm t (dual_total p num));
 }
 
--- What is reached is at most the whole part of any fraction that no point passes.
+-- What is reached is at most the whole part of any fraction that is no less than each point.
 below_whole_part : (b s w num den : ℕ) → 0 < s → 0 < den → b * s ≤ w → w * den ≤ num * s → b ≤ num / den
 below_whole_part b s w num den ps pd reached passed =
     let one : (b * den) * s ≤ num * s = omega (arith, scaled_up b s w den reached) in
@@ -102,13 +102,13 @@ dual_bounds p den num b dual reach =
     not_passed_bounds p (dual_total p num) den b dual.positive
     (λ s ys point. omega (arith, weak_duality p s ys den num point dual, mul_comm s (dual_total p num))) reach
 
--- Where a point's value equals a feasible dual's, the whole part is the greatest whole value reached.
+-- If a point's value equals a feasible dual's, the whole part is the greatest whole value that is reached.
 pub equal_values_greatest : (p : ProgramDef) (s : ℕ) (ys : ℕ → ℕ) (den : ℕ) (num : ℕ → ℕ)
     → IsScaledPoint p s ys → Covers p den num → worth p ys * den ≡ s * dual_total p num → IsGreatestReached p (dual_value p den num)
 equal_values_greatest p s ys den num point dual equal =
     optimum_reached p (dual_total p num) den (equal_values_optimum p s ys den num point dual equal)
 
--- Two fractions, each attained and neither passed, are one.
+-- Two fractions are equal if each is attained, and no point is worth more than either.
 not_less : (p : ProgramDef) (num den num' den' : ℕ) → IsOptimum p num den → IsOptimum p num' den' → num * den' ≤ num' * den
 not_less p num den num' den' best other =
     let at = best.attained in

@@ -1,5 +1,6 @@
--- Whether rows of whole numbers have a solution in naturals is found out column by column, from the last: either a solution has
--- zero there, or one row is met exactly and is solved for it. Place 0 is the scale, which is above zero, and n columns follow it.
+-- Whether rows of whole numbers have a solution in naturals is decided column by column, from the last. There are two cases: some solution
+-- has zero in the last column, or some row is met exactly and is solved for it. Place 0 is the scale, which is above zero, and n columns
+-- follow it.
 use Rattle.std.proofs.Common.{◌≡◌, ◌⊎◌, inl, inr, ℕ, zero, suc, ◌*◌, ◌<◌, ℤ, pos, ◌+ℤ◌, ◌*ℤ◌, neg_ℤ, ◌≤ℤ◌, ◌<ℤ◌}
 use Rattle.std.proofs.Common.{unsigned_abs, refl, ap, ap₂, ◌∙◌, sym, subst, arith, if◌then◌else◌, nat_eq}
 use Rattle.std.proofs.lemmas.Int.{ints, by_lt_z}
@@ -16,7 +17,7 @@ use Rattle.number_laws.proofs.TotalLaws.{total_below-agree, total_below-mix, tot
 abbrev pub at_naturals : ℕ → (ℕ → ℤ) → (ℕ → ℕ) → ℤ
 at_naturals n x ys = total_below n (λ k. x k *ℤ pos (ys k))
 
--- Do ys solve the rows: is the scale above zero, and no row?
+-- Do ys solve the rows: is the scale above zero, and is no row above zero?
 pub record Solves (m n : ℕ) (a : ℕ → ℕ → ℤ) (ys : ℕ → ℕ) : Type 0 where
   pub scale : 0 < ys 0
   pub kept : (i : ℕ) → i < m → at_naturals (suc n) (a i) ys ≤ℤ pos 0
@@ -24,7 +25,7 @@ pub record Solves (m n : ℕ) (a : ℕ → ℕ → ℤ) (ys : ℕ → ℕ) : Typ
 abbrev pub IsSolvable : ℕ → ℕ → (ℕ → ℕ → ℤ) → Type 0
 IsSolvable m n a = (ys : ℕ → ℕ) × Solves m n a ys
 
--- The rows where row i is met exactly and solved for place e: the other rows without that place, and row i for what is then put there.
+-- The rows if row i is met exactly and solved for place e: the other rows without that place, and row i for what is then put there.
 abbrev pub solved_for : ℕ → ℕ → (ℕ → ℕ → ℤ) → ℕ → ℕ → ℤ
 solved_for i e a j k = if nat_eq j i then neg_ℤ (a i k) else (neg_ℤ (a i e) *ℤ a j k) +ℤ (a j e *ℤ a i k)
 
@@ -89,7 +90,7 @@ solved_away n i e j a ys away =
     row_away : (k : ℕ) → solved_for i e a j k ≡ (neg_ℤ (a i e) *ℤ a j k) +ℤ (a j e *ℤ a i k)
     row_away k = rw (ne_eqb j i away) refl
 
--- Zero in one more column solves what is solved without it.
+-- What is solved without one more column is solved with zero in it too.
 back_zero : (m n : ℕ) (a : ℕ → ℕ → ℤ) → IsSolvable m n a → IsSolvable m (suc n) a
 back_zero m n a h = (
   with_last (suc n) 0 h.0,
@@ -105,7 +106,7 @@ back_zero m n a h = (
 at_most_same : (s t : ℤ) → s ≡ t → t ≤ℤ pos 0 → s ≤ℤ pos 0
 at_most_same s t p q = omega (arith, ints)
 
--- Where row i is solved for the last column, what it gives there solves all rows.
+-- If row i is solved for the last column, what it gives there solves all rows.
 back_solved : (m n : ℕ) (a : ℕ → ℕ → ℤ) (i : ℕ) → i < m → a i (suc n) <ℤ pos 0 → IsSolvable m n (solved_for i (suc n) a)
     → IsSolvable m (suc n) a
 back_solved m n a i within below h =
@@ -146,7 +147,7 @@ back_solved m n a i within below h =
         over : (s t : ℤ) → s ≡ neg_ℤ t → (s +ℤ t) ≤ℤ pos 0
         over s t p = omega (arith, ints)
 
--- Of the rows below m whose cell is below zero, is i one whose rest is above zero, and the greatest over minus its cell?
+-- Take the rows below m whose cell is below zero. Is i one whose rest is above zero, and the greatest over minus its cell?
 record IsSteepest (m : ℕ) (rest cell : ℕ → ℤ) (i : ℕ) : Type 0 where
   within : i < m
   below : cell i <ℤ pos 0
@@ -164,14 +165,14 @@ flat x y u v h k p q =
     between : (a b c : ℤ) → a ≤ℤ (pos 0 *ℤ c) → pos 0 <ℤ b → a ≤ℤ b
     between a b c l g = omega (arith, ints)
 
--- For each row below the next bound where there is a fact for the rows below m and for row m.
+-- If there is a fact for each row below m and for row m, there is one for each row below the next bound.
 to_next : (m : ℕ) (A : ℕ → Type 0) → ((j : ℕ) → j < m → A j) → A m → (j : ℕ) → j < suc m → A j
 to_next m A h last j l = elim (cases_lt j m) [
   | inl earlier ↦ h j earlier
   | inr end ↦ let same : m ≡ j = omega arith in subst A same last
 ]
 
--- The next row beside the steepest so far.
+-- The next row compared with the steepest so far.
 steeper : (m : ℕ) (rest cell : ℕ → ℤ) (i : ℕ) → IsSteepest m rest cell i → cell m <ℤ pos 0 → pos 0 <ℤ rest m → (i : ℕ)
     × IsSteepest (suc m) rest cell i
 steeper m rest cell i h below above = elim (le_either (rest m *ℤ neg_ℤ (cell i)) (rest i *ℤ neg_ℤ (cell m))) [
@@ -259,7 +260,7 @@ by_steepness ri ci rj cj h = over _ _ _ _ (swap rj ci) (out ri cj) h
     over : (s t u v : ℤ) → s ≡ t → u ≡ neg_ℤ v → s ≤ℤ u → (t +ℤ v) ≤ℤ pos 0
     over s t u v p q l = omega (arith, ints)
 
--- a row whose last cell is not below zero, where both it and row i are met
+-- a row whose last cell is not below zero, if both it and row i are met
 by_both : (ri ci rj cj y : ℤ) → ci <ℤ pos 0 → pos 0 ≤ℤ cj → (ri +ℤ (ci *ℤ y)) ≤ℤ pos 0 → (rj +ℤ (cj *ℤ y)) ≤ℤ pos 0
     → ((neg_ℤ ci *ℤ rj) +ℤ (cj *ℤ ri)) ≤ℤ pos 0
 by_both ri ci rj cj y below above hi hj =
@@ -272,7 +273,7 @@ by_both ri ci rj cj y below above hi hj =
     over : (s t u a b : ℤ) → s ≡ t +ℤ u → t ≤ℤ (pos 0 *ℤ neg_ℤ a) → u ≤ℤ (pos 0 *ℤ b) → s ≤ℤ pos 0
     over s t u a b p l k = omega (arith, ints)
 
--- What solves the rows solves them without the last column, or where some row is solved for it.
+-- What solves the rows solves them without the last column, or some row is solved for it.
 forward : (m n : ℕ) (a : ℕ → ℕ → ℤ) (ys : ℕ → ℕ) → Solves m (suc n) a ys
     → IsSolvable m n a ⊎ ((i : ℕ) × (i < m) × (a i (suc n) <ℤ pos 0) × IsSolvable m n (solved_for i (suc n) a))
 forward m n a ys h =
@@ -315,7 +316,7 @@ forward m n a ys h =
     below_zero : (x : ℤ) → pos 0 <ℤ x → neg_ℤ x ≤ℤ pos 0
     below_zero x p = omega (arith, ints)
 
--- Where it can be found out of each number, it can be found out of the numbers below m.
+-- If it can be decided for each number, it can be decided for the numbers below m.
 pub some_below : (P : ℕ → Type 0) → ((i : ℕ) → P i ⊎ (P i → ⊥)) → (m : ℕ) → ((i : ℕ) × (i < m) × P i) ⊎ ((i : ℕ) → i < m → P i → ⊥)
 some_below P found zero = inr (λ i l p. absurd (omega arith))
 some_below P found (suc m) = elim (some_below P found m) [
@@ -326,7 +327,7 @@ some_below P found (suc m) = elim (some_below P found m) [
   ]
 ]
 
--- With no column the scale alone decides.
+-- Without columns only the scale decides.
 solvable_scale : (m : ℕ) (a : ℕ → ℕ → ℤ) → IsSolvable m 0 a ⊎ (IsSolvable m 0 a → ⊥)
 solvable_scale m a = elim (some_below (λ i. pos 0 <ℤ a i 0)
     (λ i. by_lt_z (pos 0) (a i 0) (λ above. inl above) (λ least. inr (λ above. clash_ℤ above least))) m) [
@@ -347,7 +348,7 @@ solvable_scale m a = elim (some_below (λ i. pos 0 <ℤ a i 0)
     at_one : (x : ℤ) → x ≤ℤ pos 0 → (pos 0 +ℤ (x *ℤ pos 1)) ≤ℤ pos 0
     at_one x h = omega (arith, ints)
 
--- Has row i a last cell below zero, and are the rows solvable where it is solved for that place?
+-- Has row i a last cell below zero, and are the rows solvable if it is solved for that place?
 abbrev IsSolvedBy : ℕ → ℕ → (ℕ → ℕ → ℤ) → ℕ → Type 0
 IsSolvedBy m n a i = (a i (suc n) <ℤ pos 0) × IsSolvable m n (solved_for i (suc n) a)
 
@@ -361,7 +362,7 @@ by_row m n a i found =
     ])
     (λ above. inr (λ h. clash_ℤ h.0 above))
 
--- It can be found out whether rows have a solution.
+-- It can be decided whether rows have a solution.
 pub solvable : (m n : ℕ) (a : ℕ → ℕ → ℤ) → IsSolvable m n a ⊎ (IsSolvable m n a → ⊥)
 solvable m zero a = solvable_scale m a
 solvable m (suc n) a = elim (solvable m n a) [

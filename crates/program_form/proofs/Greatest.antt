@@ -1,4 +1,4 @@
--- Whether a program reaches a number is found out by elimination, and so a covered program has a greatest number that it reaches.
+-- Whether a program reaches a number is decided by elimination. So a covered program has a greatest number that it reaches.
 use Rattle.std.proofs.Common.{◌≡◌, ◌⊎◌, inl, inr, ℕ, zero, suc, ◌+◌, ◌*◌, ◌<◌, ◌≤◌, ℤ, pos, ◌+ℤ◌, ◌-ℤ◌, ◌*ℤ◌, neg_ℤ}
 use Rattle.std.proofs.Common.{◌≤ℤ◌, refl, ap, ap₂, ◌∙◌, subst, arith, if◌then◌else◌, nat_lt}
 use Rattle.std.proofs.lemmas.Int.{ints}
@@ -21,7 +21,7 @@ total_first (suc n) f = more _ _ _ (f (suc n)) (total_first n f)
     more : (s a t b : ℤ) → s ≡ a +ℤ t → s +ℤ b ≡ a +ℤ (t +ℤ b)
     more s a t b h = omega (arith, ints)
 
--- The rows of what reaches b, each at most zero: the program's rows less their limits, and behind them b less the costs.
+-- The rows for reaching b, each at most zero: the program's rows less their limits, and after them b less the costs.
 abbrev reach_rows : ProgramDef → ℕ → ℕ → ℕ → ℤ
 reach_rows p b i zero = if nat_lt i (height p) then neg_ℤ (pos (limit p i)) else pos b
 reach_rows p b i (suc c) = if nat_lt i (height p) then pos (entry p i c) else neg_ℤ (pos (cost p c))
@@ -125,7 +125,7 @@ reaches p b = elim (solvable (suc (height p)) (columns p) (reach_rows p b)) [
   | inr none ↦ inr (λ h. none (reached_by p b h))
 ]
 
--- Below a bound of what is reached there is a greatest number that is.
+-- Below a bound of what is reached there is a greatest number that is reached.
 greatest_to : (p : ProgramDef) (most : ℕ) → ((c : ℕ) → Reaches p c → c ≤ most) → (b : ℕ) × IsGreatestReached p b
 greatest_to p zero bound = (0, record { reached = zero_reached p; greatest = bound })
 greatest_to p (suc most) bound = elim (reaches p (suc most)) [
@@ -136,7 +136,7 @@ greatest_to p (suc most) bound = elim (reaches p (suc most)) [
   ])
 ]
 
--- Where each column is covered, there is a greatest number that is reached.
+-- If each column is covered, there is a greatest number that is reached.
 pub greatest_exists : (p : ProgramDef) → ((c : ℕ) → c < columns p → IsCovered p c) → (b : ℕ) × IsGreatestReached p b
 greatest_exists p covered =
     greatest_to p (dual_value p 1 (λ r. sum_below (columns p) (λ c. cost p c)))

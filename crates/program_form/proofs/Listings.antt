@@ -1,4 +1,4 @@
--- Lists of coefficients that say what stands in the rows of a program.
+-- Lists of the coefficients in the rows of a program.
 use Rattle.std.proofs.Common.{◌≡◌, inl, inr, ℕ, ◌+◌, ◌<◌, ◌≤◌, List, [], ◌∷◌, ◌++◌, map, length, refl, sym, ◌∙◌, ap, arith}
 use Rattle.std.proofs.lemmas.Bool.{cases_eq, cases_lt}
 use Rattle.std.proofs.lemmas.List.{length-map, get_or-map, ext_get_or, length_push, get_or_at, get_or_append_left}
@@ -13,7 +13,7 @@ use Rattle.program_form.proofs.Coefficients.{coefficients_push, full_row_is}
 row_none : (p : ProgramDef) (r : ℕ) → ListsRow p r 0 []
 row_none p r = record { listed = coefficients_none 0; numbers = λ v l. absurd (omega arith) }
 
--- columns more, whose coefficients are zero
+-- more columns, whose coefficients are zero
 row_zeros : (p : ProgramDef) (r m n : ℕ) (cs : List Coefficient) → ListsRow p r m cs → m ≤ n
     → ((v : ℕ) → m ≤ v → v < n → entry p r v ≡ 0) → ListsRow p r n cs
 row_zeros p r m n cs h l none = record {
@@ -24,7 +24,7 @@ row_zeros p r m n cs h l none = record {
   ];
 }
 
--- one column more, whose coefficient isn't
+-- one more column, whose coefficient isn't
 row_more : (p : ProgramDef) (r n number : ℕ) (cs : List Coefficient) → ListsRow p r n cs → number ≡ entry p r n → 0 < number
     → ListsRow p r (n + 1) (cs ++ record { column = n; number = number } ∷ [])
 row_more p r n number cs h own above =
@@ -53,7 +53,7 @@ rows_are_full p rows is h =
     get_or-map (full_row (columns p)) rows r [] [] (omega (arith, within, h.row_each))
     ∙ row_is_full p r (list_at rows r) is within (h.each r within))
 
--- a row more
+-- one more row
 rows_more : (p : ProgramDef) (n : ℕ) (rows : List (List Coefficient)) (row : List Coefficient) → ListsRows p n rows
     → ListsRow p n (columns p) row → ListsRows p (n + 1) (rows ++ row ∷ [])
 rows_more p n rows row h here = record {
@@ -64,19 +64,19 @@ rows_more p n rows row h here = record {
   ];
 }
 
--- A row that is begun behind others, none of whose columns was looked at so far.
+-- A row that is begun after others, none of whose columns was looked at so far.
 pub up_to_begun : (p : ProgramDef) (r : ℕ) (before rows : List (List Coefficient)) → ListsRows p r before → rows ≡ before ++ [] ∷ []
     → ListsUpTo p r 0 rows
 up_to_begun p r before rows h are = record { before = before; last = []; both = are; whole = h; begun = row_none p r }
 
--- And one of whose columns all were.
+-- A row all of whose columns were.
 pub up_to_ended : (p : ProgramDef) (r n : ℕ) (rows : List (List Coefficient)) → columns p ≤ n → n ≤ columns p → ListsUpTo p r n rows
     → ListsRows p (r + 1) rows
 up_to_ended p r n rows all within h =
     let at : n ≡ columns p = omega (arith, all, within) in
     rw h.both (rows_more p r h.before h.last h.whole (rw at at h.begun))
 
--- Columns more of the last row, whose coefficients are zero.
+-- More columns of the last row, whose coefficients are zero.
 pub up_to_zeros : (p : ProgramDef) (r m n : ℕ) (rows : List (List Coefficient)) → ListsUpTo p r m rows → m ≤ n
     → ((v : ℕ) → m ≤ v → v < n → entry p r v ≡ 0) → ListsUpTo p r n rows
 up_to_zeros p r m n rows h l none = record {
@@ -87,7 +87,7 @@ up_to_zeros p r m n rows h l none = record {
   begun = row_zeros p r m n h.last h.begun l none;
 }
 
--- One column more of it, whose coefficient is zero,
+-- One more column of it, whose coefficient is zero,
 pub up_to_zero : (p : ProgramDef) (r n number : ℕ) (rows : List (List Coefficient)) → ListsUpTo p r n rows → number ≡ entry p r n
     → number ≡ 0 → ListsUpTo p r (n + 1) rows
 up_to_zero p r n number rows h own none = up_to_zeros p r n (n + 1) rows h (omega arith)

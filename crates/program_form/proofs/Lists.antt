@@ -17,7 +17,7 @@ list_all-from_places p d [] h = refl
 list_all-from_places p d (x ∷ xs) h =
     and_from (p x) (list_all p xs) (h zero (omega arith)) (list_all-from_places p d xs (λ i l. h (suc i) (omega arith)))
 
--- what all pass is passed at each place below the length
+-- a test that all pass is passed at each place below the length
 pub list_all-at : {X : Type 0} (p : X → Bool) (d : X) (xs : List X) → list_all p xs ≡ true → (i : ℕ) → i < length xs
     → p (get_or xs i d) ≡ true
 list_all-at p d [] all i l = absurd (omega arith)

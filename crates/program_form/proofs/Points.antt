@@ -1,4 +1,4 @@
--- Which whole values are reached: zero, with each value the smaller ones, and no less where limits grow.
+-- Which whole values are reached: zero, with each value the smaller ones, and no less if limits grow.
 use Rattle.std.proofs.Common.{ℕ, zero, suc, ◌*◌, ◌<◌, ◌≤◌, arith}
 use Rattle.std.proofs.Math.Nat.{mul-le-mul_left}
 use Rattle.number_laws.specs.Sums.{sum_below}
@@ -57,7 +57,7 @@ at_least_once : (x a t : ℕ) → x ≤ t → 0 < a → 1 * x ≤ t * a
 at_least_once x zero t h l = absurd (omega arith)
 at_least_once x (suc a) t h l = omega arith
 
--- Where each column is covered, the sum of the costs, for each row, is a feasible dual.
+-- If each column is covered, the sum of the costs, for each row, is a feasible dual.
 pub covered_dual : (p : ProgramDef) → ((c : ℕ) → c < columns p → IsCovered p c) → Covers p 1 (λ r. sum_below (columns p) (λ c. cost p c))
 covered_dual p covered = record {
   positive = omega arith;

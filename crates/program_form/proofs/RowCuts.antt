@@ -1,4 +1,4 @@
--- Rows that lie behind one another in one list of coefficients: a row that is begun, and a coefficient that is added to the last one.
+-- Rows one after another in one list of coefficients: a row that is begun, and a coefficient that is added to the last one.
 use Rattle.std.proofs.Common.{◌≡◌, inl, inr, ℕ, zero, suc, ◌+◌, ◌-◌, ◌<◌, ◌≤◌, List, [], ◌∷◌, ◌++◌, map, length, take, drop}
 use Rattle.std.proofs.Common.{get_or, slice_index, refl, sym, ◌∙◌, ap, arith}
 use Rattle.std.proofs.lemmas.Bool.{cases_lt}
@@ -59,7 +59,7 @@ rows_begun cs starts =
     ∙ (ap (λ (xs : List (List Coefficient)). xs ++ row_cut cs more n ∷ []) (same_below (row_cut cs more) (row_cut cs starts) n before)
     ∙ ap (λ (x : List Coefficient). rows_cut cs starts ++ x ∷ []) none))
 
--- A coefficient behind all others is one more of the last row, and the rows before it stay.
+-- A coefficient after all others is one more of the last row, and the rows before it stay.
 pub rows_added : (cs : List Coefficient) (starts : List ℕ) (c : Coefficient) (before : List (List Coefficient)) (last : List Coefficient)
     → AreStarts (length cs) starts → rows_cut cs starts ≡ before ++ last ∷ []
     → rows_cut (cs ++ c ∷ []) starts ≡ before ++ (last ++ c ∷ []) ∷ []
@@ -99,7 +99,7 @@ rows_added cs starts c before last h are =
     ∙ (ap (λ (xs : List (List Coefficient)). xs ++ new m ∷ []) (same_below new old m earlier ∙ parts.0)
     ∙ ap (λ (x : List Coefficient). before ++ x ∷ []) (here ∙ ap (λ (xs : List Coefficient). xs ++ c ∷ []) parts.1)))
 
--- The places stay in order where the list has one coefficient more.
+-- The places stay in order if the list has one more coefficient.
 pub starts_added : (all : ℕ) (starts : List ℕ) → AreStarts all starts → AreStarts (all + 1) starts
 starts_added all starts h = record {
   rise = λ r l. elim (cases_lt (r + 1) (length starts)) [

@@ -1,14 +1,14 @@
--- What contracts see of duals and certificates: their numbers, and not where they lie in memory.
+-- What contracts see of duals and certificates: their numbers.
 use Rattle.std.specs.Prelude.{ℕ, List, map}
 use Rattle.program_form.specs.declared.certificate.Dual.{Dual}
 use Rattle.program_form.specs.declared.certificate.Certificate.{Certificate}
 
--- A dual of a program: a multiplier for each row, all over one denominator.
+-- A dual of a program: a multiplier for each row. All of them have one denominator.
 pub record DualDef : Type 0 where
   pub den : ℕ
   pub num : List ℕ
 
--- A certificate: for each task a bound, and the dual of its program.
+-- A certificate: for each task a bound, in ticks, and a dual of its program.
 pub record CertificateDef : Type 0 where
   pub bounds : List ℕ
   pub duals : List DualDef

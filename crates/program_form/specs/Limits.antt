@@ -1,4 +1,4 @@
--- Programs that differ in their limits alone.
+-- Programs that differ only in their limits.
 use Rattle.std.specs.Prelude.{◌≡◌, ℕ, ◌<◌, ◌≤◌}
 use Rattle.program_form.specs.Program.{ProgramDef, height, limit}
 

@@ -1,14 +1,14 @@
--- The points of a program, as whole numbers over one scale, and what they reach.
+-- The points of a program, as whole numbers over one scale, and the values that they reach.
 use Rattle.std.specs.Prelude.{ℕ, ◌*◌, ◌<◌, ◌≤◌}
 use Rattle.number_laws.specs.Sums.{sum_below}
 use Rattle.program_form.specs.Program.{ProgramDef, columns, height, cost, entry, limit}
 
--- Does the point that gives each column c the fraction ys c over s meet every row?
+-- Is it a point: does it meet every row, if each column c has the value ys c over s?
 pub record IsScaledPoint (p : ProgramDef) (s : ℕ) (ys : ℕ → ℕ) : Type 0 where
   pub positive : 0 < s
   pub kept : (r : ℕ) → r < height p → sum_below (columns p) (λ c. entry p r c * ys c) ≤ s * limit p r
 
--- What is the point worth, in units of one over its scale?
+-- What the point is worth, as a number over its scale.
 abbrev pub worth : ProgramDef → (ℕ → ℕ) → ℕ
 worth p ys = sum_below (columns p) (λ c. cost p c * ys c)
 

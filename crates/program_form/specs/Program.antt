@@ -1,9 +1,9 @@
--- Blocking programs as the three lists of numbers that they are, and which lists are accepted as one.
+-- Blocking programs as three lists of numbers, and which lists are accepted as a program.
 use Rattle.std.specs.Prelude.{◌≡◌, ℕ, ◌<◌, ◌≤◌, ◌^◌, ◌-◌, refl, List, [], length, slice_index, slice_index_or}
 use Rattle.program_form.specs.declared.TheConstants.{MOST_NUMBER}
 
--- A linear program over columns that are at least zero: the sum of cost times column is to be as great as the rows allow,
--- and each row is a sum of coefficient times column that is at most its limit.
+-- A linear program over columns that are at least zero. It maximises the sum of cost times column. In each row the sum of coefficient times
+-- column is at most the limit.
 pub record ProgramDef : Type 0 where
   pub costs : List ℕ
   pub rows : List (List ℕ)
@@ -17,11 +17,11 @@ columns p = length p.costs
 abbrev pub height : ProgramDef → ℕ
 height p = length p.rows
 
--- What is a unit of column c worth? Past the columns nothing.
+-- What is a unit of column c worth? Past the last column it is nothing.
 abbrev pub cost : ProgramDef → ℕ → ℕ
 cost p c = slice_index p.costs c
 
--- Which coefficients stand in row r?
+-- Which coefficients has row r?
 abbrev pub row : ProgramDef → ℕ → List ℕ
 row p r = slice_index_or p.rows r []
 
@@ -33,7 +33,7 @@ entry p r c = slice_index (row p r) c
 abbrev pub limit : ProgramDef → ℕ → ℕ
 limit p r = slice_index p.limits r
 
--- Do the lists fit together?
+-- Do the lists have matching lengths?
 pub record HasLengths (p : ProgramDef) : Type 0 where
   -- as many limits as rows
   pub limit_each : length p.limits ≡ height p
@@ -46,23 +46,23 @@ pub record IsCovered (p : ProgramDef) (c : ℕ) : Type 0 where
   pub within : by_row < height p
   pub above : 0 < entry p by_row c
 
--- Is c the first column without one?
+-- Is c the first column that has none?
 pub record IsFirstUncovered (p : ProgramDef) (c : ℕ) : Type 0 where
   pub within : c < columns p
   pub none : (r : ℕ) → r < height p → entry p r c ≡ 0
   pub earlier : (d : ℕ) → d < c → IsCovered p d
 
--- the most that is allowed is the greatest number of 63 bits
+-- the greatest number in a program is the greatest of 63 bits
 pub most_number_is : MOST_NUMBER ≡ 2 ^ 63 - 1
 most_number_is = refl
 
--- Is no number above the most that is allowed?
+-- Is every number at most the greatest that is allowed?
 pub record AreSmall (p : ProgramDef) : Type 0 where
   pub costs : (c : ℕ) → cost p c ≤ MOST_NUMBER
   pub entries : (r c : ℕ) → entry p r c ≤ MOST_NUMBER
   pub limits : (r : ℕ) → limit p r ≤ MOST_NUMBER
 
--- Is it a program: do its lists fit together, is each column covered, and is each number small?
+-- Is it a program: do its lists have matching lengths, is each column covered, and is each number small?
 pub record IsProgram (p : ProgramDef) : Type 0 where
   pub lengths : HasLengths p
   pub covered : (c : ℕ) → c < columns p → IsCovered p c

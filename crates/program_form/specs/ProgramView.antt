@@ -1,4 +1,4 @@
--- What contracts see of a `Program`, and what is true of each.
+-- What contracts see of a `Program`, and what is true of every one.
 use Rattle.std.specs.Prelude.{map}
 use Rattle.program_form.specs.Program.{ProgramDef, IsProgram}
 use Rattle.program_form.specs.declared.program.Program.TheInside.{Inside}

@@ -1,4 +1,4 @@
--- Which lists are refused as a program, and as what.
+-- Which lists are refused as a program, and with which refusal.
 use Rattle.std.specs.Prelude.{◌≡◌, ℕ, Bool, ◌==◌, ◌&&◌, not, nat_lt, nat_le, if◌then◌else◌, List, [], ◌∷◌, length}
 use Rattle.std.specs.Prelude.{slice_index, slice_index_or, Option, Some, None, Result, Ok, Err, refl}
 use Rattle.std.specs.List.{list_all}
@@ -16,18 +16,19 @@ has_lengths p = length p.limits == height p && list_all (λ row. length row == c
 abbrev pub is_covered : List (List ℕ) → ℕ → Bool
 is_covered rows c = any_below (length rows) (λ r. nat_lt 0 (slice_index (slice_index_or rows r []) c))
 
--- Which is the first of n columns without one? It is n where each has one.
+-- The first of n columns that has none. It is n if each has one.
 abbrev pub first_uncovered : ℕ → List (List ℕ) → ℕ
 first_uncovered n rows = first_below n (λ c. not (is_covered rows c))
 
--- Are all the numbers at most the most that is allowed?
+-- Is each number at most the greatest that is allowed?
 abbrev pub are_small : List ℕ → Bool
 are_small numbers = list_all (λ n. nat_le n MOST_NUMBER) numbers
 
 abbrev pub is_small : ProgramDef → Bool
 is_small p = are_small p.costs && list_all are_small p.rows && are_small p.limits
 
--- Why are the lists refused, if they are? The lengths come first, then the first column that no row holds, then the sizes.
+-- The first refusal that is due, if any. The lengths are tried first, then the first column that no row covers, then the sizes of the
+-- numbers.
 abbrev pub first_refusal : ProgramDef → Option ProgramRefusal
 first_refusal p =
     if not (has_lengths p) then Some Length
@@ -35,12 +36,12 @@ first_refusal p =
     else if not (is_small p) then Some Large
     else None
 
--- Is the answer right for these lists: a program of just these lists where nothing refuses them, else the first refusal?
+-- Is the answer right for these lists? It is the program of exactly these lists if no refusal is due, and else the first refusal.
 abbrev pub Judged : Result ProgramDef ProgramRefusal → ProgramDef → Type 0
 Judged (Ok program) p = (first_refusal p ≡ None) × (program ≡ p)
 Judged (Err refusal) p = first_refusal p ≡ Some refusal
 
--- One column and no row: nothing holds the column.
+-- One column and no row: no row covers the column.
 pub no_row : first_refusal (record { costs = 1 ∷ []; rows = []; limits = [] }) ≡ Some (Uncovered 0)
 no_row = refl
 

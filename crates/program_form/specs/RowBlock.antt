@@ -1,4 +1,4 @@
--- What contracts see of a block of rows: its numbers, and not where they lie in memory.
+-- What contracts see of a block of rows: its numbers.
 use Rattle.std.specs.Prelude.{ℕ, List, map}
 use Rattle.std.specs.declared.vec.Vec.{Vec}
 use Rattle.std.specs.Global.{Global}

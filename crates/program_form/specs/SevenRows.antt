@@ -1,5 +1,5 @@
--- A worked program: two columns of one task and one of another, with costs 3, 2 and 2. A task may ask for each resource
--- once, may execute no longer than its cost, and the analysed task asks once for each resource.
+-- A worked program: two columns of one task, and one column of another, with costs 3, 2 and 2. A task requests each resource at most once,
+-- and executes no longer than its cost. The analysed task requests each resource once.
 use Rattle.std.specs.Prelude.{[], ◌∷◌}
 use Rattle.program_form.specs.Certificate.{DualDef}
 use Rattle.program_form.specs.Program.{ProgramDef}

@@ -1,4 +1,4 @@
--- What contracts see of rows that are kept by their nonzero coefficients: the coefficients of each, and the full rows that they stand for.
+-- What contracts see of rows that are kept by their nonzero coefficients: the coefficients of each row, and the full rows that these give.
 use Rattle.std.specs.Prelude.{ℕ, ◌<◌, ◌==◌, if◌then◌else◌, List, [], ◌∷◌, map, length, slice_index_or}
 use Rattle.std.specs.List.{range_with_len}
 use Rattle.program_form.specs.RowBlock.{RowBlockDef}
@@ -9,12 +9,12 @@ pub record SparseRowsDef : Type 0 where
   pub rows : List (List Coefficient)
   pub limits : List ℕ
 
--- Which number has column v? Zero where v isn't listed.
+-- The number of column v, and zero if v isn't listed.
 abbrev pub number_at : List Coefficient → ℕ → ℕ
 number_at [] v = 0
 number_at (c ∷ cs) v = if c.column == v then c.number else number_at cs v
 
--- The row of n columns that these coefficients stand for.
+-- The full row of n columns that these coefficients give.
 abbrev pub full_row : ℕ → List Coefficient → List ℕ
 full_row n cs = map (number_at cs) (range_with_len 0 n)
 
@@ -36,6 +36,6 @@ list_at rows r = slice_index_or rows r []
 abbrev pub AreListed : ℕ → List (List Coefficient) → Type 0
 AreListed n rows = (r : ℕ) → r < length rows → AreCoefficients n (list_at rows r)
 
--- The block of full rows of n columns.
+-- The full rows of n columns, and their limits.
 abbrev pub sparse_rows_seen : ℕ → SparseRowsDef → RowBlockDef
 sparse_rows_seen n b = record { rows = map (full_row n) b.rows; limits = b.limits }

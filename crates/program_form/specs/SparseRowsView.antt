@@ -1,4 +1,4 @@
--- What contracts see of a `SparseRows`, and what is true of each.
+-- What contracts see of a `SparseRows`, and what is true of every one.
 use Rattle.std.specs.Prelude.{length}
 use Rattle.program_form.specs.SparseRows.{SparseRowsDef}
 use Rattle.program_form.specs.RowCuts.{rows_cut, AreStarts}

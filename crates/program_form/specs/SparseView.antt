@@ -1,4 +1,4 @@
--- What contracts see of a `SparseProgram`, and what is true of each.
+-- What contracts see of a `SparseProgram`, and what is true of every one.
 use Rattle.std.specs.Prelude.{map, length}
 use Rattle.program_form.specs.Program.{ProgramDef, IsProgram}
 use Rattle.program_form.specs.SparseRows.{full_row, AreListed}

@@ -1,4 +1,4 @@
-/// A solution of a task's dual program: the multiplier of row `r` is `num[r]` over `den`.
+/// A solution of the dual of a task's program. The multiplier of row `r` is `num[r]` over `den`.
 #[derive(Debug, Drop)]
 pub struct Dual {
     /// The denominator, at least 1.
@@ -7,7 +7,7 @@ pub struct Dual {
     pub num: Vec<u64>,
 }
 
-/// A claim that every deadline is met: for each task a bound on its response time, and a dual of its program at these bounds.
+/// A claim that every deadline is met. It has a bound on the response time of each task, and a dual of the task's program at these bounds.
 #[derive(Debug, Drop)]
 pub struct Certificate {
     /// The bounds, one for each task, in ticks.

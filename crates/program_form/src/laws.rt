@@ -1,5 +1,5 @@
-//! How points, duals and the optimum of a program hang together. Each function is a law: it does nothing, and what it
-//! ensures holds for all programs.
+//! How points, duals and the optimum of a program are related. Each function is a law: it does nothing, and what it ensures holds for all
+//! programs.
 
 ghost use Rattle.std.specs.Prelude.{◌≡◌, ℕ, ◌+◌, ◌*◌, ◌/◌, ◌^◌, ◌<◌, ◌≤◌, ◌↔◌, Some, None, slice_index};
 ghost use Rattle.number_laws.specs.Sums.{sum_below};
@@ -14,8 +14,8 @@ ghost use Rattle.program_form.specs.SevenRows.{seven_rows, seven_rows_dual};
 
 use crate::program::ProgramRefusal;
 
-/// When lists are refused as a program, and as what: `Length` exactly where they do not fit together, else `Uncovered` exactly
-/// with the first column that no row covers, else `Large` exactly where a number is too large.
+/// When lists are refused as a program, and with which refusal. It is `Length` exactly if their lengths don't match. Else it is `Uncovered`
+/// exactly with the first column that no row covers, if there is one. Else it is `Large` exactly if a number is too large.
 pub fn refusals_are_exact()
     ensures length { (p : ProgramDef) → (first_refusal p ≡ Some ProgramRefusal.Length) ↔ (HasLengths p → ⊥) }
     ensures uncovered { (p : ProgramDef) (c : ℕ)
@@ -32,13 +32,13 @@ pub fn weak_duality()
         → IsScaledPoint p s ys → Covers p den num → worth p ys * den ≤ s * dual_total p num }
 {}
 
-/// A feasible dual's value bounds every whole value that is reached.
+/// A feasible dual's value is at least every whole value that is reached.
 pub fn a_dual_bounds_what_is_reached()
     ensures { (p : ProgramDef) (den : ℕ) (num : ℕ → ℕ) (b : ℕ) → Covers p den num → Reaches p b → b ≤ dual_value p den num }
 {}
 
-/// Where a scaled point and a feasible dual have equal values, that value is the optimum and its whole part is the
-/// greatest whole value that is reached.
+/// If a scaled point and a feasible dual have equal values, that value is the optimum. Its whole part is the greatest whole value that is
+/// reached.
 pub fn equal_values_are_best()
     ensures optimum { (p : ProgramDef) (s : ℕ) (ys : ℕ → ℕ) (den : ℕ) (num : ℕ → ℕ)
         → IsScaledPoint p s ys → Covers p den num → worth p ys * den ≡ s * dual_total p num
@@ -53,25 +53,25 @@ pub fn whole_part_is_greatest()
     ensures { (p : ProgramDef) (num den : ℕ) → IsOptimum p num den → IsGreatestReached p (num / den) }
 {}
 
-/// A program has one optimum, and one greatest whole value that is reached.
+/// A program has at most one optimum, and at most one greatest whole value that is reached.
 pub fn the_optimum_is_one()
     ensures optimum { (p : ProgramDef) (num den num' den' : ℕ) → IsOptimum p num den → IsOptimum p num' den' → num * den' ≡ num' * den }
     ensures greatest { (p : ProgramDef) (b c : ℕ) → IsGreatestReached p b → IsGreatestReached p c → b ≡ c }
 {}
 
-/// Zero is reached, and with a value each smaller one.
+/// Zero is reached. With a value each smaller one is reached too.
 pub fn less_is_reached_too()
     ensures zero { (p : ProgramDef) → Reaches p 0 }
     ensures less { (p : ProgramDef) (b c : ℕ) → c ≤ b → Reaches p b → Reaches p c }
 {}
 
-/// With limits that are no smaller, no less is reached.
+/// Greater limits reach no less.
 pub fn greater_limits_reach_no_less()
     ensures reached { (p q : ProgramDef) (b : ℕ) → HasLimitsAtMost p q → Reaches p b → Reaches q b }
     ensures greatest { (p q : ProgramDef) (b c : ℕ) → HasLimitsAtMost p q → IsGreatestReached p b → IsGreatestReached q c → b ≤ c }
 {}
 
-/// Each program has a feasible dual, the sum of its costs for every row; so what its points reach is bounded.
+/// Each program has a feasible dual: the sum of its costs for every row. So what its points reach is bounded.
 pub fn a_program_has_a_dual()
     ensures { (p : ProgramDef) → IsProgram p → Covers p 1 (λ r. sum_below (columns p) (λ c. cost p c)) }
 {}

@@ -1,8 +1,8 @@
 //! Blocking programs, blocks of their rows, duals and certificates, and what is true of a program alone.
 //!
-//! A program has columns, which are at least zero, and rows, each a sum of coefficient times column that a limit bounds.
-//! The definitions in `specs/` compare all its points and know no table: scaled points, the values that they reach, the
-//! optimum, feasible duals and their values. The functions of `laws` state how these hang together.
+//! A program has columns, which are at least zero, and rows. In each row a sum of coefficient times column is at most a limit. The
+//! definitions in `specs/` are about all points of a program: scaled points, the values that they reach, the optimum, feasible duals and
+//! their values. They know no table. The functions of `laws` say how these are related.
 #![tactic(auto)]
 
 mod certificate;

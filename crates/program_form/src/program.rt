@@ -1,4 +1,4 @@
-//! Blocking programs, and the lists that are refused as one.
+//! Blocking programs, and which lists are refused as one.
 
 ghost use Rattle.std.specs.Prelude.{◌≡◌, ℕ, ◌^◌, ◌<◌, ◌≤◌, Bool, true, ◌==◌, ◌&&◌, not, List, [], length, vec_len};
 ghost use Rattle.std.specs.Prelude.{slice_index, slice_index_or, IfOk, IfSome, Option, Some, None};
@@ -12,10 +12,10 @@ use crate::MOST_NUMBER;
 use std::marker::Model;
 use thiserror::Error;
 
-/// Why lists are no program.
+/// Why lists are no program. The refusals are tried in this order.
 #[derive(Clone, Copy, Debug, PartialEq, Eq, Error)]
 pub enum ProgramRefusal {
-    /// Rows and limits differ in number, or a row and the costs in length.
+    /// Rows and limits differ in number, or a row and the costs differ in length.
     #[error("rows and limits differ in number, or a row and the costs in length")]
     Length,
     /// This column is the first without a coefficient above zero.
@@ -26,10 +26,10 @@ pub enum ProgramRefusal {
     Large,
 }
 
-/// A linear program: columns at least zero, rows that bound them, and costs whose sum is to be as great as it can be.
+/// A linear program. Its columns are at least zero, its rows bound them, and the sum of its costs is maximised.
 ///
-/// To a contract it is its three lists. Each row has one coefficient per column and a limit, each column has a coefficient
-/// above zero in some row, and no number passes [`MOST_NUMBER`].
+/// To a contract it is three lists. Each row has a coefficient for each column, and a limit. Each column has a coefficient above zero in
+/// some row. No number is above [`MOST_NUMBER`].
 #[derive(Debug, Drop)]
 pub struct Program {
     costs: Vec<u64>,
@@ -50,12 +50,11 @@ impl Model for Program {
 }
 
 impl Program {
-    /// The program of these lists, which it keeps as they are: the cost of each column, the coefficients of each row, and
-    /// the limit of each row.
+    /// The program of these lists: the cost of each column, the coefficients of each row, and the limit of each row. It keeps them as they
+    /// are, and takes no memory.
     ///
-    /// It refuses, in this order, `Length` where rows and limits differ in number or a row and the costs in length,
-    /// `Uncovered` with the first column that has no coefficient above zero, and `Large` where a number is above
-    /// [`MOST_NUMBER`].
+    /// It refuses, in this order: with `Length` if rows and limits differ in number, or a row and the costs in length; with `Uncovered` and
+    /// the first column that has no coefficient above zero; with `Large` if a number is above [`MOST_NUMBER`].
     pub fn new(
         costs: Vec<u64>,
         rows: Vec<Vec<u64>>,
@@ -111,7 +110,7 @@ impl Program {
         entry_at(&self.rows, r as usize, c as usize)
     }
 
-    /// What the sum of row `r` may be at most.
+    /// The greatest value that the sum of row `r` may have.
     pub fn limit(&self, r: u32) -> u64
         requires { r < height self.now }
         ensures value { result ≡ limit self.now r }
@@ -120,7 +119,7 @@ impl Program {
         self.limits[r as usize]
     }
 
-    /// What the sum of each row may be at most.
+    /// The limit of each row.
     pub fn limits(&self) -> &[u64]
         ensures value { result.now ≡ self.now.limits }
         ensures program { IsProgram self.now }
@@ -196,7 +195,7 @@ fn is_held(rows: &[Vec<u64>], column: usize) -> bool
     false
 }
 
-// Whether no number passes the greatest that is allowed.
+// Whether no number is above the greatest that is allowed.
 fn are_all_small(costs: &[u64], rows: &[Vec<u64>], limits: &[u64]) -> bool
     ensures { result ≡ is_small (record { costs = costs.now; rows = rows_seen rows.now; limits = limits.now }) }
 {

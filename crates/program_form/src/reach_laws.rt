@@ -1,8 +1,7 @@
-//! What a program reaches: whether it reaches a number is decided, and a covered program has a greatest number that it
-//! reaches.
+//! What a program reaches. Whether it reaches a number is decided, and a covered program has a greatest number that it reaches.
 //!
-//! Both are shown without tables, by elimination. Rows with a scale and columns have a solution in one of two cases. Either
-//! they have one with zero in the last column. Or one row is met exactly, and is solved for that column.
+//! Both are proved without tables, by elimination. If rows with a scale and columns have a solution, there are two cases. Either they have
+//! one with zero in the last column. Or they have one that meets some row exactly, and that row is solved for the last column.
 //!
 //! There is no code here. The functions state what holds of every program.
 
@@ -10,12 +9,12 @@ ghost use Rattle.std.specs.Prelude.{ℕ, ◌<◌, ◌⊎◌};
 ghost use Rattle.program_form.specs.Program.{ProgramDef, IsCovered, columns};
 ghost use Rattle.program_form.specs.Points.{Reaches, IsGreatestReached};
 
-/// A program reaches a number, or it does not: one or the other holds, whatever its lists are.
+/// A program reaches a number, or it doesn't, whatever its lists are.
 pub fn reaching_is_decided()
     ensures { (p : ProgramDef) (b : ℕ) → Reaches p b ⊎ ¬ (Reaches p b) }
 {}
 
-/// Where each column of a program is covered, there is a greatest number that it reaches.
+/// If each column of a program is covered, there is a greatest number that it reaches.
 pub fn a_greatest_reached_value_exists()
     ensures { (p : ProgramDef) → ((c : ℕ) → c < columns p → IsCovered p c) → (b : ℕ) × IsGreatestReached p b }
 {}

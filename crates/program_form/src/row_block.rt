@@ -1,4 +1,4 @@
-/// Rows of a program, each with one coefficient per column, and the limit of each row.
+/// Rows of a program, each with a coefficient for each column, and the limit of each row.
 #[derive(Debug, Drop)]
 pub struct RowBlock {
     /// The coefficients of each row, one for each column.

@@ -1,4 +1,4 @@
-//! A program kept by its nonzero coefficients.
+//! Programs that are kept by their nonzero coefficients.
 
 ghost use Rattle.std.specs.Prelude.{◌≡◌, ℕ, ◌+◌, ◌<◌, ◌≤◌, [], ◌∷◌, ◌++◌, length, IfOk, OnOk};
 ghost use Rattle.program_form.specs.Program.{IsProgram, columns, height, cost, row, entry, limit};
@@ -11,9 +11,9 @@ use crate::sparse_rows::{Coefficient, SparseRows};
 use std::alloc::{AllocError, Global};
 use std::marker::Model;
 
-/// A program kept by its nonzero coefficients, whose limits can be renewed.
+/// A program that is kept by its nonzero coefficients. You can renew its limits.
 ///
-/// To a contract it is the same three lists as a [`Program`]. A coefficient takes 16 bytes, and zeros take none.
+/// To a contract it is the same three lists as a [`Program`]. A coefficient takes 16 bytes, and a zero takes none.
 #[derive(Debug, Drop)]
 pub struct SparseProgram {
     costs: Vec<u64>,
@@ -33,7 +33,7 @@ impl Model for SparseProgram {
 }
 
 impl SparseProgram {
-    /// The same program. The error comes where there is no memory for it.
+    /// The same program. It fails only for want of memory.
     pub fn new(alloc: Global, program: &Program) -> Result<SparseProgram, AllocError>
         ensures { IfOk result (λ p. p ≡ program.now) }
     {
@@ -42,8 +42,8 @@ impl SparseProgram {
         Ok(SparseProgram { costs, rows })
     }
 
-    /// The program of these costs and rows, which it keeps as they are: the cost of each column, and each row by its coefficients that
-    /// aren't zero. It takes no memory.
+    /// The program of these costs and rows, kept as they are: the cost of each column, and the nonzero coefficients of each row. It takes
+    /// no memory.
     pub fn over(costs: Vec<u64>, rows: SparseRows) -> SparseProgram
         requires listed { AreListed (length costs.items) rows.rows }
         requires program { IsProgram (record {
@@ -85,7 +85,7 @@ impl SparseProgram {
         self.costs[c as usize]
     }
 
-    /// What the sum of row `r` may be at most.
+    /// The greatest value that the sum of row `r` may have.
     pub fn limit(&self, r: u32) -> u64
         requires { r < height self.now }
         ensures value { result ≡ limit self.now r }
@@ -94,7 +94,7 @@ impl SparseProgram {
         self.rows.limits()[r as usize]
     }
 
-    /// What the sum of each row may be at most.
+    /// The limit of each row.
     pub fn limits(&self) -> &[u64]
         ensures value { result.now ≡ self.now.limits }
         ensures program { IsProgram self.now }
@@ -102,7 +102,7 @@ impl SparseProgram {
         self.rows.limits()
     }
 
-    /// Puts other limits in the place of its own, and leaves the rest as it is.
+    /// Puts these limits in the place of its own, and leaves the rest as it is.
     pub fn renew(&mut self, limits: Vec<u64>)
         requires { IsProgram (record { costs = self.old.costs; rows = self.old.rows; limits = limits.items }) }
         ensures { self.new ≡ record { costs = self.old.costs; rows = self.old.rows; limits = limits.items } }
@@ -135,7 +135,7 @@ fn costs_of(alloc: Global, program: &Program) -> Result<Vec<u64>, AllocError>
 // How many columns of a row are looked at together.
 const BLOCK: u32 = 16;
 
-// The bits that any coefficient of a row has, from column `first` up to column `last`.
+// The bits that some coefficient of row `r` has, from column `first` up to column `last`.
 fn bits_between(program: &Program, r: u32, first: u32, last: u32) -> u64
     requires row { r < height program.now }
     requires within { last ≤ columns program.now }
@@ -148,7 +148,7 @@ fn bits_between(program: &Program, r: u32, first: u32, last: u32) -> u64
     bits
 }
 
-// Adds the coefficients of row `r` that aren't zero, from column `first` up to column `last`, where it is the row begun last.
+// Adds the nonzero coefficients of row `r`, from column `first` up to column `last`. Row `r` is the last row begun.
 fn add_between(
     rows: &mut SparseRows,
     program: &Program,
@@ -163,7 +163,7 @@ fn add_between(
     ensures rows { OnOk result (ListsUpTo program.now r last rows.new.rows) }
     ensures limits { OnOk result (rows.new.limits ≡ rows.old.limits) }
 {
-    // most blocks are zero, and that is seen sooner without a branch for each coefficient
+    // most blocks are all zeros; to see this takes no branch for each coefficient
     if bits_between(program, r, first, last) == 0 {
         return Ok(());
     }
@@ -194,7 +194,7 @@ fn add_row(rows: &mut SparseRows, program: &Program, r: u32) -> Result<(), Alloc
     Ok(())
 }
 
-// Those of each row.
+// The nonzero coefficients of each row.
 fn rows_of(alloc: Global, program: &Program) -> Result<SparseRows, AllocError>
     ensures rows { IfOk result (λ b. ListsRows program.now (height program.now) b.rows) }
     ensures limits { IfOk result (λ b. b.limits ≡ program.now.limits) }

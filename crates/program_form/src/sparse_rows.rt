@@ -1,4 +1,4 @@
-//! Rows of a program by their nonzero coefficients.
+//! Rows of a program, kept by their nonzero coefficients.
 
 ghost use Rattle.std.specs.Prelude.{◌≡◌, ℕ, ◌+◌, ◌-◌, ◌<◌, ◌≤◌, List, [], ◌∷◌, ◌++◌, length, take, drop, slice_index_or, IfOk, OnOk};
 ghost use Rattle.program_form.specs.SparseRows.{SparseRowsDef, list_at};
@@ -11,13 +11,13 @@ use std::marker::Model;
 pub struct Coefficient {
     /// The column, counted from 0.
     pub column: u32,
-    /// How often a unit of the column counts in the row's sum, at least 1.
+    /// The coefficient, at least 1.
     pub number: u64,
 }
 
-/// Rows of a program, each kept by its coefficients that aren't zero, in rising order of their columns, and the limit of each row.
+/// Rows of a program: the nonzero coefficients of each, in rising order of their columns, and the limit of each.
 ///
-/// The coefficients of all rows stand in one list, so that a row takes no memory of its own. To a contract they are a list for each row.
+/// One list holds the coefficients of all rows, so a row takes no memory of its own. To a contract there is a list for each row.
 #[derive(Debug, Drop)]
 pub struct SparseRows {
     // the coefficients of all rows, one row behind another
@@ -51,8 +51,7 @@ impl SparseRows {
         }
     }
 
-    /// No rows either, but room for so many rows and coefficients, so that none is moved as they are added. It refuses for want of memory
-    /// alone.
+    /// No rows, but room for so many rows and coefficients, so that none is moved when more are added. It fails only for want of memory.
     pub fn with_room(
         alloc: Global,
         rows: usize,
@@ -67,7 +66,7 @@ impl SparseRows {
         })
     }
 
-    /// Begins a row of this limit behind the others. It has no coefficient so far.
+    /// Begins a row with this limit behind the others. It has no coefficient yet.
     pub fn begin(&mut self, limit: u64) -> Result<(), AllocError>
         ensures { OnOk result (self.new ≡ record { rows = self.old.rows ++ [] ∷ []; limits = self.old.limits ++ limit ∷ [] }) }
     {
@@ -110,7 +109,7 @@ impl SparseRows {
         &self.limits
     }
 
-    /// Puts other limits in the place of its own, and leaves the coefficients as they are.
+    /// Puts these limits in the place of its own, and leaves the coefficients as they are.
     pub(crate) fn renew(&mut self, limits: Vec<u64>)
         ensures { self.new ≡ record { rows = self.old.rows; limits = limits.items } }
     {
@@ -118,7 +117,7 @@ impl SparseRows {
     }
 }
 
-// Where row `r` ends: where the next one begins. The last one ends with the list.
+// Where row `r` ends: where the next one begins. The last row ends with the list.
 fn end_of(all: usize, starts: &[usize], r: usize) -> usize
     requires { r < length starts.now }
     ensures { result ≡ slice_index_or starts.now (r + 1) all }

@@ -9,11 +9,11 @@ use Rattle.number_laws.specs.Sums.{flag}
 use Rattle.program_form.specs.Program.{IsCovered, columns}
 use Rattle.sporadic_model.specs.SetDef.{SetDef}
 use Rattle.sporadic_model.specs.declared.ids.Protocol.{Protocol}
-use Rattle.fragments.specs.declared.columns.Class.TheVariants as class
-use Rattle.fragments.specs.ColumnDef.{ColumnDef, IsKnown}
-use Rattle.fragments.specs.Columns.{columns_of}
+use Rattle.blocking_columns.specs.declared.columns.Class.TheVariants as class
+use Rattle.blocking_columns.specs.ColumnDef.{ColumnDef, IsKnown}
+use Rattle.blocking_columns.specs.Columns.{columns_of}
 use Rattle.fragments.specs.Constraints.{ConstraintDef, per, per_pair, holds_some, rows_there, coefficients_of}
-use Rattle.fragments.proofs.KnownColumns.{columns_known}
+use Rattle.blocking_columns.proofs.KnownColumns.{columns_known}
 use Rattle.direct_constraints.specs.Rows.{request_row, time_row, common_rows}
 use Rattle.preempt_constraints.specs.Rows.{preemption_rows}
 use Rattle.program_laws.specs.Programs.{protocol_rows, rows_of, program_with, program_of, cost_of}
@@ -22,8 +22,8 @@ use Rattle.program_laws.proofs.Lists.{contains_filter, contains_collected}
 some_column : ColumnDef
 some_column = record { task = 0; resource = 0; class = class.Direct }
 
--- The row of the requests of a task and a resource of the set is one of the rows that every protocol has, and of any that have these
--- first.
+-- The row of the requests of a task and a resource of the set is one of the rows that every protocol has, and of any rows that begin with
+-- these.
 pub request_row_among : (set : SetDef) (i x q : ℕ) (rows : List ConstraintDef) → x < length set.tasks → q < length set.resources
     → Contains (common_rows set i ++ rows) (request_row set i x q)
 request_row_among set i x q rows a b =
@@ -39,7 +39,7 @@ request_row_among set i x q rows a b =
 flag_itself : (x q : ℕ) → flag ((x == x) && (q == q)) ≡ 1
 flag_itself x q = rw (eq-eqb x x refl, eq-eqb q q refl) refl
 
--- What stands where a row stands among the rows that are there.
+-- The coefficient of a column in a row, by the row's position among the rows of the program.
 coefficient_at : (cs : List ColumnDef) (rows : List ConstraintDef) (row : ConstraintDef) (r c : ℕ) (d : ColumnDef)
     → r < length rows → slice_index_or rows r row ≡ row → c < length cs
     → slice_index (slice_index_or (map (λ k. map k.coefficient cs) rows) r []) c ≡ row.coefficient (slice_index_or cs c d)
@@ -47,7 +47,7 @@ coefficient_at cs rows row r c d within same here =
     ap (λ (l : List ℕ). slice_index l c) (get_or-map (λ (k : ConstraintDef). map k.coefficient cs) rows r row [] within)
     ∙ (ap (λ (k : ConstraintDef). slice_index (map k.coefficient cs) c) same ∙ get_or-map row.coefficient cs c d 0 here)
 
--- So where these rows are among the rows, each column is covered.
+-- So if these rows are among the rows, each column is covered.
 pub covered_by : (set : SetDef) (i : ℕ) (cs : List ColumnDef) (rows : List ConstraintDef) (r : List ℕ) (c : ℕ)
     → All (IsKnown (length set.tasks) (length set.resources)) cs
     → ((x q : ℕ) → x < length set.tasks → q < length set.resources → Contains rows (request_row set i x q))

@@ -1,5 +1,5 @@
--- How many rows a program has at most: a row is there only where some column has a coefficient in it, and the columns are requests by
--- other tasks of resources that these use.
+-- How many rows a program has at most. It has a row only if some column has a coefficient in it, and the columns are requests by other
+-- tasks of resources that these use.
 use Rattle.std.proofs.Common.{◌≡◌, ℕ, zero, suc, ◌+◌, ◌<◌, ◌≤◌, ◌==◌, ◌&&◌, not, Bool, true, false, nat_lt, List, [], ◌∷◌, ◌++◌, map}
 use Rattle.std.proofs.Common.{length, refl, ◌∙◌, arith, inl, inr, cond, if◌then◌else◌}
 use Rattle.std.specs.List.{All, filter}
@@ -16,10 +16,10 @@ use Rattle.sporadic_model.specs.Users.{is_user, length_of}
 use Rattle.sporadic_model.specs.Accepted.{IsAccepted}
 use Rattle.sporadic_model.specs.declared.ids.Protocol.{Protocol}
 use Rattle.sporadic_model.specs.declared.ids.Protocol.TheVariants as protocol
-use Rattle.fragments.specs.ColumnDef.{ColumnDef, is_direct, is_indirect, is_preemption}
-use Rattle.fragments.specs.Columns.{is_column, columns_where, columns_of, is_lower_local, AreRequests, AreOfOthers}
+use Rattle.blocking_columns.specs.ColumnDef.{ColumnDef, is_direct, is_indirect, is_preemption}
+use Rattle.blocking_columns.specs.Columns.{is_column, columns_where, columns_of, is_lower_local, AreRequests, AreOfOthers}
 use Rattle.fragments.specs.Constraints.{ConstraintDef, per, per_where, per_pair, holds_some, rows_there}
-use Rattle.fragments.proofs.KnownColumns.{passing_pass, columns_are_requests, columns_are_of_others}
+use Rattle.blocking_columns.proofs.KnownColumns.{passing_pass, columns_are_requests, columns_are_of_others}
 use Rattle.direct_constraints.specs.Rows.{request_row, time_row, turn_row, lower_holder_row, common_rows}
 use Rattle.preempt_constraints.specs.Rows.{interval_row, preemption_rows}
 use Rattle.indirect_constraints.specs.Rows.{queue_row, holding_row, home_row}
@@ -60,7 +60,7 @@ kept_where p test n row = omega (
       (λ k l. kept_if p (test k) (row k)),
 )
 
--- What a column that the row holds is known to be.
+-- What is known of a column with a coefficient in the row.
 pub held : (P : ColumnDef → Type 0) (cs : List ColumnDef) (row : ConstraintDef) → All P cs → holds_some cs row ≡ true
     → (c : ColumnDef) × (P c) × (0 < row.coefficient c)
 held P [] row all h = absurd cc
@@ -69,7 +69,7 @@ held P (c ∷ cs) row all h = elim (cases_Bool (nat_lt 0 (row.coefficient c))) [
   | inr none ↦ held P cs row (All-tail P c cs all) (rw none at h)
 ]
 
--- A row of one task and one resource is there only where the task uses the resource.
+-- The program has a row of one task and one resource only if the task uses the resource.
 pair_held : (test : ColumnDef → Bool) (set : SetDef) (x q : ℕ) (row : ConstraintDef) → AreRequests test set → IsOfPair x q row
     → holds_some (columns_where test set) row ≡ true → is_user set q x ≡ true
 pair_held test set x q row users of h =
@@ -78,7 +78,7 @@ pair_held test set x q row users of h =
     let at : (c.0.task ≡ x) × (c.0.resource ≡ q) = of c.0 c.2 in
     rw (← at.0, ← at.1) (users c.0 c.1)
 
--- A row of the analysed task alone isn't there.
+-- It has no row of the analysed task alone.
 own_missing : (test : ColumnDef → Bool) (set : SetDef) (i : ℕ) (row : ConstraintDef) → AreOfOthers test i → IsOfTask i row
     → holds_some (columns_where test set) row ≡ false
 own_missing test set i row others of = elim (cases_Bool (holds_some (columns_where test set) row)) [
@@ -99,7 +99,7 @@ count_but_one (suc n) i p l none = elim (cases_lt i n) [
       omega (arith, count_below-at_most n p, flag-of_false (p n) no)
 ]
 
--- So of rows for each of the first tasks and each resource at most 256 are there.
+-- So it has at most 256 rows for the first tasks and the resources.
 pub first_rows_few : (test : ColumnDef → Bool) (set : SetDef) (n : ℕ) (row : ℕ → ℕ → ConstraintDef) → IsAccepted set
     → AreRequests test set → n ≤ length set.tasks → ((x q : ℕ) → IsOfPair x q (row x q))
     → length (rows_there (columns_where test set) (per_pair n (length set.resources) row)) ≤ 256
@@ -116,7 +116,7 @@ pub pair_rows_few : (test : ColumnDef → Bool) (set : SetDef) (row : ℕ → �
     → length (rows_there (columns_where test set) (per_pair (length set.tasks) (length set.resources) row)) ≤ 256
 pair_rows_few test set row accepted users of = first_rows_few test set (length set.tasks) row accepted users (omega arith) of
 
--- Of rows for each task at most 63, since none is there for the analysed one.
+-- It has at most 63 rows for tasks, since it has none for the analysed one.
 pub task_rows_few : (test : ColumnDef → Bool) (set : SetDef) (i : ℕ) (row : ℕ → ConstraintDef) → IsAccepted set → i < length set.tasks
     → AreOfOthers test i → ((x : ℕ) → IsOfTask x (row x))
     → length (rows_there (columns_where test set) (per (length set.tasks) row)) ≤ 63
@@ -170,7 +170,7 @@ turn_of set i x q c some =
     and_parts _ _ (flagged_pair ((c.task == x) && (c.resource == q)) (is_direct c.class) some) in
     (eqb-true _ _ both.0, eqb-true _ _ both.1)
 
--- Of the rows that every protocol has at most 319 are there, and of those of preemption 63.
+-- It has at most 319 of the rows that every protocol has, and at most 63 of those of preemption.
 pub common_there : (test : ColumnDef → Bool) (set : SetDef) (i : ℕ) → IsAccepted set → i < length set.tasks → AreRequests test set
     → AreOfOthers test i → length (rows_there (columns_where test set) (common_rows set i)) ≤ 319
 common_there test set i accepted here users others =
@@ -245,7 +245,7 @@ rows_at_most p set i accepted here =
       rest_there p set i accepted here,
     ))
 
--- So it is with the programs.
+-- The same for the programs.
 pub height_at_most : (p : Protocol) (set : SetDef) (i : ℕ) (r : List ℕ) → IsAccepted set → i < length set.tasks
     → height (program_of p set i r) ≤ 701
 height_at_most p set i r accepted here =

@@ -1,4 +1,4 @@
--- The lists of columns and rows that are written down are a program, and its limits rise with the bounds.
+-- The lists of the given columns and rows are a program, and its limits rise with the bounds.
 use Rattle.std.proofs.Common.{◌≡◌, ℕ, ◌<◌, ◌≤◌, ◌^◌, Bool, List, [], ◌∷◌, map, length, refl, sym, ◌∙◌, ap, arith}
 use Rattle.std.specs.Prelude.{slice_index, slice_index_or}
 use Rattle.std.specs.List.{All, Contains}
@@ -8,10 +8,10 @@ use Rattle.program_form.specs.Program.{IsProgram, HasLengths, AreSmall}
 use Rattle.program_form.specs.Limits.{HasLimitsAtMost}
 use Rattle.sporadic_model.specs.SetDef.{SetDef}
 use Rattle.sporadic_model.specs.Accepted.{IsAccepted}
-use Rattle.fragments.specs.ColumnDef.{ColumnDef, IsKnown}
-use Rattle.fragments.specs.Columns.{columns_where}
+use Rattle.blocking_columns.specs.ColumnDef.{ColumnDef, IsKnown}
+use Rattle.blocking_columns.specs.Columns.{columns_where}
 use Rattle.fragments.specs.Constraints.{ConstraintDef, holds_some, rows_there, limits_of}
-use Rattle.fragments.proofs.KnownColumns.{passing_known}
+use Rattle.blocking_columns.proofs.KnownColumns.{passing_known}
 use Rattle.direct_constraints.specs.Rows.{request_row}
 use Rattle.program_laws.specs.Programs.{program_with, cost_of}
 use Rattle.program_laws.specs.Written.{IsSmallRow, Rises, AreWritten}
@@ -91,7 +91,7 @@ is_program set i cs rows r accepted written = record {
       (omega (arith, filter_shorter (holds_some cs) rows, written.rows_to));
 }
 
--- Columns that pass a test are known and not many, so it is enough to know the rows.
+-- Columns that pass a test are known and not many. So it is enough to know the rows.
 pub written_where : (test : ColumnDef → Bool) (set : SetDef) (i : ℕ) (rows : List ConstraintDef) (r : List ℕ) → IsAccepted set
     → ((x q : ℕ) → x < length set.tasks → q < length set.resources → Contains rows (request_row set i x q))
     → All (IsSmallRow r) rows → length rows < 2 ^ 32 → AreWritten set i (columns_where test set) rows r

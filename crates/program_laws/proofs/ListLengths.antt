@@ -8,8 +8,8 @@ use Rattle.sporadic_model.specs.declared.ids.Protocol.{Protocol}
 use Rattle.sporadic_model.specs.declared.ids.Protocol.TheVariants as protocol
 use Rattle.sporadic_model.proofs.Laws.{sizes_of_accepted}
 use Rattle.number_laws.specs.Sums.{collect_below}
-use Rattle.fragments.specs.ColumnDef.{ColumnDef, all_columns, classes_of}
-use Rattle.fragments.specs.Columns.{columns_where, is_lower_local}
+use Rattle.blocking_columns.specs.ColumnDef.{ColumnDef, all_columns, classes_of}
+use Rattle.blocking_columns.specs.Columns.{columns_where, is_lower_local}
 use Rattle.fragments.specs.Constraints.{ConstraintDef, per, per_pair, per_where}
 use Rattle.direct_constraints.specs.Rows.{request_row, time_row, turn_row, lower_holder_row, common_rows}
 use Rattle.preempt_constraints.specs.Rows.{interval_row, preemption_rows}
@@ -47,7 +47,7 @@ triple_times (suc n) m = omega (arith, triple_times n m)
 triples : (n m : ℕ) → n * m ≤ 2048 → n * (m * 3) ≤ 6144
 triples n m h = omega (arith, h, triple_times n m)
 
--- So it is with the columns that pass a test.
+-- The same for the columns that pass a test.
 pub passing_few : (test : ColumnDef → Bool) (set : SetDef) → IsAccepted set → length (columns_where test set) ≤ 6144
 passing_few test set accepted =
     let n = length set.tasks in

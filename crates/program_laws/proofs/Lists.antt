@@ -9,14 +9,14 @@ use Rattle.std.proofs.lemmas.List.Elements.{All-head, All-tail, Contains-append_
 use Rattle.number_laws.specs.Sums.{sum_below, collect_below}
 use Rattle.number_laws.proofs.SumLaws.{sum_below-monotone, sum_below-constant}
 
--- Where each number of a list is at most m, so is what stands at any place.
+-- If each number of a list is at most m, so is the number at any place.
 pub index_at_most : (m : ℕ) (xs : List ℕ) → All (λ x. x ≤ m) xs → (c : ℕ) → slice_index xs c ≤ m
 index_at_most m [] h zero = omega arith
 index_at_most m [] h (suc c) = omega arith
 index_at_most m (x ∷ xs) h zero = All-head (λ k. k ≤ m) x xs h
 index_at_most m (x ∷ xs) h (suc c) = index_at_most m xs (All-tail (λ k. k ≤ m) x xs h) c
 
--- Where f is at most g at each element, so are the numbers that they give at any place.
+-- If f is at most g at each element, so are the numbers that they give at any place.
 pub index_rises : {X : Type 0} (f g : X → ℕ) (xs : List X) → All (λ x. f x ≤ g x) xs → (c : ℕ)
     → slice_index (map f xs) c ≤ slice_index (map g xs) c
 index_rises f g [] h zero = omega arith
@@ -24,7 +24,7 @@ index_rises f g [] h (suc c) = omega arith
 index_rises f g (x ∷ xs) h zero = All-head (λ k. f k ≤ g k) x xs h
 index_rises f g (x ∷ xs) h (suc c) = index_rises f g xs (All-tail (λ k. f k ≤ g k) x xs h) c
 
--- The same of lists of numbers.
+-- The same for lists of numbers.
 pub entries_at_most : {X : Type 0} (m : ℕ) (f : X → List ℕ) (xs : List X) → All (λ x. (c : ℕ) → slice_index (f x) c ≤ m) xs
     → (r c : ℕ) → slice_index (slice_index_or (map f xs) r []) c ≤ m
 entries_at_most m f [] h zero zero = omega arith
@@ -34,7 +34,7 @@ entries_at_most m f [] h (suc r) (suc c) = omega arith
 entries_at_most m f (x ∷ xs) h zero c = All-head (λ k. (c : ℕ) → slice_index (f k) c ≤ m) x xs h c
 entries_at_most m f (x ∷ xs) h (suc r) c = entries_at_most m f xs (All-tail (λ k. (c : ℕ) → slice_index (f k) c ≤ m) x xs h) r c
 
--- An element behind a kept or a dropped one.
+-- An element after one that is kept or dropped.
 contains_behind : {X : Type 0} (b : Bool) (y x : X) (zs : List X) → Contains zs x → Contains (cond b (y ∷ zs) zs) x
 contains_behind true y x zs (k, l, e) = (suc k, omega arith, e)
 contains_behind false y x zs h = h

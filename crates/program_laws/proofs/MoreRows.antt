@@ -1,4 +1,4 @@
--- More rows let fewer points be, so bounds that fit with fewer rows fit with more.
+-- More rows allow fewer points. So bounds that fit with fewer rows fit with more.
 use Rattle.std.proofs.Common.{◌≡◌, ℕ, ◌*◌, ◌<◌, ◌≤◌, ◌++◌, Bool, List, [], length, map, get_or, sym, ap, ◌∙◌, arith}
 use Rattle.std.specs.Prelude.{slice_index}
 use Rattle.std.proofs.lemmas.List.{get_or_append_left, map-append, length-append, length-map}
@@ -9,13 +9,13 @@ use Rattle.program_form.specs.Program.{ProgramDef, columns, height, entry, limit
 use Rattle.program_form.specs.Points.{IsScaledPoint}
 use Rattle.sporadic_model.specs.SetDef.{SetDef}
 use Rattle.program_sources.specs.Fitting.{AreFitting}
-use Rattle.fragments.specs.ColumnDef.{ColumnDef}
-use Rattle.fragments.specs.declared.columns.Class.{Class}
-use Rattle.fragments.specs.Columns.{columns_by}
+use Rattle.blocking_columns.specs.ColumnDef.{ColumnDef}
+use Rattle.blocking_columns.specs.declared.columns.Class.{Class}
+use Rattle.blocking_columns.specs.Columns.{columns_by}
 use Rattle.fragments.specs.Constraints.{ConstraintDef, holds_some, rows_there, coefficients_of, limits_of}
 use Rattle.program_laws.specs.Programs.{program_with, source_with}
 
--- A list of rows with more behind: its numbers stand before theirs.
+-- A list of rows with more rows after it: its numbers come before theirs.
 there_append : (cs : List ColumnDef) (rows more : List ConstraintDef) → rows_there cs (rows ++ more) ≡ rows_there cs rows ++ rows_there cs more
 there_append cs rows more = filter-append (holds_some cs) rows more
 
@@ -31,7 +31,7 @@ limits_append cs rows more bounds =
     ap (map (λ (row : ConstraintDef). row.limit (slice_index bounds))) (there_append cs rows more)
     ∙ map-append (λ (row : ConstraintDef). row.limit (slice_index bounds)) (rows_there cs rows) (rows_there cs more)
 
--- A point of a program with more rows is one of the program without them.
+-- A point of a program with more rows is a point of the program without them.
 pub fewer_rows : (set : SetDef) (cs : List ColumnDef) (rows more : List ConstraintDef) (bounds : List ℕ) (s : ℕ) (ys : ℕ → ℕ)
     → IsScaledPoint (program_with set cs (rows ++ more) bounds) s ys → IsScaledPoint (program_with set cs rows bounds) s ys
 fewer_rows set cs rows more bounds s ys point = record { positive = point.positive; kept = λ r l. kept r l } where

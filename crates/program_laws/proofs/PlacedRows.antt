@@ -1,5 +1,5 @@
--- How many rows are there of those for a task and a place of resources, or for a place of tasks and a resource: no two of them have a
--- column in common, so at most as many as pairs of a task and a resource that it uses.
+-- How many rows does a program have for a task and a place of resources, or for a place of tasks and a resource? No two of them have a
+-- column in common. So there are at most as many as pairs of a task and a resource that it uses.
 use Rattle.std.proofs.Common.{◌≡◌, ℕ, ◌<◌, ◌≤◌, ◌==◌, ◌&&◌, Bool, true, false, List, [], ◌∷◌, ◌++◌, ◌+◌, map, length, refl, sym, ◌∙◌, arith}
 use Rattle.std.specs.List.{All, filter}
 use Rattle.std.proofs.lemmas.Bool.{and_parts, eqb-true, eq-eqb, not-true}
@@ -13,11 +13,11 @@ use Rattle.program_form.specs.Program.{height, columns}
 use Rattle.sporadic_model.specs.SetDef.{SetDef}
 use Rattle.sporadic_model.specs.Users.{is_user, length_of}
 use Rattle.sporadic_model.specs.Accepted.{IsAccepted}
-use Rattle.fragments.specs.declared.columns.Class.{Class}
-use Rattle.fragments.specs.ColumnDef.{ColumnDef, IsKnown}
-use Rattle.fragments.specs.Columns.{is_column_by, columns_where, AreRequests, AreOfOthers}
+use Rattle.blocking_columns.specs.declared.columns.Class.{Class}
+use Rattle.blocking_columns.specs.ColumnDef.{ColumnDef, IsKnown}
+use Rattle.blocking_columns.specs.Columns.{is_column_by, columns_where, AreRequests, AreOfOthers}
 use Rattle.fragments.specs.Constraints.{ConstraintDef, per_pair, holds_some, rows_there}
-use Rattle.fragments.proofs.KnownColumns.{passing_pass, passing_known}
+use Rattle.blocking_columns.proofs.KnownColumns.{passing_pass, passing_known}
 use Rattle.program_laws.specs.Programs.{program_with}
 use Rattle.program_laws.proofs.FewRows.{kept_pairs, held}
 use Rattle.program_laws.proofs.UsedResources.{pairs_few}
@@ -37,7 +37,7 @@ one_place : (n : ℕ) (b : Bool) (i : ℕ) → count_below n (λ k. b && (i == k
 one_place n true i = count_below-one n (λ k. i == k) (λ a c la lc here there. sym (eqb-true i a here) ∙ eqb-true i c there)
 one_place n false i = omega (arith, count_below-none n (λ k. false) (λ k l. refl))
 
--- Where each number that passes is the place of one that passes, at most as many pass as of these.
+-- If each number that passes is the place of one that passes another test, no more numbers pass than of those.
 pub count_below-placed : (n m : ℕ) (p q : ℕ → Bool) (place : ℕ → ℕ) → ((k : ℕ) → k < n → p k ≡ true → PlacedAt m q place k)
     → count_below n p ≤ count_below m q
 count_below-placed n m p q place at =
@@ -108,7 +108,7 @@ uses_from test set place k q row users of h =
       there = at.0;
     }
 
--- Of rows for each task and each place of resources at most 256 are there.
+-- A program has at most 256 rows for each task and each place of resources.
 pub place_rows_few : (test : ColumnDef → Bool) (set : SetDef) (places : ℕ) (place : ℕ → ℕ) (row : ℕ → ℕ → ConstraintDef)
     → IsAccepted set → AreRequests test set → ((x k : ℕ) → IsOfPlace place x k (row x k))
     → length (rows_there (columns_where test set) (per_pair (length set.tasks) places row)) ≤ 256
@@ -121,7 +121,7 @@ place_rows_few test set places place row accepted users of =
     used_at test set place x k (row x k) users (of x k) h)) in
     omega (arith, kept_pairs there n places row, each, pairs_few set accepted)
 
--- And of rows for each place of tasks and each resource.
+-- The same of rows for each place of tasks and each resource.
 pub origin_rows_few : (test : ColumnDef → Bool) (set : SetDef) (places : ℕ) (place : ℕ → ℕ) (row : ℕ → ℕ → ConstraintDef)
     → IsAccepted set → AreRequests test set → ((k q : ℕ) → IsOfOrigin place k q (row k q))
     → length (rows_there (columns_where test set) (per_pair places (length set.resources) row)) ≤ 256
@@ -141,7 +141,7 @@ origin_rows_few test set places place row accepted users of =
       pairs_few set accepted,
     )
 
--- Rows behind others are there as they are alone.
+-- Of two lists of rows, one after the other, a program has as many rows as of each list alone, together.
 pub there_behind : (cs : List ColumnDef) (rows more : List ConstraintDef)
     → length (rows_there cs (rows ++ more)) ≡ length (rows_there cs rows) + length (rows_there cs more)
 there_behind cs rows more = rw (
@@ -149,7 +149,7 @@ there_behind cs rows more = rw (
   length-append (filter (holds_some cs) rows) (filter (holds_some cs) more),
 ) refl
 
--- A program has a row for each that is there, and a column for each.
+-- A program has a row for each given row with a coefficient above zero, and a column for each given column.
 pub height_is : (set : SetDef) (cs : List ColumnDef) (rows : List ConstraintDef) (r : List ℕ)
     → height (program_with set cs rows r) ≡ length (rows_there cs rows)
 height_is set cs rows r = length-map (rows_there cs rows) (λ (k : ConstraintDef). map k.coefficient cs)
@@ -158,7 +158,7 @@ pub width_is : (set : SetDef) (cs : List ColumnDef) (rows : List ConstraintDef) 
     → columns (program_with set cs rows r) ≡ length cs
 width_is set cs rows r = length-map cs (λ (c : ColumnDef). length_of set c.task c.resource)
 
--- The columns of a task, of whatever protocol, are requests by users of their resources, and by other tasks.
+-- The columns of a task, of any protocol, are requests by users of their resources, and by other tasks.
 pub columns_by_requests : (blocks : ℕ → ℕ → Class → Bool) (set : SetDef) (i : ℕ) → AreRequests (is_column_by blocks set i) set
 columns_by_requests blocks set i c passes = (and_parts _ _ (and_parts _ _ passes).0).1
 

@@ -1,4 +1,4 @@
--- No limit of a row falls where as many jobs of each task can run or more, as where bounds rise.
+-- No limit of a row falls if as many jobs of each task can run or more. That is so if bounds rise.
 use Rattle.std.proofs.Common.{ℕ, ◌+◌, ◌<◌, ◌≤◌, List, length, arith}
 use Rattle.std.specs.Prelude.{slice_index}
 use Rattle.std.specs.List.{All}
@@ -10,19 +10,19 @@ use Rattle.sporadic_model.specs.Users.{count_of, is_user}
 use Rattle.sporadic_model.specs.declared.ids.Protocol.{Protocol}
 use Rattle.program_sources.specs.Bounds.{AtMost}
 use Rattle.program_sources.proofs.RecurrenceLaws.{div_ceil_rises}
-use Rattle.fragments.specs.Windows.{jobs_in, requests_in}
+use Rattle.blocking_columns.specs.Windows.{jobs_in, requests_in}
 use Rattle.direct_constraints.specs.Rows.{time_row, common_rows}
 use Rattle.preempt_constraints.specs.Rows.{preemption_rows}
 use Rattle.indirect_constraints.specs.Rows.{is_beside, higher_holdings, lower_holdings, holdings}
 use Rattle.program_laws.specs.Written.{Rises, HasJobsAtMost, KeepsJobs}
 use Rattle.program_laws.proofs.RowKinds.{EachKind, common_each, preemption_each}
 
--- Where bounds rise, as many jobs can run or more.
+-- If bounds rise, as many jobs can run or more.
 pub jobs_rise : (set : SetDef) (r s : List ℕ) (i : ℕ) → i < length set.tasks → AtMost (length set.tasks) r s → HasJobsAtMost set i r s
 jobs_rise set r s i here h x there = div_ceil_rises (slice_index r i + (slice_index r x + (task_at set x).jitter))
     (slice_index s i + (slice_index s x + (task_at set x).jitter)) (task_at set x).period (omega (arith, h i here, h x there))
 
--- Where as many can run, no more can at one than at the other.
+-- If as many can run at one as at the other, no more can at either.
 pub jobs_stay : (set : SetDef) (r s : List ℕ) (i : ℕ) → KeepsJobs set i r s → (HasJobsAtMost set i r s) × HasJobsAtMost set i s r
 jobs_stay set r s i same = (λ x there. omega (arith, same x there), λ x there. omega (arith, same x there))
 

@@ -5,9 +5,9 @@ use Rattle.std.proofs.lemmas.List.Elements.{All-nil, All-cons, All-append}
 use Rattle.sporadic_model.specs.SetDef.{SetDef}
 use Rattle.sporadic_model.specs.declared.ids.Protocol.{Protocol}
 use Rattle.sporadic_model.specs.declared.ids.Protocol.TheVariants as protocol
-use Rattle.fragments.specs.Columns.{is_lower_local}
+use Rattle.blocking_columns.specs.Columns.{is_lower_local}
 use Rattle.fragments.specs.Constraints.{ConstraintDef, per, per_where, per_pair}
-use Rattle.fragments.proofs.KnownColumns.{all_collected}
+use Rattle.blocking_columns.proofs.KnownColumns.{all_collected}
 use Rattle.direct_constraints.specs.Rows.{request_row, time_row, turn_row, lower_holder_row, common_rows, own_rows}
 use Rattle.preempt_constraints.specs.Rows.{interval_row, preemption_rows}
 use Rattle.indirect_constraints.specs.Rows.{queue_row, holding_row, home_row, indirect_rows}
@@ -37,7 +37,7 @@ common_each P set i request time =
     (all_per_pair P (length set.tasks) (length set.resources) (request_row set i) request)
     (all_per P (length set.tasks) (time_row set i) time)
 
--- And what is true of each row of intervals, of the rows of preemption.
+-- What is true of each row of intervals is true of the rows of preemption.
 pub preemption_each : (P : ConstraintDef → Type 0) (set : SetDef) (i : ℕ)
     → ((x : ℕ) → x < length set.tasks → is_lower_local set i x ≡ true → P (interval_row set i x)) → All P (preemption_rows set i)
 preemption_each P set i interval = all_per_where P (is_lower_local set i) (length set.tasks) (interval_row set i) interval
@@ -69,7 +69,7 @@ each_row P p set i each =
     All-append P (common_rows set i) (preemption_rows set i ++ protocol_rows p set i) (common_each P set i each.request each.time)
     (All-append P (preemption_rows set i) (protocol_rows p set i) (preemption_each P set i each.interval) (protocol_each P p set i each))
 
--- A protocol's own rows are those of direct blocking, and behind them those of indirect blocking.
+-- A protocol's own rows are those of direct blocking, and after them those of indirect blocking.
 pub direct_then_indirect : (p : Protocol) (set : SetDef) (i : ℕ) → own_rows p set i ++ indirect_rows p set i ≡ protocol_rows p set i
 direct_then_indirect protocol.FmlpPlus set i = refl
 direct_then_indirect protocol.Mpcp set i = refl

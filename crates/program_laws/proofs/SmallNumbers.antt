@@ -21,8 +21,8 @@ use Rattle.sporadic_model.specs.Homes.{home_in}
 use Rattle.sporadic_model.specs.declared.ids.Protocol.{Protocol}
 use Rattle.sporadic_model.proofs.Laws.{numbers_of_accepted, sizes_of_accepted, entry_of_accepted}
 use Rattle.program_sources.specs.Bounds.{AreWithinDeadlines}
-use Rattle.fragments.specs.ColumnDef.{ColumnDef}
-use Rattle.fragments.specs.Windows.{jobs_in, requests_in, all_requests}
+use Rattle.blocking_columns.specs.ColumnDef.{ColumnDef}
+use Rattle.blocking_columns.specs.Windows.{jobs_in, requests_in, all_requests}
 use Rattle.direct_constraints.specs.Rows.{request_row, time_row, turn_row, common_rows}
 use Rattle.preempt_constraints.specs.Rows.{interval_row, preemption_rows}
 use Rattle.indirect_constraints.specs.Rows.{is_beside, higher_holdings, lower_holdings, holdings}
@@ -63,7 +63,7 @@ bound_small set r x accepted within here =
     let numbers = numbers_of_accepted set x accepted here in
     omega (arith, within.to_latest x here, numbers.deadline_to, numbers.period_to)
 
--- And so are a bound and the task's jitter together.
+-- A bound and the task's jitter together are too.
 pub late_bound_small : (set : SetDef) (r : List ℕ) (x : ℕ) → IsAccepted set → AreWithinDeadlines set r → x < length set.tasks
     → slice_index r x + (task_at set x).jitter ≤ 1000000000
 late_bound_small set r x accepted within here =
@@ -144,7 +144,7 @@ holdings_small set r i x accepted within here =
 pub flag_small : (b : Bool) → flag b ≤ 9223372036854775807
 flag_small b = omega (arith, flag-at_most b)
 
--- A row of flags is small where its limit is.
+-- A row of flags is small if its limit is.
 pub small_flags : (r : List ℕ) (test : ColumnDef → Bool) (limit : (ℕ → ℕ) → ℕ) → limit (slice_index r) ≤ 9223372036854775807
     → IsSmallRow r (record { coefficient = λ c. flag (test c); limit = limit })
 small_flags r test limit few = record { coefficients = λ c. flag_small (test c); limit = few }

@@ -1,4 +1,4 @@
--- A task uses at most as many resources as it has request entries, so a program has at most three columns for each entry.
+-- A task uses at most as many resources as it has request entries. So a program has at most three columns for each entry.
 use Rattle.std.proofs.Common.{◌≡◌, ℕ, zero, suc, ◌*◌, ◌<◌, ◌≤◌, ◌||◌, Bool, true, false, nat_lt, List}
 use Rattle.std.proofs.Common.{[], ◌∷◌, length, refl, sym, ◌∙◌, arith, inl, inr, cond, Option, Some}
 use Rattle.std.specs.Prelude.{find}
@@ -18,10 +18,10 @@ use Rattle.sporadic_model.specs.Users.{is_user}
 use Rattle.sporadic_model.specs.Accepted.{IsAccepted, AreNamed}
 use Rattle.sporadic_model.specs.declared.ids.Protocol.{Protocol}
 use Rattle.sporadic_model.proofs.Laws.{sizes_of_accepted, names_of_accepted}
-use Rattle.fragments.specs.declared.columns.Class.TheVariants as class
-use Rattle.fragments.specs.ColumnDef.{ColumnDef, classes_of}
-use Rattle.fragments.specs.Columns.{is_column, columns_where, columns_of, AreRequests}
-use Rattle.fragments.proofs.KnownColumns.{columns_are_requests}
+use Rattle.blocking_columns.specs.declared.columns.Class.TheVariants as class
+use Rattle.blocking_columns.specs.ColumnDef.{ColumnDef, classes_of}
+use Rattle.blocking_columns.specs.Columns.{is_column, columns_where, columns_of, AreRequests}
+use Rattle.blocking_columns.proofs.KnownColumns.{columns_are_requests}
 use Rattle.program_laws.proofs.Lists.{filter_shorter}
 
 -- Is the entry one of a resource of this name?
@@ -44,7 +44,7 @@ found_named : (es : List RequestDef) (name : List ℕ)
 found_named [] name h = absurd cc
 found_named (e ∷ es) name h = step_named (names e name) (named es name) e (find (λ e. bytes_eq e.resource name) es) h (found_named es name)
 
--- Entries name at most as many of differing names as they are.
+-- The entries name no more different names than there are entries.
 named_few : (m : ℕ) (name : ℕ → List ℕ) → ((p q : ℕ) → p < m → q < m → name p ≡ name q → p ≡ q) → (es : List RequestDef)
     → count_below m (λ q. named es (name q)) ≤ length es
 named_few m name apart [] = omega (arith, count_below-none m (λ q. false) (λ k l. refl))
@@ -131,7 +131,7 @@ entries_few set accepted =
     let sizes = sizes_of_accepted set accepted in
     omega (arith, all, sizes.requests_to)
 
--- So at most 256 pairs of a task and a resource that it uses.
+-- So there are at most 256 pairs of a task and a resource that it uses.
 pub pairs_few : (set : SetDef) → IsAccepted set
     → sum_below (length set.tasks) (λ x. count_below (length set.resources) (λ q. is_user set q x)) ≤ 256
 pairs_few set accepted =
@@ -139,7 +139,7 @@ pairs_few set accepted =
     (λ x. length (task_at set x).requests) (λ x l. used_few set x accepted) in
     omega (arith, each, entries_few set accepted)
 
--- And at most three columns for each entry that are requests of a user, so at most 768.
+-- There are at most three columns for each entry that are requests by a user, so at most 768.
 pub requests_at_most : (test : ColumnDef → Bool) (set : SetDef) → IsAccepted set → AreRequests test set
     → length (columns_where test set) ≤ 768
 requests_at_most test set accepted users =

@@ -1,5 +1,4 @@
--- A worked set: three tasks on three processors, and two resources that the first two request and the first of which the
--- third requests.
+-- A worked set: three tasks on three processors, and two resources. The first two tasks request both, and the third requests the first one.
 use Rattle.std.specs.Prelude.{ℕ, ◌+◌, List, [], ◌∷◌, None}
 use Rattle.program_form.specs.Program.{ProgramDef, columns, height}
 use Rattle.sporadic_model.specs.SetDef.{SetDef, TaskDef, RequestDef}

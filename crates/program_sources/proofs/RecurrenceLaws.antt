@@ -1,4 +1,4 @@
--- How the recurrence of a source follows its bounds: interference and what programs reach never fall where bounds rise.
+-- How the recurrence of a source depends on its bounds: interference and what programs reach never fall when bounds rise.
 use Rattle.std.proofs.Common.{◌≡◌, ℕ, zero, suc, ◌+◌, ◌-◌, ◌*◌, ◌<◌, ◌≤◌, List, length, refl, arith, inl, inr}
 use Rattle.std.proofs.Math.Nat.{div-zero, mod-zero, mul-le-mul_right}
 use Rattle.std.proofs.lemmas.Bool.{cases_lt}
@@ -17,7 +17,7 @@ use Rattle.program_sources.specs.Recurrence.{SourceDef, interference_by, interfe
 use Rattle.program_sources.specs.Fitting.{AreFitting, NeverFalls, ComesUpAbove, tasks_of}
 use Rattle.program_sources.specs.Valid.{IsValid, value_at, dual_at}
 
--- A quotient that is rounded up doesn't fall where its dividend rises.
+-- A quotient that is rounded up doesn't fall when its dividend rises.
 pub div_ceil_rises : (a b n : ℕ) → a ≤ b → div_ceil a n ≤ div_ceil b n
 div_ceil_rises a b zero h = rw (div-zero, div-zero, mod-zero, mod-zero) (omega arith)
 div_ceil_rises a b (suc n) h =
@@ -38,14 +38,14 @@ interference_by_rises g set r s i h own other =
     div_ceil_rises _ _ _ (omega arith) in
     mul-le-mul_right (g h) jobs
 
--- Interference never falls where bounds rise.
+-- Interference never falls when bounds rise.
 pub interference_rises : (g : ℕ → ℕ) (set : SetDef) (r s : List ℕ) (i : ℕ) → i < length set.tasks
     → AtMost (length set.tasks) r s → interference_of g set r i ≤ interference_of g set s i
 interference_rises g set r s i here h = sum_below-monotone i _ _ (λ k below.
     only_if-rises (is_higher_local set i k) (interference_by g set r i k) (interference_by g set s i k)
     (λ counts. interference_by_rises g set r s i k (h i here) (h k (omega arith))))
 
--- The law of sources that their recurrences rest on: bounds are in the limits alone, and no limit falls where bounds rise.
+-- The law of sources on which their recurrences rest: only the limits depend on the bounds, and no limit falls when bounds rise.
 abbrev pub LimitsRise : SourceDef → Type 0
 LimitsRise f = (i : ℕ) (r s : List ℕ) → i < tasks_of f → AtMost (tasks_of f) r s → HasLimitsAtMost (f.program i r) (f.program i s)
 

@@ -1,9 +1,9 @@
-//! Sources of blocking programs: what an analysis needs of a locking protocol, and the recurrence, fitting bounds and valid
-//! certificates over any of them.
+//! Sources of blocking programs: what an analysis needs of a locking protocol. And the recurrence, fitting bounds and valid certificates
+//! over any source.
 //!
-//! A source gives each task of a set a program at a vector of bounds, and says how many ticks of a higher job count as
-//! interference. The definitions in `specs/` compare all points and all vectors, and know of no protocol, no table and no
-//! rounds. The functions of `laws` state what follows from the laws of [`ProgramSource`] alone.
+//! A source gives each task of a set a program at a vector of bounds. It says how many ticks of a higher job count as interference. The
+//! definitions in `specs/` are about all points and all vectors, and know no protocol, no table and no rounds. The functions of `laws`
+//! state what follows from the laws of [`ProgramSource`] alone.
 #![tactic(auto)]
 
 mod laws;

@@ -10,17 +10,17 @@ use program_form::{Program, SparseProgram};
 use sporadic_model::{TaskId, TaskSet};
 use std::alloc::{AllocError, Global};
 
-/// A source of blocking programs: for each set that it serves a program of each task at a vector of bounds, and each task's
+/// A source of blocking programs. For each set that it serves it gives a program of each task at a vector of bounds, and each task's
 /// interfering cost. Bounds are in ticks, one for each task.
 pub trait ProgramSource {
-    /// Which task sets does the source serve? All that follows speaks of these.
+    /// Which task sets does the source serve? All of the laws below are about these sets.
     ghost serves: { Self → SetDef → Type 0 };
 
-    /// The blocking program of each task of a set at bounds, and how many ticks of one job of it count as interference for
-    /// lower tasks of its processor.
+    /// The blocking program of each task of a set at bounds, and how many ticks of one of its jobs count as interference for lower tasks of
+    /// its processor.
     ghost source: { Self → SetDef → SourceDef };
 
-    /// The blocking program of task `i` at these bounds. It refuses for want of memory alone.
+    /// The blocking program of task `i` at these bounds. It fails only for want of memory.
     fn program(
         &self,
         alloc: Global,
@@ -33,7 +33,7 @@ pub trait ProgramSource {
         requires within { AreWithinDeadlines set.now bounds.now }
         ensures { IfOk result (λ p. p ≡ (source self.now set.now).program i.0 bounds.now) };
 
-    /// The same program, kept by its nonzero coefficients. It refuses for want of memory alone.
+    /// The same program, kept by its nonzero coefficients. It fails only for want of memory.
     fn sparse_program(
         &self,
         alloc: Global,
@@ -46,13 +46,13 @@ pub trait ProgramSource {
         requires within { AreWithinDeadlines set.now bounds.now }
         ensures { IfOk result (λ p. p ≡ (source self.now set.now).program i.0 bounds.now) }
     {
-        // a source that can form it so at once does so
+        // another source may form it without the full program
         let program = self.program(alloc, set, i, bounds)?;
         SparseProgram::new(alloc, &program)
     }
 
-    /// The limits of the rows of task `i`'s program at these bounds. A caller that has formed the program at other bounds renews its
-    /// limits by this, since its columns and coefficients don't depend on the bounds. It refuses for want of memory alone.
+    /// The limits of the rows of task `i`'s program at these bounds. Columns and coefficients don't depend on the bounds. So a caller that
+    /// has the program at other bounds renews only its limits. It fails only for want of memory.
     fn limits(
         &self,
         alloc: Global,
@@ -65,13 +65,13 @@ pub trait ProgramSource {
         requires within { AreWithinDeadlines set.now bounds.now }
         ensures { IfOk result (λ v. v.items ≡ ((source self.now set.now).program i.0 bounds.now).limits) }
     {
-        // a source that can compute limits alone does so
+        // another source may compute the limits alone
         let program = self.program(alloc, set, i, bounds)?;
         program.limits().to_vec(alloc)
     }
 
-    /// Has task `i`'s program surely the same limits at these bounds as at the earlier ones? Then a caller that has it, and its solution,
-    /// goes on with both. A source that can't tell answers no.
+    /// Has task `i`'s program surely the same limits at these bounds as at the earlier ones? Then a caller keeps its program and its
+    /// solution. A source that can't tell answers no.
     fn keeps_limits(&self, set: &TaskSet, i: TaskId, earlier: &[u64], bounds: &[u64]) -> bool
         requires serves { serves self.now set.now }
         requires task { i.0 < length set.now.tasks }
@@ -80,11 +80,11 @@ pub trait ProgramSource {
         ensures { IsTrue result → ((source self.now set.now).program i.0 earlier.now).limits
             ≡ ((source self.now set.now).program i.0 bounds.now).limits }
     {
-        // whoever asks then computes the limits and compares them
+        // the caller then computes the limits and compares them
         false
     }
 
-    /// The ticks that the recurrence counts for jobs of all higher tasks on `i`'s processor together.
+    /// The ticks that the recurrence counts for the jobs of all higher tasks on `i`'s processor together.
     fn interference(&self, set: &TaskSet, i: TaskId, bounds: &[u64]) -> u64
         requires serves { serves self.now set.now }
         requires task { i.0 < length set.now.tasks }
@@ -97,11 +97,11 @@ pub trait ProgramSource {
     ghost covers: { (p : Self) (set : SetDef) (i : ℕ) (r : List ℕ) (c : ℕ) → serves p set → i < length set.tasks
         → c < columns ((source p set).program i r) → IsCovered ((source p set).program i r) c };
 
-    /// Columns, costs and coefficients do not depend on the bounds, and no limit falls where bounds rise.
+    /// Columns, costs and coefficients don't depend on the bounds, and no limit falls when bounds rise.
     ghost rises: { (p : Self) (set : SetDef) (i : ℕ) (r s : List ℕ) → serves p set → i < length set.tasks
         → AtMost (length set.tasks) r s → HasLimitsAtMost ((source p set).program i r) ((source p set).program i s) };
 
-    /// The lists of an accepted set, at bounds within its deadlines, are a program: they fit together and no number is large.
+    /// For an accepted set, and at bounds within its deadlines, the lists are a program: their lengths match and no number is large.
     ghost is_program: { (p : Self) (set : SetDef) (i : ℕ) (r : List ℕ) → serves p set → IsAccepted set → i < length set.tasks
         → AreWithinDeadlines set r → IsProgram ((source p set).program i r) };
 
@@ -109,7 +109,7 @@ pub trait ProgramSource {
     ghost least: { (p : Self) (set : SetDef) (h : ℕ) → serves p set → h < length set.tasks → TaskNumbers set h
         → 1 ≤ (source p set).interfering h };
 
-    /// It is at most the task's cost.
+    /// The interfering cost is at most the task's cost.
     ghost most: { (p : Self) (set : SetDef) (h : ℕ) → serves p set → h < length set.tasks → TaskNumbers set h
         → (source p set).interfering h ≤ (task_at set h).cost };
 }

@@ -5,7 +5,7 @@ ghost use Rattle.program_sources.specs.Recurrence.{source_at, response_with};
 use crate::source::ProgramSource;
 use sporadic_model::{TaskId, TaskSet};
 
-/// The response time of task `i` at these bounds where its job is blocked for so long, all in ticks.
+/// The response time of task `i` at these bounds, if its job is blocked for this long. All are in ticks.
 pub fn response<P: ProgramSource>(
     set: &TaskSet,
     protocol: &P,

@@ -14,6 +14,9 @@ word_of name.Dflp = codes "dflp"
 word_of name.Spin = codes "spin"
 word_of name.DpcpWindows = codes "dpcp-w"
 word_of name.FmlpPlusCloser = codes "fmlp+-c"
+word_of name.SpinCloser = codes "spin-c"
+word_of name.DpcpCloser = codes "dpcp-c"
+word_of name.DflpCloser = codes "dflp-c"
 word_of name.MpcpCloser = codes "mpcp-c"
 
 -- Which protocol does this word name?
@@ -25,6 +28,9 @@ name_of word = if bytes_eq word (codes "mpcp") then Some (name.Base protocol.Mpc
     else if bytes_eq word (codes "spin") then Some name.Spin
     else if bytes_eq word (codes "dpcp-w") then Some name.DpcpWindows
     else if bytes_eq word (codes "fmlp+-c") then Some name.FmlpPlusCloser
+    else if bytes_eq word (codes "spin-c") then Some name.SpinCloser
+    else if bytes_eq word (codes "dpcp-c") then Some name.DpcpCloser
+    else if bytes_eq word (codes "dflp-c") then Some name.DflpCloser
     else if bytes_eq word (codes "mpcp-c") then Some name.MpcpCloser
     else None
 
@@ -35,4 +41,7 @@ homes_as name.Dflp = protocol.Dpcp
 homes_as name.Spin = protocol.Mpcp
 homes_as name.DpcpWindows = protocol.Dpcp
 homes_as name.FmlpPlusCloser = protocol.FmlpPlus
+homes_as name.SpinCloser = protocol.Mpcp
+homes_as name.DpcpCloser = protocol.Dpcp
+homes_as name.DflpCloser = protocol.Dpcp
 homes_as name.MpcpCloser = protocol.Mpcp

@@ -19,6 +19,12 @@ pub enum ProtocolName {
     DpcpWindows,
     /// FMLP+, whose programs have the rows of the closer analysis too.
     FmlpPlusCloser,
+    /// FIFO spin locks, whose programs have the rows of the closer analysis.
+    SpinCloser,
+    /// DPCP, whose programs have the windows of requests and the rows of the closer analysis.
+    DpcpCloser,
+    /// The distributed FIFO protocol, whose programs have the rows of the closer analysis too.
+    DflpCloser,
     /// MPCP, whose programs have the rows of the closer analysis too.
     MpcpCloser,
 }
@@ -36,6 +42,9 @@ impl ProtocolName {
             ProtocolName::Spin => "spin",
             ProtocolName::DpcpWindows => "dpcp-w",
             ProtocolName::FmlpPlusCloser => "fmlp+-c",
+            ProtocolName::SpinCloser => "spin-c",
+            ProtocolName::DpcpCloser => "dpcp-c",
+            ProtocolName::DflpCloser => "dflp-c",
             ProtocolName::MpcpCloser => "mpcp-c",
         }
     }
@@ -50,6 +59,9 @@ impl ProtocolName {
             ProtocolName::Spin => Protocol::Mpcp,
             ProtocolName::DpcpWindows => Protocol::Dpcp,
             ProtocolName::FmlpPlusCloser => Protocol::FmlpPlus,
+            ProtocolName::SpinCloser => Protocol::Mpcp,
+            ProtocolName::DpcpCloser => Protocol::Dpcp,
+            ProtocolName::DflpCloser => Protocol::Dpcp,
             ProtocolName::MpcpCloser => Protocol::Mpcp,
         }
     }
@@ -67,6 +79,9 @@ pub fn protocol_named(word: &str) -> Option<ProtocolName>
         "spin" => Some(ProtocolName::Spin),
         "dpcp-w" => Some(ProtocolName::DpcpWindows),
         "fmlp+-c" => Some(ProtocolName::FmlpPlusCloser),
+        "spin-c" => Some(ProtocolName::SpinCloser),
+        "dpcp-c" => Some(ProtocolName::DpcpCloser),
+        "dflp-c" => Some(ProtocolName::DflpCloser),
         "mpcp-c" => Some(ProtocolName::MpcpCloser),
         _ => None,
     }

@@ -6,7 +6,7 @@ use Rattle.program_form.specs.Program.{IsProgram}
 use Rattle.program_form.specs.RowBlock.{RowBlockDef}
 use Rattle.program_form.specs.SparseRows.{SparseRowsDef, AreListed, sparse_rows_seen}
 use Rattle.sporadic_model.specs.SetDef.{SetDef}
-use Rattle.fragments.specs.ColumnDef.{ColumnDef}
+use Rattle.blocking_columns.specs.ColumnDef.{ColumnDef}
 use Rattle.fragments.specs.Constraints.{ConstraintDef, block_of}
 use Rattle.fragments.specs.SparseTaking.{HasSparseBehind, takes_sparse}
 use Rattle.program_laws.specs.Programs.{cost_of, program_with}

@@ -44,8 +44,8 @@ fn interference_of_task(
     jobs_in(window, bound - ticks, period) * ticks
 }
 
-/// The ticks that the recurrence counts, where these are the bounds, for jobs of all higher tasks on `i`'s processor: of each
-/// as many jobs as can run within `i`'s bound, each with the task's cost, under DPCP with its local limit.
+/// The ticks that the recurrence counts at these bounds for jobs of all higher tasks on `i`'s processor. Of each task as many jobs count as
+/// can run within `i`'s bound, each with the task's cost; under DPCP with its local limit.
 pub fn interference(set: &TaskSet, protocol: Protocol, i: TaskId, bounds: &[u64]) -> u64
     requires task { i.0 < length set.now.tasks }
     requires within { AreWithinDeadlines set.now bounds.now }

@@ -7,8 +7,8 @@ ghost use Rattle.program_laws.specs.Written.{KeepsJobs};
 use fragments::jobs;
 use sporadic_model::{TaskId, TaskSet};
 
-/// Can just as many jobs of each task run within task `i`'s bound at these bounds as at the earlier ones? Then the limits of `i`'s
-/// program are the same under every protocol that is written down here.
+/// Can exactly as many jobs of each task run within task `i`'s bound at these bounds as at the earlier ones? Then the limits of `i`'s
+/// program are the same, under every protocol that this crate forms programs of.
 pub fn keeps_jobs(set: &TaskSet, i: TaskId, earlier: &[u64], bounds: &[u64]) -> bool
     requires task { i.0 < length set.now.tasks }
     requires earlier { AreWithinDeadlines set.now earlier.now }

@@ -1,4 +1,4 @@
-//! What blocking programs are made of, and the programs and limits that are made of it.
+//! The parts of blocking programs, and the programs and limits that are made of them.
 
 ghost use Rattle.std.specs.Prelude.{◌≡◌, ℕ, ◌<◌, List, map, length, IfOk};
 ghost use Rattle.program_form.specs.RowBlock.{block_seen};
@@ -6,7 +6,7 @@ ghost use Rattle.program_form.specs.Program.{IsProgram};
 ghost use Rattle.sporadic_model.specs.SetDef.{SetDef};
 ghost use Rattle.sporadic_model.specs.Accepted.{IsAccepted};
 ghost use Rattle.program_sources.specs.Bounds.{AreWithinDeadlines};
-ghost use Rattle.fragments.specs.ColumnDef.{ColumnDef, column_seen, AreKnown};
+ghost use Rattle.blocking_columns.specs.ColumnDef.{ColumnDef, column_seen, AreKnown};
 ghost use Rattle.fragments.specs.Constraints.{ConstraintDef};
 ghost use Rattle.program_laws.specs.Programs.{cost_of, program_with};
 ghost use Rattle.protocol_programs.specs.Lists.{lists_of};
@@ -16,19 +16,19 @@ use program_form::{Program, RowBlock, SparseProgram, SparseRows, refusals_are_ex
 use sporadic_model::{TaskId, TaskSet};
 use std::alloc::{AllocError, Global};
 
-/// What blocking programs are made of: for each set that it serves the columns of each task's program, and the rows over them. The
-/// programs, dense or sparse, and their limits follow by [`program_with`], [`sparse_program_with`] and [`limits_with`].
+/// The parts of blocking programs: for each set that is served, the columns of each task's program, and the rows over them.
+/// [`program_with`], [`sparse_program_with`] and [`limits_with`] make of them the programs, dense or sparse, and their limits.
 pub trait ProgramParts {
-    /// Which task sets are served? All that follows speaks of these.
+    /// Which task sets are served? All of the laws below are about these sets.
     ghost serves: { Self → SetDef → Type 0 };
 
     /// The columns of each task's program, in their order.
     ghost columns: { Self → SetDef → ℕ → List ColumnDef };
 
-    /// The rows of each task's program, in their order. One in which no column has a coefficient above zero is left out.
+    /// The rows of each task's program, in their order. A row in which no column has a coefficient above zero is left out.
     ghost rows: { Self → SetDef → ℕ → List ConstraintDef };
 
-    /// Gives the taker all rows of task `i`'s program at these bounds, and answers its columns. It refuses for want of memory alone.
+    /// Gives the taker all rows of task `i`'s program at these bounds, and answers its columns. It fails only for want of memory.
     fn take_rows<T: RowTaker>(
         &self,
         alloc: Global,
@@ -44,8 +44,8 @@ pub trait ProgramParts {
         ensures known { IfOk result (λ v. AreKnown (length set.now.tasks) (length set.now.resources) v.items) }
         ensures rows { IfOk result (λ v. T.takes taker.old (map column_seen v.items) (rows self.now set.now i.0) bounds.now taker.new) };
 
-    /// The columns and rows of an accepted set, at bounds within its deadlines, make a program: they fit together and no number is
-    /// large.
+    /// For an accepted set, and at bounds within its deadlines, the columns and rows make a program: the lengths of its lists match, and no
+    /// number is large.
     ghost is_program: { (p : Self) (set : SetDef) (i : ℕ) (r : List ℕ) → serves p set → IsAccepted set → i < length set.tasks
         → AreWithinDeadlines set r → IsProgram (program_with set (columns p set i) (rows p set i) r) };
 }
@@ -62,7 +62,7 @@ fn costs(alloc: Global, set: &TaskSet, columns: &[Fragment]) -> Result<Vec<u64>,
     Ok(costs)
 }
 
-// The program of these lists, which are one.
+// The program of these lists, which are those of one.
 fn accepted(costs: Vec<u64>, block: RowBlock) -> Program
     requires { IsProgram (lists_of costs.items (block_seen block)) }
     ensures { result ≡ lists_of costs.items (block_seen block) }
@@ -74,8 +74,7 @@ fn accepted(costs: Vec<u64>, block: RowBlock) -> Program
     }
 }
 
-/// The blocking program of task `i` that is made of these parts, where these are the bounds, in ticks. It refuses for want of memory
-/// alone.
+/// The blocking program of task `i` that is made of these parts, at these bounds (in ticks). It fails only for want of memory.
 pub fn program_with<P: ProgramParts>(
     alloc: Global,
     parts: &P,
@@ -88,7 +87,7 @@ pub fn program_with<P: ProgramParts>(
     requires within { AreWithinDeadlines set.now bounds.now }
     ensures { IfOk result (λ p. p ≡ program_with set.now (P.columns parts.now set.now i.0) (P.rows parts.now set.now i.0) bounds.now) }
 {
-    // every set is lawful, so its columns and rows make a program
+    // the set is accepted, so its columns and rows make a program
     let _tasks = set.tasks();
     let mut block = RowBlock {
         rows: Vec::new(alloc),
@@ -99,7 +98,7 @@ pub fn program_with<P: ProgramParts>(
     Ok(accepted(costs, block))
 }
 
-/// The same program as that of [`program_with`], kept by its coefficients that aren't zero. It refuses for want of memory alone.
+/// The same program as that of [`program_with`], kept by its nonzero coefficients. It fails only for want of memory.
 pub fn sparse_program_with<P: ProgramParts>(
     alloc: Global,
     parts: &P,
@@ -112,10 +111,9 @@ pub fn sparse_program_with<P: ProgramParts>(
     requires within { AreWithinDeadlines set.now bounds.now }
     ensures { IfOk result (λ p. p ≡ program_with set.now (P.columns parts.now set.now i.0) (P.rows parts.now set.now i.0) bounds.now) }
 {
-    // every set is lawful, so its columns and rows make a program
+    // the set is accepted, so its columns and rows make a program
     let _tasks = set.tasks();
-    // the room is for three columns of each request entry, of which about one is there: it stands in three or four rows, and most rows
-    // have two columns or more
+    // room for three columns of each request entry: about one is there, it is in three or four rows, and most rows have two columns or more
     let room = most_columns(set);
     let mut taken = SparseRows::with_room(alloc, room / 2, room / 2 * 3)?;
     let columns = parts.take_rows(alloc, &mut taken, set, i, bounds)?;
@@ -123,7 +121,7 @@ pub fn sparse_program_with<P: ProgramParts>(
     Ok(SparseProgram::over(costs, taken))
 }
 
-/// The limits of that program, where these are the bounds, without its coefficients. It refuses for want of memory alone.
+/// The limits of that program at these bounds, without its coefficients. It fails only for want of memory.
 pub fn limits_with<P: ProgramParts>(
     alloc: Global,
     parts: &P,

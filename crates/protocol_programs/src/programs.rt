@@ -1,9 +1,9 @@
 ghost use Rattle.std.specs.Prelude.{◌≡◌, ◌<◌, map, length, slice_index, IfOk, OnOk};
 ghost use Rattle.sporadic_model.specs.Homes.{HasHomesFor};
 ghost use Rattle.program_sources.specs.Bounds.{AreWithinDeadlines};
-ghost use Rattle.fragments.specs.ColumnDef.{column_seen};
-ghost use Rattle.fragments.specs.Columns.{columns_of};
-ghost use Rattle.fragments.specs.TaskPlaces.{ArePlaces};
+ghost use Rattle.blocking_columns.specs.ColumnDef.{column_seen};
+ghost use Rattle.blocking_columns.specs.Columns.{columns_of};
+ghost use Rattle.blocking_columns.specs.TaskPlaces.{ArePlaces};
 ghost use Rattle.program_laws.specs.Programs.{rows_of, program_of};
 
 use crate::{Written, limits_with, program_with, sparse_program_with};
@@ -38,8 +38,7 @@ pub fn add_rows<T: RowTaker>(
     Ok(places)
 }
 
-/// The blocking program of task `i` under the protocol, where these are the bounds, in ticks. It refuses for want of memory
-/// alone.
+/// The blocking program of task `i` under the protocol, at these bounds (in ticks). It fails only for want of memory.
 pub fn program(
     alloc: Global,
     set: &TaskSet,
@@ -55,7 +54,7 @@ pub fn program(
     program_with(alloc, &Written(protocol), set, i, bounds)
 }
 
-/// The same program as [`program`], kept by its coefficients that aren't zero. It refuses for want of memory alone.
+/// The same program as [`program`], kept by its nonzero coefficients. It fails only for want of memory.
 pub fn sparse_program(
     alloc: Global,
     set: &TaskSet,
@@ -71,7 +70,7 @@ pub fn sparse_program(
     sparse_program_with(alloc, &Written(protocol), set, i, bounds)
 }
 
-/// The limits of that program, where these are the bounds, without its coefficients. It refuses for want of memory alone.
+/// The limits of that program at these bounds, without its coefficients. It fails only for want of memory.
 pub fn limits(
     alloc: Global,
     set: &TaskSet,

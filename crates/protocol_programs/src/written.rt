@@ -8,13 +8,13 @@ use program_sources::ProgramSource;
 use sporadic_model::{Protocol, TaskId, TaskSet};
 use std::alloc::{AllocError, Global};
 
-/// The programs of a protocol as they are written down in this repository: a source for the analysis.
+/// The programs of MPCP, FMLP+ or DPCP, as a source for the analysis.
 #[derive(Clone, Copy, Debug, PartialEq, Eq)]
 pub struct Written(pub Protocol);
 
 impl ProgramParts for Written {
     ghost use Rattle.sporadic_model.specs.Homes.{HasHomesFor};
-    ghost use Rattle.fragments.specs.Columns.{columns_of};
+    ghost use Rattle.blocking_columns.specs.Columns.{columns_of};
     ghost use Rattle.program_laws.specs.Programs.{rows_of};
     ghost use Rattle.program_laws.proofs.WrittenPrograms.{written_program};
 

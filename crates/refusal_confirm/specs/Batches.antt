@@ -1,4 +1,4 @@
--- Batches of steps: those that pass the tests that need no program, each with the bounds at which its point is to be tested.
+-- Batches of steps that pass the tests that need no program. Each step is kept with the bounds at which its point is to be tested.
 use Rattle.std.specs.Prelude.{◌≡◌, ℕ, ◌+◌, ◌<◌, ◌≤◌, List, Bool, Option, Some, None, Result, Ok, Err, length, slice_get, ◌⊎◌}
 use Rattle.sporadic_model.specs.SetDef.{SetDef}
 use Rattle.program_sources.specs.Bounds.{IsInRange}
@@ -25,12 +25,12 @@ pub record IsTrial (set : SetDef) (steps : List StepDef) (k : ℕ) (t : Trial) :
 abbrev pub AreTrials : SetDef → List StepDef → ℕ → List Trial → Type 0
 AreTrials set steps start trials = (j : ℕ) (t : Trial) → slice_get trials j ≡ Some t → IsTrial set steps (start + j) t
 
--- Why does a batch stop before step k: since that fails a test that needs no program, or since the batch, from this step on, is full?
+-- Why does a batch stop before step k? Either step k fails a test that needs no program, or the batch is full.
 abbrev pub StopsAt : Option Part → SetDef → List StepDef → ℕ → ℕ → List ℕ → Bool → Type 0
 StopsAt (Some p) set steps start k v over = (k < length steps) × Enters (Err p) set v over (step_at steps k)
 StopsAt None set steps start k v over = start < k
 
--- A batch from this step on, and where the walk has come to behind it.
+-- A batch from this step on, and how far the walk is after it.
 pub record IsBatch (set : SetDef) (steps : List StepDef) (start : ℕ) (trials : List Trial) (stop : Option Part)
     (v : List ℕ) (over : Bool) : Type 0 where
   pub come : HasComeTo set steps (start + length trials) v over
@@ -38,20 +38,20 @@ pub record IsBatch (set : SetDef) (steps : List StepDef) (start : ℕ) (trials :
   pub each : AreTrials set steps start trials
   pub stops : StopsAt stop set steps start (start + length trials) v over
 
--- What the tests of step k's point say of it.
+-- What the tests of step k's point find.
 abbrev pub FindsAt : Option Part → SourceDef → List StepDef → ℕ → Type 0
 FindsAt found f steps k = FindsPart found f (vector_before f.set steps k) (step_at steps k)
 
--- Want of memory says nothing of it.
+-- The same for an answer that may be want of memory, which says nothing.
 abbrev pub SaysOf : Result (Option Part) AllocError → SourceDef → List StepDef → ℕ → Type 0
 SaysOf (Ok found) f steps k = FindsAt found f steps k
 SaysOf (Err e) f steps k = Unit {0}
 
--- What they say of the steps from this one on.
+-- The same for the steps from this one on.
 abbrev pub AreTested : SourceDef → List StepDef → ℕ → List (Result (Option Part) AllocError) → Type 0
 AreTested f steps start tested = (j : ℕ) (r : Result (Option Part) AllocError) → slice_get tested j ≡ Some r → SaysOf r f steps (start + j)
 
--- Is this the fault of the first step, from this one on, of which the tests say that it fails one?
+-- Is this the fault of the first step, from this one on, that fails a test?
 pub record NamesFirst (e : Fault) (tested : List (Result (Option Part) AllocError)) (start : ℕ) : Type 0 where
   pub place : ℕ
   pub part : Part
@@ -59,7 +59,7 @@ pub record NamesFirst (e : Fault) (tested : List (Result (Option Part) AllocErro
   pub found : slice_get tested place ≡ Some (Ok (Some part))
   pub earlier : (j : ℕ) → j < place → slice_get tested j ≡ Some (Ok None)
 
--- What they come to: none fails one, or the first fault, or want of memory.
+-- The result of these tests: no step fails one, or the first fault, or want of memory.
 abbrev pub IsFirstFault : Result (Unit {0}) Fault → List (Result (Option Part) AllocError) → ℕ → Type 0
 IsFirstFault (Ok done) tested start = (j : ℕ) → j < length tested → slice_get tested j ≡ Some (Ok None)
 IsFirstFault (Err e) tested start = (e ≡ fault.Memory) ⊎ NamesFirst e tested start

@@ -1,4 +1,4 @@
--- Which fault a refusal has: the first test that fails, at the first step that fails one.
+-- Which fault has a refusal? The first test that fails, at the first step that fails one.
 use Rattle.std.specs.Prelude.{◌≡◌, ℕ, ◌+◌, ◌<◌, List, length, Result, Ok, Err}
 use Rattle.program_sources.specs.Recurrence.{SourceDef}
 use Rattle.refusal_laws.specs.Steps.{StepDef, step_at, vector_before, Holds}
@@ -7,7 +7,7 @@ use Rattle.refusal_confirm.specs.Tests.{IsEntered, Passes, IsOver}
 use Rattle.refusal_confirm.specs.declared.fault.Fault.{Fault}
 use Rattle.refusal_confirm.specs.declared.fault.Fault.TheVariants as fault
 
--- Does step k fail this test, having passed those before it?
+-- Does step k fail this test, and pass those before it?
 abbrev pub FailsAfter : SourceDef → List StepDef → ℕ → Type 0
 FailsAfter f steps k = IsCalm f.set steps k → ⊥
 
@@ -19,7 +19,7 @@ FailsRising f steps k =
     IsCalm f.set steps k × NamesTask f.set (step_at steps k)
     × (Rises (vector_before f.set steps k) (step_at steps k) → ⊥)
 
--- Does the point of step s fail this test at the bounds v, having passed those before it?
+-- Does the point of step s fail this test at the bounds v, and pass those before it?
 abbrev pub FailsSize : SourceDef → List ℕ → StepDef → Type 0
 FailsSize f v s = HasSize (program_at f v s) s.point → ⊥
 
@@ -29,7 +29,7 @@ FailsRow r f v s = HasSize (program_at f v s) s.point × IsFirstBroken (program_
 abbrev pub FailsLow : SourceDef → List ℕ → StepDef → Type 0
 FailsLow f v s = HasSize (program_at f v s) s.point × KeepsRows (program_at f v s) s.point × (ReachesValue f v s → ⊥)
 
--- Does step k pass the tests that need no program, and fail this one of its point, at the bounds before it?
+-- Does step k pass the tests that need no program, and fail this test of its point, at the bounds before it?
 abbrev pub FailsAt : (SourceDef → List ℕ → StepDef → Type 0) → SourceDef → List StepDef → ℕ → Type 0
 FailsAt test f steps k = IsEntered f.set steps k × test f (vector_before f.set steps k) (step_at steps k)
 
@@ -41,7 +41,7 @@ pub record IsFirst (fails : SourceDef → List StepDef → ℕ → Type 0) (f : 
   pub earlier : (j : ℕ) → j < step → Passes f steps j
   pub failed : fails f steps step
 
--- Is this the first test that fails? The last test, over all steps, is that there is a last one that passes its latest bound.
+-- Is this the first fault? The last test is over all steps: there is a last one, whose value is above its latest bound.
 abbrev pub IsFault : Fault → SourceDef → List StepDef → Type 0
 IsFault (fault.After n) f steps = IsFirst FailsAfter f steps n
 IsFault (fault.Task n) f steps = IsFirst FailsTask f steps n
@@ -52,13 +52,13 @@ IsFault (fault.Low n) f steps = IsFirst (FailsAt FailsLow) f steps n
 IsFault fault.Open f steps = ((k : ℕ) → k < length steps → Passes f steps k) × (IsOver f.set steps → ⊥)
 IsFault fault.Memory f steps = ⊥
 
--- What the answer says: that the refusal holds, or its first fault. Only want of memory says nothing of it.
+-- What the answer says: the refusal holds, or this is its first fault. Only want of memory says nothing of it.
 abbrev pub Confirms : Result (Unit {0}) Fault → SourceDef → List StepDef → Type 0
 Confirms (Ok done) f steps = Holds f steps
 Confirms (Err fault.Memory) f steps = Unit {0}
 Confirms (Err e) f steps = IsFault e f steps
 
--- Is this fault what is answered? But for want of memory there is no other answer.
+-- Is this fault the answer? The only other answer is want of memory.
 abbrev pub Names : Result (Unit {0}) Fault → Fault → Type 0
 Names (Ok done) e = ⊥
 Names (Err fault.Memory) e = Unit {0}

@@ -1,4 +1,4 @@
--- The tests that each step of a refusal passes where the refusal holds, in the order in which they are tried.
+-- The tests that the steps of a refusal pass if it holds, in the order in which they are tried.
 use Rattle.std.specs.Prelude.{◌≡◌, ℕ, ◌+◌, ◌*◌, ◌<◌, ◌≤◌, List, length, slice_index}
 use Rattle.number_laws.specs.Sums.{sum_below}
 use Rattle.program_form.specs.Certificate.{DualDef}
@@ -7,7 +7,7 @@ use Rattle.sporadic_model.specs.SetDef.{SetDef}
 use Rattle.program_sources.specs.Recurrence.{SourceDef, response_with}
 use Rattle.refusal_laws.specs.Steps.{StepDef, step_at, place_of, vector_before, whole_worth, PassesLatest}
 
--- Does no step before step k pass its task's latest bound?
+-- Is no value of a step before step k above its task's latest bound?
 abbrev pub IsCalm : SetDef → List StepDef → ℕ → Type 0
 IsCalm set steps k = (j : ℕ) → j < k → PassesLatest set (step_at steps j) → ⊥
 
@@ -15,7 +15,7 @@ IsCalm set steps k = (j : ℕ) → j < k → PassesLatest set (step_at steps j) 
 abbrev pub NamesTask : SetDef → StepDef → Type 0
 NamesTask set s = (1 ≤ s.task) × (s.task ≤ length set.tasks)
 
--- Is its value above its task's place in the bounds v?
+-- Is its value above its task's bound in v?
 abbrev pub Rises : List ℕ → StepDef → Type 0
 Rises v s = slice_index v (place_of s) < s.value
 
@@ -23,7 +23,7 @@ Rises v s = slice_index v (place_of s) < s.value
 abbrev pub HasSize : ProgramDef → DualDef → Type 0
 HasSize p point = length point.num ≡ columns p
 
--- Does it keep row r: is the sum of coefficient times number at most the limit, the denominator times?
+-- Does it keep row r: is the sum of coefficient times number at most the limit times the denominator?
 abbrev pub KeepsRow : ProgramDef → DualDef → ℕ → Type 0
 KeepsRow p point r = sum_below (columns p) (λ c. entry p r c * slice_index point.num c) ≤ point.den * limit p r
 
@@ -41,7 +41,7 @@ pub record IsFirstBroken (p : ProgramDef) (point : DualDef) (r : ℕ) : Type 0 w
 abbrev pub program_at : SourceDef → List ℕ → StepDef → ProgramDef
 program_at f v s = f.program (place_of s) v
 
--- Do the task's cost, the point's worth in whole ticks and the interference at v come up to the step's value?
+-- Are the task's cost, the point's worth in whole ticks and the interference at v together at least the step's value?
 abbrev pub ReachesValue : SourceDef → List ℕ → StepDef → Type 0
 ReachesValue f v s = s.value ≤ response_with f v (place_of s) (whole_worth (program_at f v s) s.point)
 
@@ -57,12 +57,12 @@ pub record IsShown (f : SourceDef) (v : List ℕ) (s : StepDef) : Type 0 where
   pub rows : KeepsRows (program_at f v s) s.point
   pub reached : ReachesValue f v s
 
--- Does step k pass all tests, those of its point at the bounds before it?
+-- Does step k pass all tests? Those of its point are at the bounds before it.
 pub record Passes (f : SourceDef) (steps : List StepDef) (k : ℕ) : Type 0 where
   pub entered : IsEntered f.set steps k
   pub shown : IsShown f (vector_before f.set steps k) (step_at steps k)
 
--- Is there a last step, whose value passes its task's latest bound?
+-- Is there a last step, and is its value above its task's latest bound?
 pub record IsOver (set : SetDef) (steps : List StepDef) : Type 0 where
   pub last : ℕ
   pub is_last : last + 1 ≡ length steps

@@ -1,16 +1,17 @@
--- Where a walk over a refusal's steps has come to.
+-- How far a walk over a refusal's steps is.
 use Rattle.std.specs.Prelude.{◌≡◌, ℕ, ◌+◌, ◌<◌, List, Bool, true, false}
 use Rattle.sporadic_model.specs.SetDef.{SetDef}
 use Rattle.program_sources.specs.Bounds.{IsInRange}
 use Rattle.refusal_laws.specs.Steps.{StepDef, step_at, vector_before, PassesLatest}
 use Rattle.refusal_confirm.specs.Tests.{IsCalm, IsEntered}
 
--- Are these the bounds before step k, and has no step passed its latest bound? Or has the one before it?
+-- With `false`: no step before step k has a value above its latest bound, and these are the bounds before step k. With `true`: the step
+-- just before step k has such a value.
 abbrev pub StandsAt : Bool → SetDef → List StepDef → ℕ → List ℕ → Type 0
 StandsAt true set steps k v = (j : ℕ) × (k ≡ j + 1) × PassesLatest set (step_at steps j)
 StandsAt false set steps k v = IsCalm set steps k × (v ≡ vector_before set steps k)
 
--- Has a walk come to step k, each step before it having passed the tests that need no program?
+-- Is a walk at step k, and did each step before it pass the tests that need no program?
 pub record HasComeTo (set : SetDef) (steps : List StepDef) (k : ℕ) (v : List ℕ) (over : Bool) : Type 0 where
   pub entered : (j : ℕ) → j < k → IsEntered set steps j
   pub range : IsInRange set v

@@ -1,4 +1,4 @@
-//! Batches of steps, whose points are tested side by side.
+//! Batches of steps. Threads test the points of a batch at the same time.
 
 ghost use Rattle.std.specs.Prelude.{◌≡◌, ◌+◌, ◌<◌, ◌≤◌, ◌^◌, length, map, slice_get, Some, IfOk};
 ghost use Rattle.program_sources.specs.Recurrence.{source_at};
@@ -16,7 +16,7 @@ use sporadic_model::{TaskId, TaskSet};
 use std::alloc::{AllocError, Global};
 use std::thread::{Threads, map_indices};
 
-/// How many steps' points are tested side by side.
+/// How many steps' points are tested at the same time, at most.
 const BATCH: usize = 64;
 
 /// A step that passed the tests that need no program: its task, and the bounds before it.
@@ -26,7 +26,7 @@ pub(crate) struct Trial {
     pub bounds: Vec<u64>,
 }
 
-/// Steps that passed the tests that need no program, and the test that the step behind them fails, if it stopped them.
+/// Steps that passed the tests that need no program. And the test that the step after them fails, if it stopped them.
 #[derive(Drop)]
 pub(crate) struct Batch {
     pub trials: Vec<Trial>,
@@ -41,7 +41,7 @@ fn trial_of(alloc: Global, task: TaskId, bounds: &[u64]) -> Result<Trial, AllocE
     Ok(Trial { task, bounds })
 }
 
-/// The next batch. The walk goes on to the step behind it; each value is put in at once.
+/// The next batch. The walk goes on to the step after it. Each value is put among the bounds at once.
 pub(crate) fn next_batch(
     alloc: Global,
     set: &TaskSet,
@@ -74,7 +74,7 @@ pub(crate) fn next_batch(
     Ok(Batch { trials, stop: None })
 }
 
-/// What the tests of step `k`'s point say of it.
+/// What the tests of step `k`'s point find.
 fn test_trial<P: ProgramSource>(
     alloc: Global,
     set: &TaskSet,
@@ -100,7 +100,7 @@ fn trial_at(trials: &[Trial], j: usize) -> &Trial
     &trials[j]
 }
 
-/// What the tests of the point of a batch's step number `j` say of it.
+/// What the tests of the point of a batch's step number `j` find.
 fn test_at<P: ProgramSource>(
     alloc: Global,
     set: &TaskSet,
@@ -120,7 +120,7 @@ fn test_at<P: ProgramSource>(
     test_trial(alloc, set, protocol, steps, start + j, trial_at(trials, j))
 }
 
-/// Tests the points of a batch side by side. The call for a step makes the program at the bounds before that step.
+/// Tests the points of a batch, several at the same time. The call for a step makes the program at the bounds before that step.
 pub(crate) fn test_batch<R: Threads + Sync, P: ProgramSource + Sync>(
     rt: &R,
     alloc: Global,
@@ -146,7 +146,7 @@ pub(crate) fn test_batch<R: Threads + Sync, P: ProgramSource + Sync>(
     )
 }
 
-/// The first fault of a batch from step `start` on, of which the tests of the points said this.
+/// The first fault of a batch from step `start` on, given what the tests of the points found.
 pub(crate) fn first_fault(
     tested: &[Result<Option<Part>, AllocError>],
     start: usize,

@@ -60,11 +60,11 @@ fn confirm_in_batches<R: Threads + Sync, P: ProgramSource + Sync>(
     }
 }
 
-/// Confirms a refusal for the programs of a source that serves the set. Each point's denominator is at least 1.
+/// Confirms a refusal for the programs of a source that serves the set. Each point's denominator has to be at least 1.
 ///
-/// `Ok` says that the refusal holds, so that nothing fits. `Fault` names the first test that fails, at the first step that fails one,
-/// and comes as `Memory` for want of memory alone. The points are tested side by side, 64 at a time; the answer is that of one thread
-/// that tests step after step.
+/// `Ok` says that the refusal holds, so nothing fits. `Fault` names the first test that fails, at the first step that fails one. It is
+/// `Memory` only for want of memory. Up to 64 points are tested at the same time. The answer is the same as if one thread tested step after
+/// step.
 pub fn confirm<R: Threads + Sync, P: ProgramSource + Sync>(
     rt: &R,
     alloc: Global,
@@ -75,15 +75,15 @@ pub fn confirm<R: Threads + Sync, P: ProgramSource + Sync>(
     requires serves { P.serves protocol.now set.now }
     requires denominators { HasDenominators (steps_seen refusal.now) }
 
-    // Ok where the refusal holds, else its first fault.
+    // Ok if the refusal holds, and else its first fault.
     ensures confirms { Confirms result (source_at (P.source protocol.now) set.now) (steps_seen refusal.now) }
 
-    // Only want of memory keeps one that holds from being Ok, and one with a fault from having just that named. So each answer comes
-    // exactly there.
+    // A refusal that holds is Ok, and one with a fault gets exactly that fault, except for want of memory. So each answer comes exactly
+    // there.
     ensures accepts { Holds (source_at (P.source protocol.now) set.now) (steps_seen refusal.now) → IfErr result (λ e. e ≡ Fault.Memory) }
     ensures only { (e : Fault) → IsFault e (source_at (P.source protocol.now) set.now) (steps_seen refusal.now) → Names result e }
 
-    // Where it is Ok, nothing fits.
+    // If it is Ok, nothing fits.
     ensures fits_none { IfOk result (λ done. (s : List ℕ) → AreFitting (source_at (P.source protocol.now) set.now) s → ⊥) }
 {
     faults_are_exact();

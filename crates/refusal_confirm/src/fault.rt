@@ -6,19 +6,19 @@ use std::alloc::AllocError;
 /// Why a refusal doesn't hold: the first test that fails, at the first step that fails one. Steps and rows are counted from 1.
 #[derive(Clone, Copy, Debug, PartialEq, Eq)]
 pub enum Fault {
-    /// The value of a step before this one and its task's jitter together pass the task's deadline.
+    /// The value of a step before this one is above its task's latest bound: with the task's jitter it is above the deadline.
     After(u64),
     /// This step names no task of the set.
     Task(u64),
     /// This step's value isn't above its task's bound.
     Rising(u64),
-    /// This step's point has not one number for each column of its task's program.
+    /// This step's point hasn't one number for each column of its task's program.
     Size(u64),
     /// This step's point breaks this row of the program.
     Row { step: u64, row: u64 },
-    /// Cost, the point's worth and the interference don't come up to this step's value.
+    /// The cost, the point's worth and the interference together are less than this step's value.
     Low(u64),
-    /// No step passes its task's deadline.
+    /// No step's value is above its task's latest bound.
     Open,
     /// No memory is left.
     Memory,
@@ -45,7 +45,7 @@ pub(crate) enum Part {
     Low,
 }
 
-/// The fault of this step, counted from 1, where it fails the test.
+/// The fault of this step, counted from 1, if it fails the test.
 pub(crate) fn named(part: Part, step: u64) -> Fault
     ensures { result ≡ fault_of part step }
 {

@@ -1,6 +1,6 @@
-//! Confirming refusals: whether steps show that a task set has no fitting bounds, without trust in what made them.
+//! Confirms refusals: do the steps show that a task set has no fitting bounds? You need not trust what made them.
 //!
-//! Each step of a refusal is tested at the bounds before it. `specs/Tests.antt` has the tests, `specs/Faults.antt` their order.
+//! Each step of a refusal is tested at the bounds before it. `specs/Tests.antt` has the tests, and `specs/Faults.antt` their order.
 #![tactic(auto)]
 
 mod batches;

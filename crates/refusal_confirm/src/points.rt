@@ -25,7 +25,7 @@ fn first_broken(program: &SparseProgram, point: &Dual) -> Option<u32>
     (0..program.rows()).find(|row| !keeps_row(program, point, *row))
 }
 
-/// Do the task's cost, its point's worth and the interference come up to the step's value?
+/// Are the task's cost, its point's worth and the interference together at least the step's value?
 fn reaches_value<P: ProgramSource>(
     set: &TaskSet,
     protocol: &P,

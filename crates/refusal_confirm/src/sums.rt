@@ -1,4 +1,4 @@
-//! Sums over the columns of a program, which stop growing once they have passed what they are compared with.
+//! Sums over the columns of a program. They stop growing once they are above what they are compared with.
 
 ghost use Rattle.std.specs.Prelude.{◌≡◌, ◌+◌, ◌-◌, ◌*◌, ◌<◌, ◌≤◌, ◌^◌, ◌↔◌, IsTrue, min, length, slice_index};
 ghost use Rattle.number_laws.specs.Sums.{sum_below};
@@ -18,7 +18,7 @@ fn product(a: u64, b: u64) -> u128
     u128::from(a) * u128::from(b)
 }
 
-/// What a row of these coefficients comes to at these numbers, no further than `most`.
+/// The sum of a row with these coefficients at these numbers, at most `most`.
 fn row_sum(coefficients: &[Coefficient], num: &[u64], most: u128) -> u128
     requires listed { AreCoefficients (length num.now) coefficients.now }
     ensures { result ≡ min most (sum_below (length num.now) (λ c. number_at coefficients.now c * slice_index num.now c)) }
@@ -31,7 +31,7 @@ fn row_sum(coefficients: &[Coefficient], num: &[u64], most: u128) -> u128
     sum
 }
 
-/// What the columns are worth at these numbers, no further than `most`.
+/// What the columns are worth at these numbers, at most `most`.
 fn worth_sum(program: &SparseProgram, num: &[u64], most: u128) -> u128
     requires numbers { length num.now ≡ columns program.now }
     ensures { result ≡ min most (worth program.now (slice_index num.now)) }
@@ -44,7 +44,7 @@ fn worth_sum(program: &SparseProgram, num: &[u64], most: u128) -> u128
     sum
 }
 
-/// Does the point keep the row: is what the row comes to at most the limit, the denominator times?
+/// Does the point keep the row: is the row's sum at most the limit times the denominator?
 pub(crate) fn keeps_row(program: &SparseProgram, point: &Dual, row: u32) -> bool
     requires row { row < height program.now }
     requires size { HasSize program.now (dual_seen point.now) }
@@ -54,7 +54,7 @@ pub(crate) fn keeps_row(program: &SparseProgram, point: &Dual, row: u32) -> bool
     row_sum(program.coefficients(row as usize), &point.num, due + 1) <= due
 }
 
-/// Is the point worth so many whole ticks?
+/// Is the point worth at least this many whole ticks?
 pub(crate) fn is_worth(program: &SparseProgram, point: &Dual, ticks: u64) -> bool
     requires denominator { 1 ≤ point.now.den }
     requires size { HasSize program.now (dual_seen point.now) }

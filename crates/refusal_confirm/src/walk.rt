@@ -1,4 +1,4 @@
-//! Going over the steps of a refusal, by the tests that need no program.
+//! Goes over the steps of a refusal, by the tests that need no program.
 
 ghost use Rattle.std.specs.Prelude.{◌≡◌, ◌<◌, false, length, map, slice_set, IfOk};
 ghost use Rattle.program_sources.specs.Bounds.{IsInRange};
@@ -10,12 +10,12 @@ use refusal_laws::RefusalStep;
 use sporadic_model::{TaskId, TaskSet};
 use std::alloc::{AllocError, Global};
 
-/// Where the steps have come to.
+/// How far the walk over the steps is.
 #[derive(Drop)]
 pub(crate) struct Walk {
-    /// The bounds so far, in ticks. A value that passes its latest bound isn't put among them.
+    /// The bounds so far, in ticks. A value that is above its latest bound isn't put among them.
     pub bounds: Vec<u64>,
-    /// Does the last step's value pass its latest bound?
+    /// Is the last step's value above its latest bound?
     pub is_over: bool,
 }
 
@@ -31,7 +31,7 @@ fn costs(alloc: Global, set: &TaskSet) -> Result<Vec<u64>, AllocError>
     Ok(costs)
 }
 
-/// A walk that has taken no step.
+/// A walk before the first step.
 pub(crate) fn start(alloc: Global, set: &TaskSet) -> Result<Walk, AllocError>
     ensures first { IfOk result (λ w. w.bounds.items ≡ map (λ t. t.cost) set.now.tasks) }
     ensures range { IfOk result (λ w. IsInRange set.now w.bounds.items) }

@@ -1,4 +1,4 @@
--- What the answers of reading say.
+-- What do the answers of reading say?
 use Rattle.std.specs.Prelude.{◌≡◌, ℕ, true, false, List, Result, Ok, Err}
 use Rattle.serde_json.specs.Data.{Data}
 use Rattle.taskset_json.specs.Answers.{IsValue}
@@ -12,8 +12,8 @@ use Rattle.refusal_json.specs.declared.fault.ReadFault.TheVariants as fault
 use Rattle.refusal_json.specs.Form.{is_refusal}
 use Rattle.refusal_json.specs.Written.{steps_written}
 
--- What the answer on a value says of it: that it has the form of a refusal for the protocol of the word, and the steps and the
--- digest that it writes; that it hasn't the form; or that it is for another protocol. Only want of memory says nothing of it.
+-- What the answer on a value says of it. The value has the form of a refusal for the protocol of the word, and these are its steps and its
+-- digest. Or it hasn't the form. Or it is for another protocol. Only want of memory says nothing of it.
 abbrev pub JudgesValue : Result (Refusal × List ℕ) ReadFault → List ℕ → Data → Type 0
 JudgesValue (Ok given) word d =
     (is_refusal d ≡ true) × (is_for word d ≡ true) × (steps_seen given.0 ≡ steps_written d) × (given.1 ≡ digest_written d)
@@ -22,14 +22,14 @@ JudgesValue (Err fault.Shape) word d = is_refusal d ≡ false
 JudgesValue (Err fault.OtherProtocol) word d = (is_refusal d ≡ true) × (is_for word d ≡ false)
 JudgesValue (Err fault.Memory) word d = Unit {0}
 
--- What the answer of reading says of the bytes: that they are no JSON text, or what it says of their value.
--- Only want of memory says nothing of them.
+-- What the answer of reading says of the bytes: they are no JSON text, or what it says of their value. Only want of memory says nothing of
+-- them.
 abbrev pub Reads : Result (Refusal × List ℕ) ReadFault → List ℕ → List ℕ → Type 0
 Reads (Err fault.NotJson) word bytes = (d : Data) → IsValue bytes d → ⊥
 Reads (Err fault.Memory) word bytes = Unit {0}
 Reads answer word bytes = (d : Data) × IsValue bytes d × JudgesValue answer word d
 
--- Does the answer give these steps with this digest, but for want of memory?
+-- Does the answer give these steps with this digest, except for want of memory?
 abbrev pub Gives : Result (Refusal × List ℕ) ReadFault → List StepDef → List ℕ → Type 0
 Gives (Ok given) steps digest = (steps_seen given.0 ≡ steps) × (given.1 ≡ digest)
 Gives (Err f) steps digest = f ≡ fault.Memory

@@ -11,7 +11,7 @@ use Rattle.taskset_json.specs.Form.{MemberDef, must, is_object_of}
 use Rattle.cert_json.specs.Digests.{is_digest_text}
 use Rattle.cert_json.specs.Form.{is_dual}
 
--- The members of a refusal, and of a step. No other may be given.
+-- The members of a refusal, and of a step. There may be no others.
 abbrev pub refusal_form : List MemberDef
 refusal_form =
     must (codes "protocol") kind.Text
@@ -28,7 +28,7 @@ step_form =
     ∷ must (codes "value") kind.Whole
     ∷ []
 
--- Is the value a step: an object of a step's members, whose point has the form of a dual?
+-- Is the value a step: an object of a step's form, whose point has the form of a dual?
 abbrev pub is_step : Data → Bool
 is_step d = is_object_of step_form d && option_map_or is_dual (get (codes "point") d) false
 
@@ -36,11 +36,11 @@ is_step d = is_object_of step_form d && option_map_or is_dual (get (codes "point
 abbrev pub is_verdict_word : List ℕ → Bool
 is_verdict_word word = bytes_eq word (codes "notshown")
 
--- The one version is 1.
+-- The only version is 1.
 abbrev pub is_version : Data → Bool
 is_version d = option_map_or (λ n. n == 1) (whole_at (codes "version") d) false
 
--- Has the value the form of a refusal, for whatever protocol?
+-- Has the value the form of a refusal, for any protocol?
 abbrev pub is_refusal : Data → Bool
 is_refusal d =
     is_object_of refusal_form d

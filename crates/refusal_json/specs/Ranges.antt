@@ -7,7 +7,7 @@ use Rattle.refusal_laws.specs.Steps.{StepDef}
 abbrev pub HasSmallPoints : List StepDef → Type 0
 HasSmallPoints steps = All (λ s. IsSmallDual s.point) steps
 
--- Does the text of the refusal have the form? Its tasks and values have 64 bits, and its points are small.
+-- Does the text of the refusal have the form? It does if its tasks and values have 64 bits, and its points are small.
 pub record IsWritableStep (s : StepDef) : Type 0 where
   pub task : s.task < 2 ^ 64
   pub value : s.value < 2 ^ 64

@@ -1,4 +1,4 @@
--- The JSON value of a refusal's text. The members stand in the order of their names.
+-- The JSON value of a refusal. The members are in the order of their names.
 use Rattle.std.specs.Prelude.{ℕ, List, map, codes}
 use Rattle.serde_json.specs.Data.{Data, string, array, object, no_members, member}
 use Rattle.serde_json.specs.View.{items_of}

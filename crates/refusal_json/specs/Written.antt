@@ -1,5 +1,4 @@
--- The steps that a value of the form writes. What the form asks for is there, so that the zeros and the `null` that would
--- stand for it are not used.
+-- The steps of a value of the form. All that the form requires is there, so the zeros and the `null` for a missing part are never used.
 use Rattle.std.specs.Prelude.{List, map, codes, unwrap_or}
 use Rattle.serde_json.specs.Data.{Data, null}
 use Rattle.serde_json.specs.Find.{get}

@@ -6,14 +6,14 @@ use thiserror::Error;
 /// Why bytes are not read as a refusal for a protocol.
 #[derive(Clone, Copy, Debug, PartialEq, Eq, Error)]
 pub enum ReadFault {
-    /// The bytes are no JSON text that `serde_json` reads: not UTF-8, not of JSON's grammar, nested
-    /// deeper than 127 levels, or with a number past the range of a float.
+    /// The bytes are no JSON text that `serde_json` reads: they are not UTF-8, break JSON's grammar, are nested deeper than 127 levels, or
+    /// have a number beyond the range of a float.
     #[error("the refusal is no JSON text")]
     NotJson,
     /// The value does not have the form of a refusal.
     #[error("the refusal does not have its form")]
     Shape,
-    /// The refusal is for another protocol than the one asked for.
+    /// The refusal is for another protocol than the one that you asked for.
     #[error("the refusal is for another protocol")]
     OtherProtocol,
     /// Memory was refused.

@@ -67,7 +67,7 @@ fn is_version(value: &Value) -> bool
     whole_at(value, "version").is_some_and(|n| n == 1)
 }
 
-/// Has the value the form of a refusal, for whatever protocol?
+/// Has the value the form of a refusal, for any protocol?
 pub(crate) fn is_refusal(value: &Value) -> bool
     ensures { result ≡ is_refusal (view value.now) }
 {

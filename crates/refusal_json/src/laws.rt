@@ -12,8 +12,8 @@ ghost use Rattle.refusal_json.specs.Answers.{Reads, Gives};
 use crate::fault::ReadFault;
 use refusal_laws::Refusal;
 
-/// The text of a refusal is the JSON text of its value, and what is read of it for the same word is
-/// the same refusal with the same digest, but for want of memory.
+/// The text of a refusal is the JSON text of its value. If you read it for the same word, you get the same refusal with the same digest,
+/// except for want of memory.
 pub fn what_is_written_is_read()
     ensures value { (word digest : List ℕ) (steps : List StepDef) → IsUtf8 word → IsWritable steps
         → IsValue (refusal_text word digest steps) (refusal_data word digest steps) }

@@ -1,5 +1,5 @@
-//! The text of certificates of refusal: one compact JSON object, which `write_refusal` gives and `read_refusal` reads
-//! again, free in white space and in the order of members. It carries the digest of its set's bytes, as a certificate does.
+//! The text of certificates of refusal: one compact JSON object, which `write_refusal` gives. `read_refusal` reads it, with any white space
+//! and any order of members. It has the digest of its set's bytes, as a certificate has.
 #![tactic(auto)]
 
 mod fault;

@@ -24,9 +24,12 @@ fn judged(alloc: Global, value: &Value, word: &str) -> Result<(Refusal, [u8; 32]
     Ok((refusal_of(alloc, value)?, digest_at(value)))
 }
 
-/// Reads a refusal for the protocol of the word from JSON, and the digest of its set's bytes; or says why they are
-/// refused first: they are no JSON text ([`ReadFault::NotJson`]); the value does not have the form of a refusal
-/// ([`ReadFault::Shape`]); the refusal is for another protocol ([`ReadFault::OtherProtocol`]).
+/// Reads from JSON a refusal for the protocol of the word, and the digest of its set's bytes, or says why it is refused. The first of these
+/// is named:
+///
+/// - [`ReadFault::NotJson`]: the bytes are no JSON text.
+/// - [`ReadFault::Shape`]: the value doesn't have the form of a refusal.
+/// - [`ReadFault::OtherProtocol`]: the refusal is for another protocol.
 pub fn read_refusal(
     alloc: Global,
     bytes: &[u8],

@@ -11,7 +11,7 @@ use serde_json::Value;
 use std::alloc::{AllocError, Global};
 use taskset_json::{list_at, whole_at};
 
-/// The point that a step's value writes. The form asks for one, so that no numbers over 0 stand for none.
+/// The point of a step's value. The form requires one, so the empty point for a missing one is never used.
 fn point_of(alloc: Global, value: &Value) -> Result<Dual, AllocError>
     ensures { IfOk result (λ point. dual_seen point ≡ point_written (view value.now)) }
 {
@@ -44,7 +44,7 @@ fn steps_of(alloc: Global, values: &[Value]) -> Result<Vec<RefusalStep>, AllocEr
     Ok(steps)
 }
 
-/// The refusal that a value of the form writes.
+/// The refusal of a value of the form.
 pub(crate) fn refusal_of(alloc: Global, value: &Value) -> Result<Refusal, AllocError>
     ensures { IfOk result (λ refusal. steps_seen refusal ≡ steps_written (view value.now)) }
 {

@@ -1,4 +1,4 @@
--- What contracts see of a refusal: its numbers, and not where they lie in memory.
+-- What contracts see of a refusal: its numbers.
 use Rattle.std.specs.Prelude.{List, map}
 use Rattle.program_form.specs.Certificate.{dual_seen}
 use Rattle.refusal_laws.specs.Steps.{StepDef}

@@ -9,7 +9,7 @@ ghost use Rattle.refusal_laws.specs.Steps.{StepDef, Holds};
 
 use program_sources::{ProgramSource, recurrence_is_monotone};
 
-/// Where a refusal holds, nothing fits: for every source, with no premise but that it serves the set.
+/// If a refusal holds, nothing fits. This is so for every source, with the one premise that it serves the set.
 pub fn refusals_are_right<P: ProgramSource>()
     ensures { (p : P) (set : SetDef) (steps : List StepDef) (s : List ℕ) → P.serves p set
         → Holds (source_at (P.source p) set) steps
@@ -18,7 +18,7 @@ pub fn refusals_are_right<P: ProgramSource>()
     recurrence_is_monotone::<P>();
 }
 
-/// A value passes its task's latest bound exactly where it and the task's jitter together pass the deadline.
+/// A value is above its task's latest bound exactly if it and the task's jitter together are above the deadline.
 pub fn what_passes_the_latest_bound_passes_the_deadline()
     ensures { (set : SetDef) (x v : ℕ) → TaskNumbers set x
         → (latest_bound (task_at set x) < v) ↔ ((task_at set x).deadline < v + (task_at set x).jitter) }

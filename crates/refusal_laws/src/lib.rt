@@ -1,8 +1,7 @@
-//! Certificates of refusal: what they are, and that a set for which one holds has no fitting bounds.
+//! Certificates of refusal: what they are, and that a set has no fitting bounds if one holds for it.
 //!
-//! A refusal begins with the costs. It raises one task's bound at a time, each by a point of that task's program at the
-//! bounds so far. It ends where a bound passes the latest one with which its task meets each deadline. The definitions stand
-//! in `specs/`.
+//! A refusal begins with the costs. Each step raises one task's bound, by a point of the task's program at the bounds so far. It ends with
+//! a bound that is above the task's latest one, which is the deadline less the jitter. The definitions are in `specs/`.
 #![tactic(auto)]
 
 mod laws;

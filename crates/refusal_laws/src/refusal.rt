@@ -1,6 +1,6 @@
 use program_form::Dual;
 
-/// One step of a refusal: the point shows that at the bounds so far the task's response time comes up to the value.
+/// One step of a refusal. The point shows that at the bounds so far the task's response time is at least the value.
 #[derive(Drop)]
 pub struct RefusalStep {
     /// The task, counted from 1.
@@ -11,8 +11,7 @@ pub struct RefusalStep {
     pub point: Dual,
 }
 
-/// A claim that no bounds within the deadlines satisfy the recurrence: steps that raise the costs until a bound passes its latest
-/// one.
+/// A claim that no bounds within the deadlines satisfy the recurrence. Its steps raise the costs until a bound is above the latest one.
 #[derive(Drop)]
 pub struct Refusal {
     /// The steps, in their order.

@@ -1,4 +1,4 @@
--- The texts of refused inputs: a reason, and the place where there is one. Positions print counted from 1.
+-- The texts of refused inputs: a reason, and the place if there is one. Positions are counted from 1 in the texts.
 use Rattle.std.specs.Prelude.{ℕ, ◌+◌, List, [], ◌++◌, codes, decimal}
 use Rattle.sporadic_model.specs.declared.refusal.Place.{Place}
 use Rattle.sporadic_model.specs.declared.refusal.Place.TheVariants as place
@@ -31,7 +31,7 @@ size_text size.Tasks = codes "tasks"
 size_text size.Resources = codes "resources"
 size_text size.Requests = codes "requests"
 
--- The word of a refusal of the model, and what stands behind it.
+-- The word of a refusal of the model, and the text after it.
 abbrev pub model_word : ModelRefusal → List ℕ
 model_word model.NoTask = codes "notask"
 model_word (model.Size what) = codes "size "

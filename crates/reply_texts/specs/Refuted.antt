@@ -1,9 +1,9 @@
--- The texts of refusals, and of what is answered in place of one. Each line ends with one line end.
+-- The texts of refusals, and of answers in place of one. Each line ends with one line end.
 use Rattle.std.specs.Prelude.{ℕ, List, [], ◌++◌, codes, decimal}
 use Rattle.refusal_confirm.specs.declared.fault.Fault.{Fault}
 use Rattle.refusal_confirm.specs.declared.fault.Fault.TheVariants as fault
 
--- A set that a refusal is asked for, and that is schedulable.
+-- A schedulable set, if you asked for a refusal of it.
 abbrev pub schedulable_text : List ℕ
 schedulable_text = codes "schedulable\n"
 
@@ -11,15 +11,15 @@ schedulable_text = codes "schedulable\n"
 abbrev pub confirmed_text : List ℕ
 confirmed_text = codes "confirmed\n"
 
--- A refusal of which this step fails the test of this word.
+-- A refusal with this step, which fails the test of this word.
 abbrev pub step_text : ℕ → List ℕ → List ℕ
 step_text step word = codes "invalid step " ++ (decimal step ++ (codes " " ++ (word ++ codes "\n")))
 
--- A refusal of which this step's point breaks this row of its program.
+-- A refusal with this step, whose point breaks this row of its program.
 abbrev pub row_text : ℕ → ℕ → List ℕ
 row_text step row = codes "invalid step " ++ (decimal step ++ (codes " row " ++ (decimal row ++ codes "\n")))
 
--- A refusal that doesn't hold: the first test that fails, at the first step that fails one. Steps and rows print counted from 1.
+-- A refusal that doesn't hold: the first test that fails, at the first step that fails one. Steps and rows are counted from 1 in the text.
 abbrev pub unconfirmed_text : Fault → List ℕ
 unconfirmed_text (fault.After step) = step_text step (codes "after")
 unconfirmed_text (fault.Task step) = step_text step (codes "task")

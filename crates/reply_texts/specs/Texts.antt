@@ -21,20 +21,20 @@ fault_text word = codes "fault read " ++ (word ++ codes "\n")
 abbrev pub no_form_text : List ℕ
 no_form_text = codes "refused words\n"
 
--- A set that isn't shown: the task, the value that passes its latest bound, and that bound.
+-- A set that isn't shown: the task, the value that is above its latest bound, and that bound.
 abbrev pub not_shown_text : List ℕ → ℕ → ℕ → List ℕ
 not_shown_text name value latest =
     codes "not shown " ++ (name ++ (codes " " ++ (decimal value ++ (codes " " ++ (decimal latest ++ codes "\n")))))
 
--- A set of which this task's program forms a fraction that is too wide.
+-- A set with this task, whose program forms a fraction that is too wide.
 abbrev pub wide_text : List ℕ → List ℕ
 wide_text name = codes "wide " ++ (name ++ codes "\n")
 
--- The programs want more units than the allowance.
+-- Programs that need more units than the allowance.
 abbrev pub allowance_text : List ℕ
 allowance_text = codes "allowance\n"
 
--- The greatest response of a task's finished jobs: a dash where none finished.
+-- The greatest response of a task's finished jobs, or a dash if none finished.
 abbrev pub response_text : Option ℕ → List ℕ
 response_text None = codes "-"
 response_text (Some ticks) = decimal ticks
@@ -51,7 +51,7 @@ measures_line name m = name ++ (codes " " ++ (measures_text m ++ codes "\n"))
 abbrev pub measures_lines : SetDef → (ℕ → MeasuresDef) → List ℕ
 measures_lines set measures = collect_below (length set.tasks) (λ x. measures_line (task_at set x).name (measures x))
 
--- A schedule of so many ticks that keeps the rules, and what is measured of each task.
+-- A schedule of this many ticks that keeps the rules, and what is measured of each task.
 abbrev pub lawful_text : SetDef → ℕ → (ℕ → MeasuresDef) → List ℕ
 lawful_text set ticks measures = codes "lawful " ++ (decimal ticks ++ (codes "\n" ++ measures_lines set measures))
 
@@ -79,11 +79,11 @@ abbrev pub study_text : List (List ℕ) → ℕ → List ℕ
 study_text rows stopped = codes "step mpcp fmlp+ dpcp\n"
     ++ (collect_below 8 (λ i. step_line i (slice_index_or rows i [])) ++ (codes "stopped " ++ (decimal stopped ++ codes "\n")))
 
--- What stands behind a space.
+-- A space and a number.
 abbrev pub behind_space : ℕ → List ℕ
 behind_space n = codes " " ++ decimal n
 
--- What stands beside its bound: the greatest response of a task's jobs, and their greatest blocking.
+-- Two pairs of a measure and its bound: the greatest response of a task's jobs, and their greatest blocking.
 abbrev pub bounded_text : TaskFigures → List ℕ
 bounded_text f = response_text f.response ++ (behind_space f.bound ++ (behind_space f.blocking ++ behind_space f.value))
 
@@ -103,7 +103,7 @@ figures_line name f = name ++ (codes " " ++ (figures_text f ++ codes "\n"))
 abbrev pub figures_lines : SetDef → (ℕ → TaskFigures) → List ℕ
 figures_lines set figures = collect_below (length set.tasks) (λ x. figures_line (task_at set x).name (figures x))
 
--- A schedule of so many ticks that keeps the rules and the bounds, and the figures of each task.
+-- A schedule of this many ticks that keeps the rules and the bounds, and the figures of each task.
 abbrev pub kept_text : SetDef → ℕ → (ℕ → TaskFigures) → List ℕ
 kept_text set ticks figures = codes "kept " ++ (decimal ticks ++ (codes "\n" ++ figures_lines set figures))
 
@@ -115,11 +115,11 @@ valid_text = codes "valid\n"
 abbrev pub other_set_text : List ℕ
 other_set_text = codes "invalid otherset\n"
 
--- What stands behind the word of a test that a task fails: the task's name.
+-- The text after the word of a test that a task fails: the task's name.
 abbrev pub failing_task : SetDef → ℕ → List ℕ
 failing_task set i = codes " " ++ ((task_at set i).name ++ codes "\n")
 
--- A certificate that isn't valid: the first test that fails, and the task that fails it. Columns print counted from 1.
+-- A certificate that isn't valid: the first test that fails, and the task that fails it. Columns are counted from 1 in the text.
 abbrev pub invalid_text : SetDef → Invalid → List ℕ
 invalid_text set invalid.Size = codes "invalid size\n"
 invalid_text set (invalid.Bound i) = codes "invalid bound" ++ failing_task set i.0

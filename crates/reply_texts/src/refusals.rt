@@ -10,7 +10,7 @@ use std::alloc::{AllocError, Global};
 use taskset_json::SetRefusal;
 use trace_csv::{JobsRefusal, RowsRefusal};
 
-/// The text of a place. Positions print counted from 1.
+/// The text of a place. Positions are counted from 1 in the text.
 fn place_words(alloc: Global, place: Place) -> Result<String, AllocError>
     ensures { IfOk result (λ text. string_bytes text ≡ place_text place) }
 {
@@ -68,7 +68,7 @@ fn word_of(refusal: ModelRefusal) -> &'static str
     }
 }
 
-/// What stands behind the word of a refusal of the model.
+/// The text after the word of a refusal of the model.
 fn place_of(alloc: Global, refusal: ModelRefusal) -> Result<String, AllocError>
     ensures { IfOk result (λ text. string_bytes text ≡ model_place refusal) }
 {
@@ -91,7 +91,7 @@ fn place_of(alloc: Global, refusal: ModelRefusal) -> Result<String, AllocError>
     }
 }
 
-/// A word, and the text of a place behind it.
+/// A word, and after it the text of a place.
 fn joined(alloc: Global, word: &str, place: &str) -> Result<String, AllocError>
     ensures { IfOk result (λ text. string_bytes text ≡ word.now ++ place.now) }
 {

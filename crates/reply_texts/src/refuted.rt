@@ -1,4 +1,4 @@
-//! The texts of refusals and of what is answered in place of one.
+//! The texts of refusals, and of answers in place of one.
 
 ghost use Rattle.std.specs.Prelude.{◌≡◌, IfOk};
 ghost use Rattle.reply_texts.specs.Refuted.{schedulable_text, confirmed_text, step_text, row_text, unconfirmed_text};
@@ -6,7 +6,7 @@ ghost use Rattle.reply_texts.specs.Refuted.{schedulable_text, confirmed_text, st
 use refusal_confirm::Fault;
 use std::alloc::{AllocError, Global};
 
-/// The text for a set that a refusal is asked for, and that is schedulable.
+/// The text for a schedulable set, if you asked for a refusal of it.
 pub fn schedulable_line(alloc: Global) -> Result<Vec<u8>, AllocError>
     ensures { IfOk result (λ text. text.items ≡ schedulable_text) }
 {
@@ -20,7 +20,7 @@ pub fn confirmed_line(alloc: Global) -> Result<Vec<u8>, AllocError>
     Vec::from_slice(alloc, b"confirmed\n")
 }
 
-/// The text for a refusal of which this step fails the test of this word.
+/// The text for a refusal with this step, which fails the test of this word.
 fn step_line(alloc: Global, step: u64, word: &str) -> Result<Vec<u8>, AllocError>
     ensures { IfOk result (λ text. text.items ≡ step_text step word.now) }
 {
@@ -28,7 +28,7 @@ fn step_line(alloc: Global, step: u64, word: &str) -> Result<Vec<u8>, AllocError
     Ok(text.into_bytes())
 }
 
-/// The text for a refusal of which this step's point breaks this row.
+/// The text for a refusal with this step, whose point breaks this row.
 fn row_line(alloc: Global, step: u64, row: u64) -> Result<Vec<u8>, AllocError>
     ensures { IfOk result (λ text. text.items ≡ row_text step row) }
 {

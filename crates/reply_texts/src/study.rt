@@ -38,7 +38,7 @@ fn push_steps(text: &mut Vec<u8>, rows: &[[u64; 3]]) -> Result<(), AllocError>
     Ok(())
 }
 
-/// The text of a study with these counts of its eight steps, of which so many analyses stopped.
+/// The text of a study with these counts of its eight steps, and this many analyses that stopped.
 pub fn study_lines(alloc: Global, rows: &[[u64; 3]], stopped: u64) -> Result<Vec<u8>, AllocError>
     requires { length rows.now ≡ 8 }
     ensures { IfOk result (λ text. text.items ≡ study_text rows.now stopped) }

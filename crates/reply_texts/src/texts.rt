@@ -14,7 +14,7 @@ use sporadic_model::{TaskId, TaskSet};
 use std::alloc::{AllocError, Global};
 use text_pieces::push_number;
 
-/// The text for a task whose value passes its latest bound, which is its deadline less its jitter.
+/// The text for a task whose value is above its latest bound, which is its deadline less its jitter.
 pub fn not_shown_line(
     alloc: Global,
     name: &str,
@@ -35,7 +35,7 @@ pub fn wide_line(alloc: Global, name: &str) -> Result<Vec<u8>, AllocError>
     Ok(text.into_bytes())
 }
 
-/// Adds the greatest response of a task's finished jobs: a dash where none finished.
+/// Adds the greatest response of a task's finished jobs, or a dash if none finished.
 fn push_response(text: &mut Vec<u8>, response: Option<u64>) -> Result<(), AllocError>
     ensures { OnOk result (text.new.items ≡ text.old.items ++ response_text response) }
 {
@@ -89,7 +89,7 @@ fn push_measures(
     Ok(())
 }
 
-/// The text for a schedule of so many ticks that keeps the rules.
+/// The text for a schedule of this many ticks that keeps the rules.
 pub fn lawful_lines(
     alloc: Global,
     set: &TaskSet,
@@ -131,7 +131,7 @@ pub fn broken_line(alloc: Global, breach: Breach) -> Result<Vec<u8>, AllocError>
     Ok(text.into_bytes())
 }
 
-/// The text for a certificate of which this task fails the test of this word.
+/// The text for a certificate with this task, which fails the test of this word.
 fn failing_line(
     alloc: Global,
     word: &str,
@@ -146,7 +146,7 @@ fn failing_line(
     Ok(text.into_bytes())
 }
 
-/// The text for a certificate of which this task's dual leaves this column. Columns print counted from 1.
+/// The text for a certificate in which this task's dual doesn't cover this column. Columns are counted from 1 in the text.
 fn uncovered_line(
     alloc: Global,
     set: &TaskSet,
@@ -243,7 +243,7 @@ fn push_all_figures(
     Ok(())
 }
 
-/// The text for a schedule of so many ticks that keeps the rules and the bounds.
+/// The text for a schedule of this many ticks that keeps the rules and the bounds.
 pub fn kept_lines(
     alloc: Global,
     set: &TaskSet,

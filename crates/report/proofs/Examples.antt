@@ -31,7 +31,7 @@ pub loads_of_two : load_lines two ≡ codes "load 1 300000\nload 2 0\n"
 unfolding digits
 loads_of_two = refl
 
--- They stand in this order.
+-- They are in this order.
 pub table_of_two : table_text two ≡ header ++ ((task_line first ++ task_line second) ++ load_lines two)
 table_of_two = refl
 

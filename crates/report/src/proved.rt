@@ -71,9 +71,10 @@ fn push_full_tasks(
     Ok(())
 }
 
-/// The table of a set with what a certificate proves of each task: its bound, the value of its dual, and how far the bound is
-/// below the latest one, which is the deadline less the jitter, all in ticks. Header and loads are as in [`crate::set_table`].
-/// There is a bound and a value for each task, and no bound and its task's jitter together pass the deadline. An error is want of
+/// The table of a set with what a certificate proves of each task: its bound, the value of its dual, and how far the bound is below the
+/// latest one. The latest bound is the deadline less the jitter. All are in ticks. Header and loads are those of [`crate::set_table`].
+///
+/// You give a bound and a value for each task. No bound and its task's jitter together may be above the deadline. It fails only for want of
 /// memory.
 pub fn full_table(
     alloc: Global,

@@ -8,7 +8,7 @@ use sporadic_model::{TaskId, TaskSet};
 use std::alloc::{AllocError, Global};
 use text_pieces::{push_left, push_number, push_right, push_right_number};
 
-/// The places of a name, of a processor's number, and of a number of ticks.
+/// The widths of a name, of a processor's number, and of a number of ticks.
 const NAME_WIDTH: usize = 32;
 
 const PROCESSOR_WIDTH: usize = 3;
@@ -68,7 +68,7 @@ fn push_task(text: &mut Vec<u8>, set: &TaskSet, x: TaskId) -> Result<(), AllocEr
     text.extend_from_slice(b"\n")
 }
 
-/// The part of its processor's time that a task takes at most, in millionths, rounded down.
+/// The greatest part of its processor's time that a task takes, in millionths, rounded down.
 fn part_of_time(set: &TaskSet, x: TaskId) -> u64
     requires { x.0 < length set.now.tasks }
     ensures value { result ≡ (task_at set.now x.0).cost * 1000000 / (task_at set.now x.0).period }
@@ -122,8 +122,8 @@ pub(crate) fn push_loads(text: &mut Vec<u8>, set: &TaskSet) -> Result<(), AllocE
     Ok(())
 }
 
-/// The table of a set: a header, a line for each task in order, and a line with the load of each processor in
-/// millionths. Times are in ticks. An error is want of memory.
+/// The table of a set: a header, a line for each task in order, and a line for each processor with its load in millionths. Times are in
+/// ticks. It fails only for want of memory.
 pub fn set_table(alloc: Global, set: &TaskSet) -> Result<Vec<u8>, AllocError>
     ensures { IfOk result (λ text. text.items ≡ table_text set.now) }
 {

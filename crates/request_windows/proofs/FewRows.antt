@@ -6,11 +6,11 @@ use Rattle.program_form.specs.Program.{height, columns}
 use Rattle.sporadic_model.specs.SetDef.{SetDef}
 use Rattle.sporadic_model.specs.Accepted.{IsAccepted}
 use Rattle.sporadic_model.specs.declared.ids.Protocol.TheVariants as protocol
-use Rattle.fragments.specs.ColumnDef.{ColumnDef, is_class}
-use Rattle.fragments.specs.declared.columns.Class.TheVariants.{Preemption}
-use Rattle.fragments.specs.Columns.{is_column, columns_of}
+use Rattle.blocking_columns.specs.ColumnDef.{ColumnDef, is_class}
+use Rattle.blocking_columns.specs.declared.columns.Class.TheVariants.{Preemption}
+use Rattle.blocking_columns.specs.Columns.{is_column, columns_of}
 use Rattle.fragments.specs.Constraints.{per_pair, holds_some, rows_there}
-use Rattle.fragments.proofs.KnownColumns.{columns_are_requests, columns_are_of_others}
+use Rattle.blocking_columns.proofs.KnownColumns.{columns_are_requests, columns_are_of_others}
 use Rattle.direct_constraints.specs.Rows.{common_rows}
 use Rattle.preempt_constraints.specs.Rows.{preemption_rows}
 use Rattle.indirect_constraints.specs.Rows.{home_row}
@@ -29,9 +29,9 @@ window_of_pair set i x q c some =
     let pair : ((c.task == x) ≡ true) × ((c.resource == q) ≡ true) = and_parts _ _ both.0 in
     (eqb-true _ _ pair.0, eqb-true _ _ pair.1)
 
-rows_at_most : (set : SetDef) (i : ℕ) → IsAccepted set → i < length set.tasks
+pub windowed_rows_at_most : (set : SetDef) (i : ℕ) → IsAccepted set → i < length set.tasks
     → length (rows_there (columns_of protocol.Dpcp set i) (windowed_rows set i)) ≤ 702
-rows_at_most set i accepted here =
+windowed_rows_at_most set i accepted here =
     let test : ColumnDef → Bool = is_column protocol.Dpcp set i in
     let cs : List ColumnDef = columns_of protocol.Dpcp set i in
     let f : Few set = few set accepted in
@@ -54,7 +54,7 @@ rows_at_most set i accepted here =
 pub windowed_height : (set : SetDef) (i : ℕ) (r : List ℕ) → IsAccepted set → i < length set.tasks
     → height (windowed_program set i r) ≤ 702
 windowed_height set i r accepted here =
-    omega (arith, height_is set (columns_of protocol.Dpcp set i) (windowed_rows set i) r, rows_at_most set i accepted here)
+    omega (arith, height_is set (columns_of protocol.Dpcp set i) (windowed_rows set i) r, windowed_rows_at_most set i accepted here)
 
 pub windowed_width : (set : SetDef) (i : ℕ) (r : List ℕ) → IsAccepted set → columns (windowed_program set i r) ≤ 768
 windowed_width set i r accepted = omega (

@@ -1,4 +1,4 @@
--- The search for a window from below: each number of ticks that isn't enough is followed by what can run in so many.
+-- The search for a window from below. After each number of ticks that isn't enough comes what can run in that many ticks.
 use Rattle.std.proofs.Common.{◌≡◌, ℕ, suc, ltb, Bool, ◌<◌, ◌≤◌, true, false, arith, inl, inr, None, Some, refl}
 use Rattle.std.proofs.lemmas.Bool.{cases_Bool, lt-ltb, ltb-true, le-ltb}
 use Rattle.number_laws.specs.Tests.{first_below}

@@ -12,7 +12,7 @@ use fragments::uses;
 use sporadic_model::{ResourceId, TaskId, TaskSet};
 use std::alloc::{AllocError, Global};
 
-// The window of a request of `q` by `i`, where `i` requests it.
+// The window of a request of `q` by `i`, if `i` requests it.
 fn window_if_used(set: &TaskSet, i: TaskId, q: ResourceId, bounds: &[u64]) -> Option<u64>
     requires task { i.0 < length set.now.tasks }
     requires resource { q.0 < length set.now.resources }
@@ -21,7 +21,7 @@ fn window_if_used(set: &TaskSet, i: TaskId, q: ResourceId, bounds: &[u64]) -> Op
     ensures value { is_user set.now q.0 i.0 ≡ true → result ≡ window_of set.now (slice_index bounds.now) i.0 q.0 }
     ensures small { unwrap_or result 0 ≤ 1000000000 }
 {
-    // no deadline passes the limits of every set
+    // no deadline is above the limits of every set
     let _deadline = set.deadline(i);
     if uses(set, i, q) {
         window(set, i, q, bounds)

@@ -4,14 +4,14 @@ ghost use Rattle.std.specs.Prelude.{◌≡◌, ◌<◌, ◌≤◌, ◌*◌, true
 ghost use Rattle.number_laws.specs.Sums.{only_if};
 ghost use Rattle.sporadic_model.specs.Users.{is_user, count_of};
 ghost use Rattle.program_sources.specs.Bounds.{AreWithinDeadlines};
-ghost use Rattle.fragments.specs.Windows.{jobs_in};
+ghost use Rattle.blocking_columns.specs.Windows.{jobs_in};
 ghost use Rattle.window_laws.specs.WindowRows.{meets_there, requests_there, requests_met, window_row};
 ghost use Rattle.request_windows.specs.Windows.{AreWindows};
 
 use fragments::{home, uses};
 use sporadic_model::{ResourceId, TaskId, TaskSet, jobs_in};
 
-// Does `i` request `q`, whose home is that of `r`?
+// Does `i` request `q`, and is its home that of `r`?
 fn meets(set: &TaskSet, i: TaskId, r: ResourceId, q: ResourceId) -> bool
     requires task { i.0 < length set.now.tasks }
     requires resource { r.0 < length set.now.resources }
@@ -21,8 +21,8 @@ fn meets(set: &TaskSet, i: TaskId, r: ResourceId, q: ResourceId) -> bool
     uses(set, i, q) && home(set, q) == home(set, r)
 }
 
-// How many requests of `r` can jobs of `x` make that run within the window of a request of `q` by `i`? Where it has none, the bound of
-// the job stands in for it.
+// How many requests of `r` by jobs of `x` can run within the window of a request of `q` by `i`? If that has no window, the bound of the job
+// takes its place.
 fn requests_there(
     set: &TaskSet,
     i: TaskId,
@@ -42,14 +42,14 @@ fn requests_there(
     ensures value { result ≡ requests_there set.now (slice_index bounds.now) i.0 x.0 r.0 q.0 }
     ensures most { result ≤ 2000000000000 }
 {
-    // no bound and jitter together pass the deadline of their task, which is within the limits of every set
+    // no bound and jitter together are above the deadline of their task, which is within the limits of every set
     let _tasks = set.tasks();
     let span = windows[q.0 as usize].unwrap_or(bounds[i.0 as usize]);
     let bound = bounds[x.0 as usize] + set.jitter(x);
     set.count(x, r) * jobs_in(span, bound, set.period(x))
 }
 
-// And within the windows of all requests of `q` that a job of `i` makes, where they are made at the home of `r`?
+// The same within the windows of all requests of `q` that a job of `i` makes, if `q` and `r` have one home.
 fn requests_by(
     set: &TaskSet,
     i: TaskId,
@@ -76,7 +76,7 @@ fn requests_by(
     }
 }
 
-// How many within the windows of all requests that a job of `i` makes at the home of `r`?
+// The same within the windows of all requests that a job of `i` makes at the home of `r`.
 fn requests_met(
     set: &TaskSet,
     i: TaskId,
@@ -99,8 +99,8 @@ fn requests_met(
     total
 }
 
-/// The limit of the row of windows for requests of the resource by the task, of which so many jobs can run while a job of `i` does: as
-/// many as these can make, and no more than run within the windows of that job's requests there.
+/// The limit of the row of windows for requests of the resource by the task. This many of its jobs can run while a job of `i` runs. The
+/// limit is how many requests these can make, and no more than run within the windows of that job's requests there.
 pub(crate) fn limit(
     set: &TaskSet,
     i: TaskId,

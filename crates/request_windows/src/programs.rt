@@ -1,11 +1,11 @@
-//! What programs with rows of windows are made of: the columns and rows of DPCP, and the rows of windows behind them.
+//! The parts of programs with rows of windows: the columns and rows of DPCP, and after these the rows of windows.
 
 ghost use Rattle.std.specs.Prelude.{◌≡◌, ◌<◌, map, length, IfOk, OnOk};
 ghost use Rattle.sporadic_model.specs.Homes.{EachHasHome};
 ghost use Rattle.sporadic_model.specs.declared.ids.Protocol.TheVariants as protocol;
 ghost use Rattle.program_sources.specs.Bounds.{AreWithinDeadlines};
-ghost use Rattle.fragments.specs.ColumnDef.{column_seen};
-ghost use Rattle.fragments.specs.Columns.{columns_of};
+ghost use Rattle.blocking_columns.specs.ColumnDef.{column_seen};
+ghost use Rattle.blocking_columns.specs.Columns.{columns_of};
 ghost use Rattle.window_laws.specs.WindowRows.{windowed_rows, windowed_program};
 ghost use Rattle.window_laws.proofs.Programs.{windowed_is_program};
 
@@ -17,7 +17,7 @@ use protocol_programs::{ProgramParts, program_with};
 use sporadic_model::{Protocol, TaskId, TaskSet};
 use std::alloc::{AllocError, Global};
 
-/// Adds the rows of DPCP, and behind them those of windows, behind those that the taker has.
+/// Adds the rows of DPCP, and then those of windows, behind those that the taker has.
 fn add_rows<T: RowTaker>(
     alloc: Global,
     taker: &mut T,
@@ -70,8 +70,8 @@ impl ProgramParts for DpcpWindows {
     ghost is_program = { λ p set i r served accepted here within. windowed_is_program set i r accepted here within };
 }
 
-/// The blocking program of task `i`, where these are the bounds, in ticks: the columns and rows of DPCP, and behind them the rows of
-/// windows. It refuses for want of memory alone.
+/// The blocking program of task `i` at these bounds (in ticks): the columns and rows of DPCP, and after these the rows of windows. It fails
+/// only for want of memory.
 pub fn program(
     alloc: Global,
     set: &TaskSet,

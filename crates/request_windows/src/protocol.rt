@@ -11,7 +11,7 @@ ghost use Rattle.schedule_laws.proofs.DpcpLaws.{dpcp_one_of_three, dpcp_sound_ro
 ghost use Rattle.schedule_laws.proofs.DpcpAgreement.{dpcp_rules_read, dpcp_choice_reads};
 ghost use Rattle.schedule_laws.proofs.TickAgreement.{dpcp_interference_agree};
 ghost use Rattle.schedule_laws.proofs.DpcpStretches.{dpcp_stays_lawful};
-ghost use Rattle.fragments.specs.Columns.{columns_of as written_columns};
+ghost use Rattle.blocking_columns.specs.Columns.{columns_of as written_columns};
 ghost use Rattle.program_laws.proofs.WrittenPrograms.{interfering_least, interfering_most};
 ghost use Rattle.charge_laws.specs.Charges.{dpcp_charge};
 ghost use Rattle.charge_laws.proofs.DpcpCharging.{dpcp_charge_blocked};

@@ -3,9 +3,9 @@
 ghost use Rattle.std.specs.Prelude.{◌≡◌, ◌<◌, map, length, slice_index, OnOk};
 ghost use Rattle.sporadic_model.specs.Homes.{EachHasHome};
 ghost use Rattle.program_sources.specs.Bounds.{AreWithinDeadlines};
-ghost use Rattle.fragments.specs.ColumnDef.{column_seen, AreKnown};
-ghost use Rattle.fragments.specs.Stretches.{AreInOrder};
-ghost use Rattle.fragments.specs.TaskPlaces.{ArePlaces};
+ghost use Rattle.blocking_columns.specs.ColumnDef.{column_seen, AreKnown};
+ghost use Rattle.blocking_columns.specs.Stretches.{AreInOrder};
+ghost use Rattle.blocking_columns.specs.TaskPlaces.{ArePlaces};
 ghost use Rattle.window_laws.specs.WindowRows.{window_row, window_rows};
 ghost use Rattle.request_windows.specs.Windows.{AreWindows};
 
@@ -17,7 +17,8 @@ use fragments::{
 use sporadic_model::{ResourceId, TaskId, TaskSet};
 use std::alloc::{AllocError, Global};
 
-/// Of a task and a resource: the requests of it by that task that the analysed task waits for run within the windows of its own.
+/// Of a task and a resource: the task's requests of it for which the analysed task waits run within the windows of the analysed task's own
+/// requests.
 #[derive(Drop)]
 struct WindowRow {
     task: TaskId,
@@ -36,7 +37,7 @@ impl RowKind for WindowRow {
     }
 }
 
-/// The rows of windows of each task and each resource, with the windows of the analysed task's requests, by the resource.
+/// The rows of windows of each task and each resource. They have the windows of the analysed task's requests, for each resource.
 #[derive(Drop)]
 struct WindowRows {
     windows: Vec<Option<u64>>,
@@ -75,7 +76,7 @@ impl PerRequest for WindowRows {
     }
 }
 
-/// Adds the rows of windows behind those that the taker has, over any columns that stand in order: one for each higher task and each
+/// Adds the rows of windows behind those that the taker has, over any columns in order. There is one for each higher task and each
 /// resource.
 pub(crate) fn add_window_rows<T: RowTaker>(
     alloc: Global,

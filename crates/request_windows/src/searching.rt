@@ -10,7 +10,7 @@ ghost use Rattle.window_laws.specs.Windows.{window_of};
 use crate::ticks::ticks_there;
 use sporadic_model::{ResourceId, TaskId, TaskSet};
 
-// The least number of ticks that is enough, from below: where some number isn't, nothing is that is less than what can run in it.
+// The least number of ticks that is enough, from below. If a number isn't, no number is that is less than what can run in that many ticks.
 fn search(set: &TaskSet, i: TaskId, q: ResourceId, bounds: &[u64]) -> Option<u64>
     requires task { i.0 < length set.now.tasks }
     requires resource { q.0 < length set.now.resources }
@@ -30,8 +30,8 @@ fn search(set: &TaskSet, i: TaskId, q: ResourceId, bounds: &[u64]) -> Option<u64
     None
 }
 
-/// How long a request of `q` by `i` can be open under DPCP, where these are the bounds: the least number of ticks, from 1, that is
-/// as long as all that may run at the resource's home in so many ticks. None exactly where no such number is within the deadline of
+/// How long a request of `q` by `i` can be open under DPCP at these bounds, in ticks. It is the least number, from 1 on, that is at least
+/// as long as all requests that may run at the resource's home in that many ticks. None exactly if no such number is within the deadline of
 /// `i`. It takes no memory.
 pub fn window(set: &TaskSet, i: TaskId, q: ResourceId, bounds: &[u64]) -> Option<u64>
     requires task { i.0 < length set.now.tasks }

@@ -10,7 +10,7 @@ ghost use Rattle.window_laws.specs.Windows.{time_at, may_hold_up, longest_lower,
 use fragments::{ceiling_place, home, uses};
 use sporadic_model::{ResourceId, TaskId, TaskSet, jobs_in};
 
-// For how many ticks may the requests of one job of task `x` run on processor `k`, all together?
+// How many ticks may all requests of one job of task `x` run on processor `k`?
 fn time_at(set: &TaskSet, x: TaskId, k: u32) -> u64
     requires { x.0 < length set.now.tasks }
     ensures value { result ≡ time_at set.now x.0 k }
@@ -26,7 +26,7 @@ fn time_at(set: &TaskSet, x: TaskId, k: u32) -> u64
     total
 }
 
-// May a request of `q` by `x`, which is lower than `i`, hold up one of `i` on processor `k`?
+// May a request of `q` by `x`, which is lower than `i`, hold up a request of `i` on processor `k`?
 fn holds_up(set: &TaskSet, i: TaskId, k: u32, x: TaskId, q: ResourceId) -> bool
     requires other { x.0 < length set.now.tasks }
     requires resource { q.0 < length set.now.resources }
@@ -35,7 +35,7 @@ fn holds_up(set: &TaskSet, i: TaskId, k: u32, x: TaskId, q: ResourceId) -> bool
     i < x && home(set, q) == k && uses(set, x, q) && ceiling_place(set, q) <= i.0
 }
 
-// For how many ticks may the longest of these requests by `x` last?
+// How many ticks may the longest of these requests by `x` last?
 fn longest_by(set: &TaskSet, i: TaskId, k: u32, x: TaskId) -> u64
     requires { x.0 < length set.now.tasks }
     ensures value { result ≡ greatest_below (length set.now.resources)
@@ -51,7 +51,7 @@ fn longest_by(set: &TaskSet, i: TaskId, k: u32, x: TaskId) -> u64
     longest
 }
 
-// And by any lower task?
+// The same for any lower task.
 fn longest_lower(set: &TaskSet, i: TaskId, k: u32) -> u64
     ensures value { result ≡ longest_lower set.now i.0 k }
     ensures most { result ≤ 1000000000 }
@@ -63,7 +63,7 @@ fn longest_lower(set: &TaskSet, i: TaskId, k: u32) -> u64
     longest
 }
 
-// For how many ticks may requests of jobs of `x` run on processor `k` in a span of ticks?
+// How many ticks may requests of jobs of `x` run on processor `k` in a span of ticks?
 fn ticks_by(set: &TaskSet, bounds: &[u64], k: u32, span: u64, x: TaskId) -> u128
     requires task { x.0 < length set.now.tasks }
     requires within { AreWithinDeadlines set.now bounds.now }
@@ -71,14 +71,14 @@ fn ticks_by(set: &TaskSet, bounds: &[u64], k: u32, span: u64, x: TaskId) -> u128
     ensures value { result ≡ ticks_by set.now (slice_index bounds.now) k span x.0 }
     ensures most { result ≤ 64000000000000000000000 }
 {
-    // no bound and jitter together pass the deadline of their task, which is within the limits of every set
+    // no bound and jitter together are above the deadline of their task, which is within the limits of every set
     let _tasks = set.tasks();
     let bound = bounds[x.0 as usize] + set.jitter(x);
     let jobs = jobs_in(span, bound, set.period(x));
     u128::from(jobs) * u128::from(time_at(set, x, k))
 }
 
-// And those of all tasks higher than `i`?
+// The same for all tasks higher than `i`.
 fn ticks_by_higher(set: &TaskSet, i: TaskId, bounds: &[u64], k: u32, span: u64) -> u128
     requires task { i.0 < length set.now.tasks }
     requires within { AreWithinDeadlines set.now bounds.now }
@@ -93,8 +93,7 @@ fn ticks_by_higher(set: &TaskSet, i: TaskId, bounds: &[u64], k: u32, span: u64) 
     total
 }
 
-/// For how many ticks may requests run at the home of `q` in a span of ticks from the issue of a request of it by `i` on, while it is
-/// open?
+/// Let a request of `q` by `i` be open. How many ticks may requests run at the home of `q` in this span from its issue on?
 pub(crate) fn ticks_there(
     set: &TaskSet,
     i: TaskId,

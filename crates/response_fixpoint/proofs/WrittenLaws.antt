@@ -6,9 +6,9 @@ use Rattle.std.proofs.lemmas.List.Elements.{All-head, filter_passes}
 use Rattle.sporadic_model.specs.SetDef.{SetDef}
 use Rattle.sporadic_model.specs.Users.{is_user, count_of}
 use Rattle.sporadic_model.specs.declared.ids.Protocol.{Protocol}
-use Rattle.fragments.specs.ColumnDef.{ColumnDef, all_columns, IsKnown}
-use Rattle.fragments.specs.Columns.{columns_of, is_column, may_block}
-use Rattle.fragments.proofs.KnownColumns.{columns_known}
+use Rattle.blocking_columns.specs.ColumnDef.{ColumnDef, all_columns, IsKnown}
+use Rattle.blocking_columns.specs.Columns.{columns_of, is_column, may_block}
+use Rattle.blocking_columns.proofs.KnownColumns.{columns_known}
 use Rattle.program_laws.specs.Programs.{cost_of, source_of}
 use Rattle.program_laws.proofs.WrittenPrograms.{programs_rise}
 use Rattle.program_sources.specs.Fitting.{NeverFalls, ComesUpAbove}

@@ -1,4 +1,4 @@
--- What a tick brings to a row: the amount of the column in which its charge lies.
+-- What a tick contributes to a row: the amount of the column in which it is charged.
 use Rattle.std.proofs.Common.{◌≡◌, ℕ, ◌*◌, ◌<◌, ◌≤◌, ◌==◌, Bool, true, false, length, refl, arith, inl, inr, Option, Some, None}
 use Rattle.std.specs.Option.{option_and_then, option_map_or}
 use Rattle.std.proofs.lemmas.Bool.{cases_lt, cases_Bool, both_ways, eqb-true}
@@ -14,7 +14,7 @@ use Rattle.schedule_model.specs.Phase.{Phase, phase_of}
 use Rattle.schedule_model.specs.Phase.Phase.{Local, Asking, Finished}
 use Rattle.schedule_model.specs.Activity.{task_of, is_active}
 use Rattle.schedule_laws.specs.Agreement.{RunsActiveBefore}
-use Rattle.fragments.specs.ColumnDef.{ColumnDef}
+use Rattle.blocking_columns.specs.ColumnDef.{ColumnDef}
 use Rattle.charge_laws.specs.Charges.{Charge, Executes}
 use Rattle.charge_laws.specs.Windows.{EndedBy}
 use Rattle.charge_laws.specs.Fractions.{column_in}
@@ -34,7 +34,7 @@ pub record Window (charges : Charges) (w : Trace) (bound : ℕ → ℕ) (n j : �
 abbrev pub column_with : Trace → Charge → ℕ → ColumnDef
 column_with w charge q = record { task = task_of w charge.job; resource = q; class = charge.class }
 
--- A tick that brings something.
+-- A tick that contributes something.
 pub record Hit (charges : Charges) (w : Trace) (f : ColumnDef → ℕ) (j t : ℕ) : Type 0 where
   pub charge : Charge
   pub is_it : charges w t j ≡ Some charge
@@ -56,7 +56,7 @@ hit_charge : (charges : Charges) (w : Trace) (f : ColumnDef → ℕ) (j t : ℕ)
 hit_charge charges w f j t None e some = absurd (omega arith)
 hit_charge charges w f j t (Some c) e some = hit_phase charges w f j t c e (phase_of w t c.job) refl some
 
--- What brings something is charged to a request, in whose column something counts.
+-- A tick that contributes something is charged to a request, in whose column something counts.
 pub hit : (charges : Charges) (w : Trace) (f : ColumnDef → ℕ) (j t : ℕ) → 0 < brings charges w f j t → Hit charges w f j t
 hit charges w f j t some = hit_charge charges w f j t (charges w t j) refl some
 
@@ -77,7 +77,7 @@ pub blocker_is : (charges : Charges) (w : Trace) (f : ColumnDef → ℕ) (j t : 
     → blocker charges w j t ≡ h.charge.job
 blocker_is charges w f j t h = rw h.is_it refl
 
--- A flag times a number is the number at most, and something only where the test passes.
+-- A flag times a number is at most the number, and is above 0 only if the test passes.
 pub flag_times-at_most : (b : Bool) (n : ℕ) → flag b * n ≤ n
 flag_times-at_most true n = omega arith
 flag_times-at_most false n = omega arith
@@ -86,7 +86,7 @@ pub flag_times-passes : (b : Bool) (n : ℕ) → 0 < flag b * n → b ≡ true
 flag_times-passes true n h = refl
 flag_times-passes false n h = absurd (omega arith)
 
--- A term that counts only where a test passes, and does.
+-- A term that counts only if a test passes, and does.
 pub only_if-parts : (b : Bool) (n : ℕ) → 0 < only_if b n → (b ≡ true) × (0 < n)
 only_if-parts true n h = (refl, h)
 only_if-parts false n h = absurd (omega arith)
@@ -111,7 +111,7 @@ slot_sum n m c slot f p passes most k b = elim (cases_Bool (p k)) [
         absurd (both_ways (p k) fails (rw (← same) here))
   ]
 
--- Where what counts has a slot below m that passes a test, and what has one slot sums to at most c, the whole is at most c
+-- Let each term that counts have a slot below m that passes a test. Let the terms of one slot sum to at most c. Then the whole is at most c
 -- for each slot that passes.
 pub sum_below-passing : (n m c : ℕ) (slot f : ℕ → ℕ) (p : ℕ → Bool) → ((u : ℕ) → u < n → 0 < f u → (slot u < m) × (p (slot u) ≡ true))
     → ((k : ℕ) → k < m → p k ≡ true → sum_below n (λ u. only_if (slot u == k) (f u)) ≤ c) → sum_below n f ≤ count_below m p * c

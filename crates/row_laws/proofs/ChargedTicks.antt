@@ -1,5 +1,5 @@
--- Each blocked tick is charged to one request, which executes, in a column of the job's program; and where a point meets its
--- rows, a dual bounds these ticks.
+-- Each blocked tick is charged to one request, which executes, in a column of the job's program. If a point meets the program's rows, a
+-- dual bounds these ticks.
 use Rattle.std.proofs.Common.{◌≡◌, ℕ, ◌<◌, ◌≤◌, Bool, true, List, map, Some}
 use Rattle.std.specs.Prelude.{slice_index}
 use Rattle.number_laws.specs.Tests.{count_below}
@@ -16,8 +16,8 @@ use Rattle.schedule_model.specs.Ranks.{mpcp, fmlp_plus}
 use Rattle.schedule_model.specs.Protocols.{shared_rule, dpcp_rule}
 use Rattle.schedule_model.specs.Keeping.{KeepsBefore}
 use Rattle.schedule_model.specs.BlockedTicks.{is_shared_interference, is_dpcp_interference, is_blocked}
-use Rattle.fragments.specs.ColumnDef.{ColumnDef}
-use Rattle.fragments.specs.Columns.{columns_of}
+use Rattle.blocking_columns.specs.ColumnDef.{ColumnDef}
+use Rattle.blocking_columns.specs.Columns.{columns_of}
 use Rattle.program_laws.specs.Programs.{cost_of}
 use Rattle.charge_laws.specs.Charges.{Charge, shared_charge, dpcp_charge, Executes}
 use Rattle.charge_laws.specs.ChargedTicks.{IsCharged}
@@ -59,8 +59,8 @@ dpcp_is_charged w n t j lawful keeps l blocked =
     is_charged_in dpcp_charge (columns_of protocol.Dpcp w.set (task_of w j)) w t j s.charge s.is_it
     (dpcp_executes w t j s.charge (keeps t l) s.is_it) (dpcp_in_column w n t j lawful keeps l blocked)
 
--- Whatever the protocol: where the fractions of a window are a point of a program with these columns, and each blocked tick is
--- charged in one of them, a dual bounds the blocked ticks.
+-- Whatever the protocol: let the fractions of a window be a point of a program with these columns, and let each blocked tick be charged in
+-- one of them. Then a dual bounds the blocked ticks.
 pub charged_bounded : (charges : Charges) (interferes : Trace → ℕ → ℕ → Bool) (w : Trace) (bounds : List ℕ) (n j den : ℕ)
     (num : ℕ → ℕ) (program : ProgramDef) (cs : List ColumnDef) → program.costs ≡ map (cost_of w.set) cs
     → IsScaledPoint program (product_of_lengths w.set cs) (fractions_of charges w (slice_index bounds) n j cs)

@@ -1,4 +1,4 @@
--- Sums over the columns of a program, as sums over ticks: each tick lies in one column at most.
+-- Sums over the columns of a program, as sums over ticks. Each tick is charged in at most one column.
 use Rattle.std.proofs.Common.{◌≡◌, ℕ, zero, suc, ◌+◌, ◌*◌, ◌<◌, ◌≤◌, ◌==◌, ◌&&◌, Bool, true, false, List, [], ◌∷◌}
 use Rattle.std.proofs.Common.{length, get_or, refl, sym, ap, ◌∙◌, arith, inl, inr, Option, Some, None, cond, sum_by}
 use Rattle.std.specs.List.{filter, Contains}
@@ -10,14 +10,14 @@ use Rattle.number_laws.specs.Tests.{count_below}
 use Rattle.number_laws.proofs.SumLaws.{sum_below-agree, sum_below-plus, sum_below-monotone, sum_below-zero}
 use Rattle.number_laws.proofs.SumLaws.{sum_below-times_right, sum_below-list_by, sum_below-term}
 use Rattle.number_laws.proofs.CountLaws.{flag-at_most}
-use Rattle.fragments.specs.declared.columns.Class.{Class}
-use Rattle.fragments.specs.declared.columns.Class.TheVariants.{Direct, Indirect, Preemption}
-use Rattle.fragments.specs.ColumnDef.{ColumnDef, classes_of, all_columns}
+use Rattle.blocking_columns.specs.declared.columns.Class.{Class}
+use Rattle.blocking_columns.specs.declared.columns.Class.TheVariants.{Direct, Indirect, Preemption}
+use Rattle.blocking_columns.specs.ColumnDef.{ColumnDef, classes_of, all_columns}
 use Rattle.charge_laws.specs.Fractions.{is_same_class, is_same_column, is_in}
 use Rattle.row_laws.specs.Meeting.{brought}
 use Rattle.row_laws.proofs.Numbers.{sum_below-only}
 
--- What a filter keeps sums to no more.
+-- The elements that a filter keeps sum to no more.
 pub sum_by-kept : {X : Type 0} (p : X → Bool) (f : X → ℕ) → (xs : List X) → sum_by f (filter p xs) ≤ sum_by f xs
 sum_by-kept p f [] = omega arith
 sum_by-kept p f (x ∷ xs) = omega (arith, first (p x), sum_by-cons f x xs, sum_by-kept p f xs) where
@@ -71,7 +71,7 @@ pub same_column_itself : (c : ColumnDef) → is_same_column c c ≡ true
 same_column_itself c =
     and_from _ _ (eq-eqb c.task c.task refl) (and_from _ _ (eq-eqb c.resource c.resource refl) (same_class_itself c.class))
 
--- Of the three classes of one task and resource at most one is the column's.
+-- At most one of the three classes of a task and a resource is the column's.
 one_class : (f : Class → ℕ) (b : Bool) (d : Class)
     → flag (b && is_same_class Direct d) * f Direct +
     (flag (b && is_same_class Indirect d) * f Indirect + flag (b && is_same_class Preemption d) * f Preemption) ≤ only_if b (f d)
@@ -96,7 +96,7 @@ classes_sum f d x q = elim (cases_Bool (x == d.task)) [
   ]
 ]
 
--- So of all columns.
+-- So it is for all columns.
 pub all_sum : (f : ColumnDef → ℕ) (d : ColumnDef) (n m : ℕ) → sum_by (λ c. flag (is_same_column c d) * f c) (all_columns n m) ≤ f d
 all_sum f d n m =
     let tasks : sum_by h (all_columns n m) ≡ sum_below n (λ x. sum_by h (collect_below m (λ q. classes_of x q))) =
@@ -122,7 +122,7 @@ all_sum f d n m =
           (λ q l. omega (arith, classes_sum f d x q, swapped (x == d.task) (q == d.resource) (f d))) in
           omega (arith, resources, each, sum_below-only m d.resource (λ q. only_if (x == d.task) (f d)))
 
--- What the columns of a program are worth, each by the ticks that lie in it, is at most what the ticks bring.
+-- What the columns of a program are worth, each by the ticks charged in it, is at most what the ticks contribute.
 pub columns_bring : (f : ColumnDef → ℕ) (named : ℕ → Option ColumnDef) (e n m : ℕ) (p : ColumnDef → Bool)
     → sum_by (λ c. count_below e (λ t. is_in c (named t)) * f c) (filter p (all_columns n m)) ≤ sum_below e (λ t. brought f (named t))
 columns_bring f named e n m p =
@@ -144,7 +144,7 @@ columns_bring f named e n m p =
       at_tick None = omega (arith, nothing (filter p (all_columns n m)))
       at_tick (Some d) = omega (arith, sum_by-kept p (λ c. flag (is_same_column c d) * f c) (all_columns n m), all_sum f d n m)
 
--- Where each tick that counts lies in one of the columns, there are no more such ticks than lie in the columns.
+-- If each tick that counts is charged in one of the columns, there are no more such ticks than the columns have.
 pub columns_hold : (named : ℕ → Option ColumnDef) (counts : ℕ → Bool) (e : ℕ) (cs : List ColumnDef)
     → ((t : ℕ) → t < e → counts t ≡ true → (d : ColumnDef) × (named t ≡ Some d) × Contains cs d)
     → count_below e counts ≤ sum_by (λ c. count_below e (λ t. is_in c (named t))) cs

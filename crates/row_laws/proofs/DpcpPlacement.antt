@@ -1,4 +1,4 @@
--- Under DPCP the column in which a charged tick lies is one of the blocked job's program.
+-- Under DPCP a tick is charged in a column of the blocked job's program.
 use Rattle.std.proofs.Common.{◌≡◌, ℕ, ◌<◌, ◌≤◌, ◌==◌, ◌&&◌, ◌||◌, not, true, length, sym, ap, ◌∙◌, inl, inr, nat_le, nat_lt}
 use Rattle.std.proofs.lemmas.Bool.{cases_lt, and_from, or_left, or_right, eq-eqb, le-leb, le-ltb, not_from_false}
 use Rattle.number_laws.proofs.TestLaws.{any_below-from}
@@ -17,16 +17,16 @@ use Rattle.schedule_model.specs.BlockedTicks.{is_dpcp_interference, is_blocked}
 use Rattle.schedule_laws.proofs.ActiveJobs.{active_listed}
 use Rattle.schedule_laws.proofs.KindsOfTicks.{Blocked, blocked_is}
 use Rattle.schedule_laws.proofs.Segments.{open_listed, open_resource, open_user}
-use Rattle.fragments.specs.declared.columns.Class.{Class}
-use Rattle.fragments.specs.declared.columns.Class.TheVariants.{Direct, Indirect, Preemption}
-use Rattle.fragments.specs.Ceilings.{ceiling_rank}
-use Rattle.fragments.specs.Columns.{requests_beside, may_block}
+use Rattle.blocking_columns.specs.declared.columns.Class.{Class}
+use Rattle.blocking_columns.specs.declared.columns.Class.TheVariants.{Direct, Indirect, Preemption}
+use Rattle.blocking_columns.specs.Ceilings.{ceiling_rank}
+use Rattle.blocking_columns.specs.Columns.{requests_beside, may_block}
 use Rattle.charge_laws.proofs.DpcpCharging.{HomeBlocked, LocalBlocked, DirectAtHome, DpcpReason}
 use Rattle.row_laws.proofs.SharedPlacement.{IsPlaced, other_task, passes_not}
 use Rattle.row_laws.proofs.HomeRow.{low_runner, runner_resource}
 use Rattle.row_laws.proofs.Ordered.{LowRunner, low_ceiling}
 
--- Job j requests the resource whose request runs, where it is charged directly.
+-- Job j requests the resource whose request runs, if it is charged directly.
 pub requested_there : (w : Trace) (t j r m q : ℕ) → AreLawfulJobs (jobs_of w) → j < length w.jobs → phase_of w t r ≡ Asking m q
     → DirectAtHome w t j r → is_user w.set q (task_of w j) ≡ true
 requested_there w t j r m q lawful listed e a =
@@ -35,7 +35,7 @@ requested_there w t j r m q lawful listed e a =
     ap (λ k. is_user w.set k (task_of w j)) (sym same)
     ∙ open_user w.set w t j a.blocked.number a.blocked.resource (lawful.each j listed) a.blocked.request
 
--- The request runs on job j's processor, where it is charged by preemption.
+-- The request runs on job j's processor, if it is charged by preemption.
 pub home_there : (w : Trace) (t j r m q : ℕ) → phase_of w t r ≡ Asking m q → LocalBlocked w t j r
     → (home_of w q == processor_of w j) ≡ true
 home_there w t j r m q e a = eq-eqb (home_of w q) (processor_of w j)
@@ -82,7 +82,7 @@ runner_active w t j r Direct why = why.blocked.runner.active
 runner_active w t j r Indirect why = why.blocked.runner.active
 runner_active w t j r Preemption why = why.runner.active
 
--- The column in which a charged tick lies is there.
+-- The column in which a tick is charged is in the program.
 pub dpcp_placed : (w : Trace) (n t j r m q : ℕ) (c : Class) → AreLawfulJobs (jobs_of w) → KeepsBefore dpcp_rule w n → t < n
     → is_blocked is_dpcp_interference w t j ≡ true → runs_in (w.row t) r ≡ true
     → phase_of w t r ≡ Asking m q → DpcpReason w t j c r → IsPlaced protocol.Dpcp w (task_of w j) (task_of w r) q c

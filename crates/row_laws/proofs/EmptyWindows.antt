@@ -1,4 +1,4 @@
--- The fractions of each job's window meet its rows, also where the window has no tick within the rows: these are all 0.
+-- The fractions of each job's window meet its rows, also if the window has no tick within the rows. Then they are all 0.
 use Rattle.std.proofs.Common.{◌≡◌, ℕ, ◌*◌, ◌<◌, ◌≤◌, false, List, length, get_or, refl, arith, inl, inr, Option, Some, None}
 use Rattle.std.specs.Prelude.{slice_index}
 use Rattle.std.proofs.Math.Nat.{zero-div}
@@ -21,8 +21,8 @@ use Rattle.schedule_model.specs.Keeping.{KeepsBefore}
 use Rattle.schedule_model.specs.BlockedTicks.{is_shared_interference, is_dpcp_interference}
 use Rattle.schedule_laws.proofs.ActiveJobs.{Active, active_is}
 use Rattle.schedule_laws.proofs.KindsOfTicks.{Blocked, blocked_is}
-use Rattle.fragments.specs.ColumnDef.{ColumnDef}
-use Rattle.fragments.specs.Columns.{columns_of}
+use Rattle.blocking_columns.specs.ColumnDef.{ColumnDef}
+use Rattle.blocking_columns.specs.Columns.{columns_of}
 use Rattle.fragments.specs.Constraints.{ConstraintDef}
 use Rattle.program_laws.specs.Programs.{rows_of, program_with}
 use Rattle.charge_laws.specs.Charges.{Charge, shared_charge, dpcp_charge}
@@ -34,7 +34,7 @@ use Rattle.row_laws.specs.Meeting.{Charges, ChargesActive}
 use Rattle.row_laws.proofs.Fractions.{HaveLengths, product_positive}
 use Rattle.row_laws.proofs.Joined.{ArePointOf, ArePoint, columns_have_lengths, mpcp_point, fmlp_point, dpcp_point}
 
--- Where its window has no tick from its release on, a job is charged nothing.
+-- If a job's window has no tick from its release on, nothing is charged for it.
 empty_fraction : (charges : Charges) (w : Trace) (bound : ℕ → ℕ) (n j : ℕ) (cs : List ColumnDef) (c : ColumnDef)
     → ChargesActive charges w j → window_end w bound n j ≤ (job_of w.jobs j).release → fraction_of charges w bound n j cs c ≡ 0
 unfolding ticks_in
@@ -66,8 +66,8 @@ empty_point charges cs rows w bounds n j have only empty = record {
   program : ProgramDef
   program = program_with w.set cs rows bounds
 
--- Where the window has a tick from the release on, the release is a tick within the rows before the bound's end, so each job whose
--- bound has passed by then has ended.
+-- If the window has a tick from the release on, the release is a tick within the rows before the bound's end. So each job whose bound has
+-- passed by then has ended.
 pub point_within : (charges : Charges) (cs : List ColumnDef) (rows : List ConstraintDef) (w : Trace) (bounds : List ℕ) (n j : ℕ)
     → HaveLengths w.set cs → ChargesActive charges w j
     → EndedWithin w (slice_index bounds) (bound_end w (slice_index bounds) j) n

@@ -1,5 +1,5 @@
--- Turns: where requests are served in the order of issue, what holds or runs while a job waits was issued no later than the job's own
--- request, and so was open whenever that was. So each request of the job pays for one request. Then the rows of FMLP+.
+-- Turns. If requests are served in the order of issue, what holds or runs while a job waits was issued no later than the job's own request.
+-- So it was open when that request was issued, and each request of the job pays for one request. Then come the rows of FMLP+.
 use Rattle.std.proofs.Common.{◌≡◌, ℕ, zero, suc, ◌<◌, ◌≤◌, ◌*◌, ◌==◌, ◌&&◌, not, Bool, true, false, length, refl, sym, ap, subst, ◌∙◌}
 use Rattle.std.proofs.Common.{arith, inl, inr, Some}
 use Rattle.std.proofs.Math.Nat.{mul-le-mul_left}
@@ -18,9 +18,9 @@ use Rattle.schedule_model.specs.Ranks.{fmlp_plus}
 use Rattle.schedule_model.specs.Protocols.{shared_rule}
 use Rattle.schedule_model.specs.Keeping.{KeepsBefore}
 use Rattle.schedule_laws.specs.Agreement.{RunsActiveBefore}
-use Rattle.fragments.specs.declared.columns.Class.{Class}
-use Rattle.fragments.specs.declared.columns.Class.TheVariants.{Direct, Indirect, Preemption}
-use Rattle.fragments.specs.ColumnDef.{ColumnDef, is_direct, is_preemption}
+use Rattle.blocking_columns.specs.declared.columns.Class.{Class}
+use Rattle.blocking_columns.specs.declared.columns.Class.TheVariants.{Direct, Indirect, Preemption}
+use Rattle.blocking_columns.specs.ColumnDef.{ColumnDef, is_direct, is_preemption}
 use Rattle.direct_constraints.specs.Rows.{turn_row}
 use Rattle.indirect_constraints.specs.Rows.{queue_row}
 use Rattle.charge_laws.specs.Charges.{shared_charge}
@@ -47,7 +47,7 @@ open_before w u y m q script early k r late =
     (λ t a b local runs. let e : t ≡ u = omega arith in let x : Local ≡ Asking m q = sym local ∙ ap (λ z. phase_of w z y) e ∙ early in
     cc)
 
--- Where a new holder takes a resource, it was issued no later than any other request of it.
+-- If a new holder takes a resource, it was issued no later than any other request of it.
 pub fifo_new : (w : Trace) (t q y j : ℕ) → KeepsGrant fmlp_plus w t → holder_in (w.row t) q ≡ Some y → is_job y (held_before w t q) ≡ false
     → is_requester w t q j ≡ true → issue_tick_of w t y ≤ issue_tick_of w t j
 unfolding fmlp_plus
@@ -102,7 +102,7 @@ fifo_holder w n (suc u) q y j lawful runs grants l holds asks = elim (cases_Bool
         omega (arith, back (requester_from w u q j mine.number active early), stays_y, stays_j)
   ]
 
--- Rows of turns. Job j is in a request of a resource that passes, and job y was issued no later than that.
+-- Rows of turns. Job j is in a request of a resource that passes, and job y's request was issued no later than that.
 pub record InTurn (w : Trace) (t j y : ℕ) (ok : ℕ → Bool) : Type 0 where
   pub own : OwnRequest w t j ok
   pub earlier : issue_tick_of w t y ≤ issue_tick_of w t j
@@ -112,8 +112,8 @@ abbrev pub AreTurns : Charges → Trace → ℕ → ℕ → (ColumnDef → Bool)
 AreTurns charges w n j counts kind x ok =
     (t : ℕ) → t < n → (c : Counted charges w counts j t) → (kind c.charge.job ≡ x) × InTurn w t j c.charge.job ok
 
--- While job j is in one request, jobs of one number that ask alone and were issued no later are one job, in one request: it was open
--- when j's was issued.
+-- While job j is in one request, take the jobs of one number that ask alone and were issued no later. They are one job, in one request,
+-- which was open when j's was issued.
 pub one_turn : (w : Trace) (n u v j y z k q r p m o : ℕ) (kind : ℕ → ℕ) → RunsActiveBefore w n → AsksAlone w n kind → u ≤ v → v < n
     → is_script (job_of w.jobs z).script ≡ true → phase_of w u j ≡ Asking k q → phase_of w v j ≡ Asking k r
     → is_requester w u p y ≡ true → phase_of w v z ≡ Asking m o → kind y ≡ kind z
@@ -122,7 +122,7 @@ one_turn w n u v j y z k q r p m o kind runs alone order l script early late ask
     one_open w n u v y z p m o kind runs alone (omega arith) script asks same
     (open_since w u v z m o there (omega (arith, earlier, issue_no_later w u v j k q r early late)) order) there
 
--- So what such a row counts is paid for by j's own requests that pass, whatever the protocol.
+-- So j's own requests that pass pay for what such a row counts, whatever the protocol.
 pub turns_met : (charges : Charges) (w : Trace) (bound : ℕ → ℕ) (n j x s : ℕ) (share : ℕ → ℕ → ℕ) (counts : ColumnDef → Bool)
     (kind : ℕ → ℕ) (ok : ℕ → Bool) → Window charges w bound n j → AsksAlone w n kind → AreTurns charges w n j counts kind x ok
     → ((y q : ℕ) → share y q * length_of w.set y q ≤ s)
@@ -170,7 +170,7 @@ turns_of_met charges w bound n j x q s share counts kind window alone turns fair
       mul-le-mul_left s (sum_below-only (length w.set.resources) q (count_of w.set (task_of w j))),
     )
 
--- The row of turns, however ticks are charged, where what is charged directly is in turn, in a request of what j itself requests.
+-- The row of turns, however ticks are charged, if what is charged directly is in turn, in a request of the resource that j itself requests.
 pub turn_row_by : (charges : Charges) (w : Trace) (bound : ℕ → ℕ) (n j x q : ℕ) → Window charges w bound n j
     → ((t : ℕ) → t < n → (c : Counted charges w (λ d. is_direct d.class) j t) → InTurn w t j c.charge.job (λ r. r == c.resource))
     → TicksMeet charges w bound n j (turn_row w.set (task_of w j) x q)
@@ -196,7 +196,7 @@ turn_row_by charges w bound n j x q window direct s share fair =
           }) in
           (eqb-true _ _ both.0, subst (λ (z : ℕ). InTurn w t j c.charge.job (λ r. r == z)) (eqb-true _ _ both.1) turn)
 
--- Under FMLP+ the holder of what a job waits for is in turn,
+-- Under FMLP+ the holder of the resource that a job waits for is in turn,
 pub holder_in_turn : (w : Trace) (n t j y : ℕ) (ok : ℕ → Bool) → AreLawfulJobs (jobs_of w) → KeepsBefore (shared_rule fmlp_plus) w n → t < n
     → (a : WaitsFor w t j y) → ok a.resource ≡ true → InTurn w t j y ok
 holder_in_turn w n t j y ok lawful keeps l a passes = record {
@@ -205,7 +205,7 @@ holder_in_turn w n t j y ok lawful keeps l a passes = record {
       (requester_from w t a.resource j a.number a.active a.request);
 }
 
--- and so is what runs before that holder.
+-- and so is the job that runs before that holder.
 pub runs_first : (w : Trace) (t j r : ℕ) → (by : IndirectBy fmlp_plus w t j r) → issue_tick_of w t r ≤ issue_tick_of w t by.first
 unfolding fmlp_plus
 runs_first w t j r by = by.order

@@ -1,4 +1,4 @@
--- From ticks to fractions: where the ticks of a window meet each row, the fractions are a scaled point of the program.
+-- From ticks to fractions. If the ticks of a window meet each row, the fractions are a scaled point of the program.
 use Rattle.std.proofs.Common.{◌≡◌, ℕ, zero, suc, ◌*◌, ◌/◌, ◌<◌, ◌≤◌, Bool, true, List, [], ◌∷◌, length, get_or, map}
 use Rattle.std.proofs.Common.{refl, sym, ap, ◌∙◌, arith, Some, sum_by}
 use Rattle.std.specs.Prelude.{slice_index}
@@ -16,8 +16,8 @@ use Rattle.sporadic_model.specs.Users.{length_of}
 use Rattle.sporadic_model.specs.declared.ids.Protocol.{Protocol}
 use Rattle.schedule_model.specs.RowDef.{Trace}
 use Rattle.schedule_model.specs.Activity.{task_of}
-use Rattle.fragments.specs.ColumnDef.{ColumnDef}
-use Rattle.fragments.specs.Columns.{is_column, columns_where, columns_of}
+use Rattle.blocking_columns.specs.ColumnDef.{ColumnDef}
+use Rattle.blocking_columns.specs.Columns.{is_column, columns_where, columns_of}
 use Rattle.fragments.specs.Constraints.{ConstraintDef, holds_some, rows_there}
 use Rattle.program_laws.specs.Programs.{cost_of, rows_of, program_with, program_of}
 use Rattle.program_laws.proofs.RowKinds.{EachKind, each_row}
@@ -50,7 +50,7 @@ factor_of set (c ∷ cs) (suc k) d l =
           ∙ mul_left_comm (length_of set c.task c.resource) (length_of set (get_or cs k d).task (get_or cs k d).resource) back.0,
     )
 
--- And where the product is positive, so is each length.
+-- If the product is positive, so is each length.
 pub lengths_positive : (set : SetDef) (cs : List ColumnDef) → 0 < product_of_lengths set cs → HaveLengths set cs
 lengths_positive set cs some =
     All-from_get_or (λ (c : ColumnDef). 0 < length_of set c.task c.resource) cs no_column (λ k l.
@@ -61,11 +61,11 @@ lengths_positive set cs some =
       factor_some zero b x = absurd (omega arith)
       factor_some (suc a) b x = omega arith
 
--- A whole of scale s, shared out over a length: what each tick is worth.
+-- A whole of scale s, divided by a length: what each tick is worth.
 abbrev pub share_of : SetDef → ℕ → ℕ → ℕ → ℕ
 share_of set s x q = s / length_of set x q
 
--- A column's fraction is its ticks times its share, and its share times its length a whole.
+-- A column's fraction is its ticks times its share. Its share times its length is a whole.
 record WholeShare (set : SetDef) (s ticks : ℕ) (c : ColumnDef) : Type 0 where
   fraction : (ticks * s) / length_of set c.task c.resource ≡ ticks * share_of set s c.task c.resource
   whole : length_of set c.task c.resource * share_of set s c.task c.resource ≡ s
@@ -97,11 +97,11 @@ whole_in set cs k ticks have l =
     whole_share set (product_of_lengths set cs) ticks (get_or cs k no_column) f.0
     (All-get_or (λ (c : ColumnDef). 0 < length_of set c.task c.resource) cs k no_column l have) f.1
 
--- A row of the program that is there.
+-- A row of the program.
 no_row : ConstraintDef
 no_row = record { coefficient = λ c. 0; limit = λ b. 0 }
 
--- The fractions' sum in a row, as the columns' ticks.
+-- The sum of the fractions in a row, as the columns' ticks.
 row_ticks : (charges : Charges) (test : ColumnDef → Bool) (w : Trace) (bound : ℕ → ℕ) (n j : ℕ) (k : ConstraintDef)
     → HaveLengths w.set (columns_where test w.set)
     → sum_below (length (columns_where test w.set))
@@ -140,8 +140,8 @@ row_ticks charges test w bound n j k have =
           let a : WholeShare w.set (scale_of test w.set) (ticks d) d = whole_in w.set cs c (ticks d) have l in
           ap (λ z. k.coefficient d * z) a.fraction ∙ mul_left_comm (k.coefficient d) (ticks d) (share d)
 
--- So where the ticks meet each row of a list, the fractions are a scaled point of the program over these rows and the columns that
--- pass a test.
+-- So if the ticks meet each row of a list, the fractions are a scaled point of the program over these rows and the columns that pass a
+-- test.
 pub rows_are_point : (charges : Charges) (test : ColumnDef → Bool) (rows : List ConstraintDef) (w : Trace) (bounds : List ℕ) (n j : ℕ)
     → HaveLengths w.set (columns_where test w.set) → All (TicksMeet charges w (slice_index bounds) n j) rows
     → IsScaledPoint (program_with w.set (columns_where test w.set) rows bounds) (product_of_lengths w.set (columns_where test w.set))
@@ -194,7 +194,7 @@ rows_are_point charges test rows w bounds n j have each = record { positive = pr
       ap (λ z. scale_of test w.set * z) limits in
       omega (arith, number, same, row_ticks charges test w (slice_index bounds) n j k have, ticks, whole)
 
--- So it is for a protocol's programs, where the ticks meet each kind of its rows.
+-- So it is for a protocol's programs, if the ticks meet each kind of its rows.
 pub fractions_are_point : (charges : Charges) (p : Protocol) (w : Trace) (bounds : List ℕ) (n j : ℕ)
     → HaveLengths w.set (columns_of p w.set (task_of w j))
     → EachKind (TicksMeet charges w (slice_index bounds) n j) p w.set (task_of w j)
@@ -204,8 +204,8 @@ fractions_are_point charges p w bounds n j have each =
     rows_are_point charges (is_column p w.set (task_of w j)) (rows_of p w.set (task_of w j)) w bounds n j have
     (each_row (TicksMeet charges w (slice_index bounds) n j) p w.set (task_of w j) each)
 
--- The fractions are worth at least the blocked ticks, where each of these lies in one of the columns, and the program's columns
--- are these.
+-- If each blocked tick is charged in one of the columns, and the program's columns are these, the fractions are worth at least the blocked
+-- ticks.
 pub columns_worth : (charges : Charges) (w : Trace) (bound : ℕ → ℕ) (n j : ℕ) (program : ProgramDef) (cs : List ColumnDef)
     (counts : ℕ → Bool) → program.costs ≡ map (cost_of w.set) cs → HaveLengths w.set cs
     → ((t : ℕ) → t < window_end w bound n j → counts t ≡ true

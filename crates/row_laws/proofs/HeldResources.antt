@@ -9,8 +9,8 @@ use Rattle.sporadic_model.specs.Users.{count_of}
 use Rattle.schedule_model.specs.JobDef.{job_of}
 use Rattle.schedule_model.specs.RowDef.{Trace}
 use Rattle.schedule_model.specs.Activity.{task_of, is_active}
-use Rattle.fragments.specs.ColumnDef.{ColumnDef}
-use Rattle.fragments.specs.Windows.{jobs_in, requests_in, requests_by_higher}
+use Rattle.blocking_columns.specs.ColumnDef.{ColumnDef}
+use Rattle.blocking_columns.specs.Windows.{jobs_in, requests_in, requests_by_higher}
 use Rattle.charge_laws.specs.Windows.{bound_end, window_end}
 use Rattle.row_laws.specs.Meeting.{Charges, brings}
 use Rattle.row_laws.proofs.Brings.{Window, Hit, hit, only_if-parts}

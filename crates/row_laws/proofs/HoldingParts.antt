@@ -1,5 +1,5 @@
--- Row of holdings, under MPCP: what is charged indirectly is parted by the resource that the job waits for and by the task
--- that holds it; each part is paid for by the holdings of that resource by that task.
+-- The row of holdings, under MPCP. What is charged indirectly is divided by the resource that the job waits for and by the task that holds
+-- it. The holdings of that resource by that task pay for each part.
 use Rattle.std.proofs.Common.{◌≡◌, ℕ, ◌*◌, ◌<◌, ◌≤◌, ◌==◌, ◌&&◌, not, Bool, true, length, sym, ap, ◌∙◌, arith, Some, nat_lt}
 use Rattle.std.proofs.lemmas.Bool.{eqb-true, ltb-true}
 use Rattle.number_laws.specs.Sums.{sum_below, only_if}
@@ -14,7 +14,7 @@ use Rattle.schedule_model.specs.Protocols.{shared_rule}
 use Rattle.schedule_model.specs.Keeping.{KeepsBefore}
 use Rattle.schedule_laws.proofs.Ticks.{open_between}
 use Rattle.schedule_laws.proofs.Holders.{shared_holder_stays}
-use Rattle.fragments.specs.ColumnDef.{is_indirect}
+use Rattle.blocking_columns.specs.ColumnDef.{is_indirect}
 use Rattle.charge_laws.specs.Charges.{shared_charge}
 use Rattle.charge_laws.specs.Windows.{window_end}
 use Rattle.row_laws.specs.Meeting.{brings}
@@ -30,8 +30,8 @@ pub record Holding (w : Trace) (bound : ℕ → ℕ) (n j x s : ℕ) (share : �
   pub keeps : KeepsBefore (shared_rule mpcp) w n
   pub fair : (y q : ℕ) → share y q * length_of w.set y q ≤ s
 
--- What a tick brings to the row; of that, what is waited for q; of that, while lower tasks and while others hold it; and of
--- the latter, while task y does, and while its job z does.
+-- What a tick contributes to the row. Of that, what is contributed while j waits for q. Of that, the part while lower tasks hold q, and
+-- while others do. And of the latter the part while task y does, and while its job z does.
 abbrev pub amount : Trace → ℕ → ℕ → (ℕ → ℕ → ℕ) → ℕ → ℕ
 amount w j x share t = brings shared_charge w (holding_share x share) j t
 
@@ -73,7 +73,7 @@ for_resource_is w bound n j x s share q t c l some =
     let h : Hit shared_charge w (holding_share x share) j t = hit shared_charge w (holding_share x share) j t parts.1 in
     record { resource = eqb-true _ _ parts.0; hits = h; facts = held_at mpcp w bound n t j x share c.window c.keeps (omega arith) h }
 
--- Of those while lower tasks hold q there is one for each request of q by j.
+-- While lower tasks hold q there is one for each request of q by j.
 pub low_paid : (w : Trace) (bound : ℕ → ℕ) (n j x s : ℕ) (share : ℕ → ℕ → ℕ) (q : ℕ) → Holding w bound n j x s share
     → sum_below (window_end w bound n j) (λ t. low_part w j x share q t) ≤ count_of w.set (task_of w j) q * s
 low_paid w bound n j x s share q c =

@@ -1,4 +1,4 @@
--- Row of holdings, under MPCP: the parts by resource and by holder, summed.
+-- The row of holdings, under MPCP: the sum of the parts by resource and by holder.
 use Rattle.std.proofs.Common.{◌≡◌, ℕ, ◌+◌, ◌*◌, ◌<◌, ◌≤◌, ◌&&◌, not, Bool, true, false, length, refl, sym, ap}
 use Rattle.std.proofs.Common.{◌∙◌, arith, inl, inr, nat_lt}
 use Rattle.std.proofs.Math.Nat.{mul_comm, mul-add}
@@ -57,7 +57,7 @@ high_paid w bound n j x s share q c =
             before = omega arith;
           }
 
--- While lower tasks hold q, where there is one beside x that uses it.
+-- While lower tasks hold q, if one beside x uses it.
 lower_paid : (w : Trace) (bound : ℕ → ℕ) (n j x s : ℕ) (share : ℕ → ℕ → ℕ) (q : ℕ) → Holding w bound n j x s share
     → sum_below (window_end w bound n j) (λ t. low_part w j x share q t) ≤ s * lower_holdings w.set (task_of w j) x q
 lower_paid w bound n j x s share q c =

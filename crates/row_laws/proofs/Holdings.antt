@@ -1,5 +1,5 @@
--- Indirect charges: a job waits for a holder that doesn't run, and a request of another task runs on the holder's processor.
--- While one job holds a resource no other job of its processor runs a local tick, so each task there runs one request.
+-- Indirect charges: a job waits for a holder that doesn't run, and a request of another task runs on the holder's processor. While one job
+-- holds a resource, no other job of its processor runs a local tick. So each task there runs one request.
 use Rattle.std.proofs.Common.{◌≡◌, ℕ, ◌*◌, ◌<◌, ◌≤◌, ◌==◌, ◌&&◌, true, length, refl, sym, ap, ◌∙◌, arith, Some}
 use Rattle.std.specs.Option.{option_map_or}
 use Rattle.std.proofs.lemmas.Bool.{both_ways, and_parts, and_from, eqb-true, eq-eqb, ne_eqb, not_from_false}
@@ -19,7 +19,7 @@ use Rattle.schedule_model.specs.Keeping.{KeepsBefore}
 use Rattle.schedule_laws.proofs.ActiveJobs.{active_listed, one_active, Requester}
 use Rattle.schedule_laws.proofs.Rows.{runs_from, runs_where, ReadyHolder, ready_holder_is, ready_holder_from, ready_holding}
 use Rattle.schedule_laws.proofs.Segments.{open_resource, open_user}
-use Rattle.fragments.specs.ColumnDef.{ColumnDef, is_indirect}
+use Rattle.blocking_columns.specs.ColumnDef.{ColumnDef, is_indirect}
 use Rattle.indirect_constraints.specs.Rows.{is_beside}
 use Rattle.charge_laws.specs.Charges.{shared_charge}
 use Rattle.charge_laws.specs.Windows.{window_end}
@@ -34,19 +34,19 @@ use Rattle.row_laws.proofs.LowerHolders.{holder_asks}
 abbrev pub holding_share : ℕ → (ℕ → ℕ → ℕ) → ColumnDef → ℕ
 holding_share x share c = flag ((c.task == x) && is_indirect c.class) * share c.task c.resource
 
--- Which resource is requested in this phase? 0 where none is.
+-- Which resource is requested in this phase? 0 if none is.
 abbrev pub resource_of : Phase → ℕ
 resource_of (Asking k q) = q
 resource_of _ = 0
 
--- The resource that job j waits for, and who holds it.
+-- The resource that job j waits for, and its holder.
 abbrev pub own_resource : Trace → ℕ → ℕ → ℕ
 own_resource w j t = resource_of (phase_of w t j)
 
 abbrev pub first_holder : Trace → ℕ → ℕ → ℕ
 first_holder w j t = option_map_or (λ y. y) (holder_in (w.row t) (own_resource w j t)) 0
 
--- Job j waits for a resource that job z holds, which doesn't run, and job r of task x runs on z's processor.
+-- Job j waits for a resource that job z holds. Job z doesn't run, and job r of task x runs on z's processor.
 pub record Held (w : Trace) (t j x r : ℕ) : Type 0 where
   pub number : ℕ
   pub asks : phase_of w t j ≡ Asking number (own_resource w j t)
@@ -155,7 +155,7 @@ no_local_beside o w n t q z y keeps l holds same local runs =
     let x : Local ≡ Asking h.number h.resource = sym local ∙ h.phase in
     cc
 
--- So what is charged at two ticks between which one job holds what j waits for is one request.
+-- Take two ticks between which one job holds the resource that j waits for. They are charged to one request.
 pub holding_one : (o : Ranks) (w : Trace) (bound : ℕ → ℕ) (n u v q z j x : ℕ) (share : ℕ → ℕ → ℕ) → Window shared_charge w bound n j
     → KeepsBefore (shared_rule o) w n → u ≤ v → v < window_end w bound n j
     → (a : Hit shared_charge w (holding_share x share) j u) → (b : Hit shared_charge w (holding_share x share) j v)

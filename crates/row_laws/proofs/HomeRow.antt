@@ -1,5 +1,5 @@
--- Row of homes, under DPCP: while a job is in a request at a processor no lower request is granted there, and of those that
--- were granted before at most one runs.
+-- The row of homes, under DPCP. While a job is in a request at a processor, no lower request is granted there. Of those that were granted
+-- before, at most one runs.
 use Rattle.std.proofs.Common.{◌≡◌, ℕ, suc, ◌*◌, ◌<◌, ◌≤◌, ◌==◌, ◌&&◌, not, true, false, refl, sym, ap, subst, ◌∙◌}
 use Rattle.std.proofs.Common.{arith, inl, inr, Some, nat_lt}
 use Rattle.std.proofs.lemmas.Bool.{cases_lt, cases_Bool, and_parts, and_from, eqb-true, eq-eqb, ltb-true, not-true, not_from_false}
@@ -17,9 +17,9 @@ use Rattle.schedule_laws.proofs.ActiveJobs.{active_listed, one_active, requester
 use Rattle.schedule_laws.proofs.DpcpLaws.{dpcp_runs_active}
 use Rattle.schedule_laws.proofs.Ticks.{one_resource}
 use Rattle.schedule_laws.proofs.Rows.{job_named}
-use Rattle.fragments.specs.declared.columns.Class.{Class}
-use Rattle.fragments.specs.declared.columns.Class.TheVariants.{Direct, Indirect, Preemption}
-use Rattle.fragments.specs.ColumnDef.{ColumnDef, is_preemption}
+use Rattle.blocking_columns.specs.declared.columns.Class.{Class}
+use Rattle.blocking_columns.specs.declared.columns.Class.TheVariants.{Direct, Indirect, Preemption}
+use Rattle.blocking_columns.specs.ColumnDef.{ColumnDef, is_preemption}
 use Rattle.sporadic_model.specs.Homes.{home_in}
 use Rattle.indirect_constraints.specs.Rows.{home_row}
 use Rattle.charge_laws.specs.Charges.{dpcp_charge}
@@ -34,7 +34,7 @@ use Rattle.row_laws.proofs.LowerHolders.{Asks, asks_between, held_back}
 use Rattle.row_laws.proofs.Ordered.{HoldsAt, requester_facts, holder_facts, Granted, new_granted, LowRunner, runs_first}
 use Rattle.row_laws.proofs.Ordered.{low_ceiling, ordered, kept_from}
 
--- Where job j is in a request at a processor, no lower job is granted one there.
+-- If job j is in a request at a processor, no lower job is granted one there.
 pub no_low_grant : (w : Trace) (t k q y j : ℕ) → AreLawfulJobs (jobs_of w) → Granted w t k y → is_requester w t q j ≡ true → home_of w q ≡ k
     → task_of w j < task_of w y → ⊥
 unfolding waits_at
@@ -50,7 +50,7 @@ no_low_grant w t k q y j lawful granted asks home lower = elim (cases_Bool (is_j
       let off : holds_by (held_before w t) j (phase_of w t j) ≡ false = rw a.request free in
       and_from _ _ (rw (← home) (request_at_from w t j a.number q a.active a.request)) (not_from_false _ off)
 
--- A lower job that holds a resource there at v held it since u, where j was in its request since then.
+-- A lower job that holds a resource there at v held it since u, if j was in its request since then.
 pub held_since : (w : Trace) (n u v q r y j : ℕ) → AreLawfulJobs (jobs_of w) → KeepsBefore dpcp_rule w n → v < n → Asks w u v q j
     → home_of w q ≡ home_of w r → task_of w j < task_of w y → holder_in (w.row v) r ≡ Some y
     → (t : ℕ) → u ≤ t → t ≤ v → holder_in (w.row t) r ≡ Some y
@@ -80,7 +80,7 @@ low_runner w t j r b lower =
       lower = lower;
     }
 
--- Two lower jobs that run there while j is in one request are one, which holds one request throughout.
+-- Two lower jobs that run there while j is in one request are the same job. It holds one request throughout.
 pub record OneHolder (w : Trace) (u v r i k : ℕ) : Type 0 where
   pub job : i ≡ k
   pub holds : (t : ℕ) → u ≤ t → t ≤ v → holder_in (w.row t) r ≡ Some k

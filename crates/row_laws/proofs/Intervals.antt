@@ -1,5 +1,5 @@
--- Row of intervals: from one request of its own to the next a job is preempted by at most one request of a lower task of
--- its processor, since that task runs no local tick meanwhile.
+-- The row of intervals. From one request of its own to the next a job is preempted by at most one request of a lower task of its processor,
+-- since that task runs no local tick meanwhile.
 use Rattle.std.proofs.Common.{◌≡◌, ℕ, suc, ◌+◌, ◌*◌, ◌<◌, ◌≤◌, ◌==◌, ◌&&◌, true, false, length, refl, sym, ap, subst}
 use Rattle.std.proofs.Common.{◌∙◌, arith, inl, inr, Some}
 use Rattle.std.proofs.Math.Nat.{mul_comm, mul-le-mul_right}
@@ -30,10 +30,10 @@ use Rattle.schedule_laws.proofs.Rows.{ready_local, ready_holding, ready_active}
 use Rattle.schedule_laws.proofs.Begun.{requests_begun_up, requests_begun_at_most, open_if_begun}
 use Rattle.schedule_laws.proofs.Holders.{shared_holder_stays}
 use Rattle.schedule_laws.proofs.OwnRequests.{all_requests}
-use Rattle.fragments.specs.declared.columns.Class.{Class}
-use Rattle.fragments.specs.declared.columns.Class.TheVariants.{Preemption}
-use Rattle.fragments.specs.ColumnDef.{ColumnDef, is_preemption}
-use Rattle.fragments.specs.Columns.{is_lower_local, have_one_processor}
+use Rattle.blocking_columns.specs.declared.columns.Class.{Class}
+use Rattle.blocking_columns.specs.declared.columns.Class.TheVariants.{Preemption}
+use Rattle.blocking_columns.specs.ColumnDef.{ColumnDef, is_preemption}
+use Rattle.blocking_columns.specs.Columns.{is_lower_local, have_one_processor}
 use Rattle.preempt_constraints.specs.Rows.{interval_row}
 use Rattle.charge_laws.specs.Charges.{shared_charge, dpcp_charge, Charge}
 use Rattle.charge_laws.specs.Windows.{window_end}
@@ -55,7 +55,7 @@ pub lower_local_is : (w : Trace) (i x : ℕ) → is_lower_local w.set i x ≡ tr
 lower_local_is w i x h = let parts : _ × (have_one_processor w.set x i ≡ true) = and_parts _ _ h in
     record { lower = ltb-true _ _ parts.0; processor = eqb-true _ _ parts.1 }
 
--- A job is active between two ticks at which it is, and isn't finished.
+-- If a job is active at a tick, and isn't finished at a later one, it is active in between.
 pub unfinished_between : (w : Trace) (u t v j : ℕ) → is_active w u j ≡ true → is_active w v j ≡ true → u ≤ t → t ≤ v
     → (is_finished (phase_of w t j) ≡ false) × (is_active w t j ≡ true)
 unfinished_between w u t v j early late a b = elim (cases_Bool (is_finished (phase_of w t j))) [
@@ -67,7 +67,7 @@ unfinished_between w u t v j early late a b = elim (cases_Bool (is_finished (pha
       absurd (both_ways _ there.unfinished x)
 ]
 
--- As many requests begun at t as at u, where as many are begun at v.
+-- As many requests are begun at t as at u, if as many are begun at v as at u.
 pub begun_between : (w : Trace) (u t v j : ℕ) → u ≤ t → t ≤ v → requests_begun w u j ≡ requests_begun w v j
     → requests_begun w u j ≡ requests_begun w t j
 begun_between w u t v j a b same = omega (arith, requests_begun_up w u t j a, requests_begun_up w t v j b)
@@ -136,8 +136,8 @@ pub record Preempted (charges : Charges) (w : Trace) (t j y : ℕ) : Type 0 wher
   pub class : charge.class ≡ Preemption
   pub job : charge.job ≡ y
 
--- The row of intervals, however ticks are charged: each interval, told by the number of requests begun, is paid for once, where between
--- two ticks of one that are charged by preemption the later one's job runs no Local tick.
+-- The row of intervals, however ticks are charged. An interval is the ticks with one number of requests begun. Each is paid for once, if
+-- this holds: between two ticks of one interval that are charged by preemption, the later one's job runs no Local tick.
 pub interval_row_by : (charges : Charges) (w : Trace) (bound : ℕ → ℕ) (n j x : ℕ) → Window charges w bound n j
     → ((u v t y z : ℕ) → u ≤ t → t < v → v < n → Preempted charges w u j y → Preempted charges w v j z → task_of w z ≡ x
     → requests_begun w u j ≡ requests_begun w v j → phase_of w t z ≡ Local → runs_in (w.row t) z ≡ true → ⊥)
@@ -220,7 +220,7 @@ local_between w u t v j a b early late local same = go (phase_of w t j) refl whe
       let x : Local ≡ Asking m q = sym local ∙ opened in
       absurd (cc)
 
--- Where requests run at homes, a job of a lower local task runs no Local tick while job j is Local.
+-- If requests run at homes, a job of a lower local task runs no Local tick while job j is Local.
 pub no_lower_local_home : (w : Trace) (t j y : ℕ) → RunsAtHomes w t → is_active w t j ≡ true → phase_of w t j ≡ Local
     → task_of w j < task_of w y → processor_of w y ≡ processor_of w j
     → phase_of w t y ≡ Local → runs_in (w.row t) y ≡ true → ⊥
@@ -245,7 +245,7 @@ no_lower_local_home w t j y homes active waits lower processor local runs = elim
       let place : at.0 ≡ processor_of w j = run.local at.0 y at.1 is ∙ processor in
       rw (← place) at.1
 
--- The row of intervals where requests run at homes.
+-- The row of intervals if requests run at homes.
 pub home_interval_row_met : (w : Trace) (bound : ℕ → ℕ) (n j x : ℕ) → Window dpcp_charge w bound n j → RunsAtHomesBefore w n
     → is_lower_local w.set (task_of w j) x ≡ true
     → TicksMeet dpcp_charge w bound n j (interval_row w.set (task_of w j) x)

@@ -19,8 +19,8 @@ use Rattle.schedule_laws.proofs.Ticks.{asking_is}
 use Rattle.schedule_laws.proofs.Rows.{runs_where}
 use Rattle.schedule_laws.proofs.Counts.{asking_at_most, executed_within}
 use Rattle.schedule_laws.proofs.Spacing.{arrived_within}
-use Rattle.fragments.specs.ColumnDef.{ColumnDef}
-use Rattle.fragments.specs.Windows.{jobs_in}
+use Rattle.blocking_columns.specs.ColumnDef.{ColumnDef}
+use Rattle.blocking_columns.specs.Windows.{jobs_in}
 use Rattle.direct_constraints.specs.Rows.{request_row, time_row}
 use Rattle.charge_laws.specs.Charges.{Executes}
 use Rattle.charge_laws.specs.Windows.{bound_end, window_end, EndedBy}
@@ -60,14 +60,14 @@ pub record ActiveIn (w : Trace) (u e x y : ℕ) : Type 0 where
   pub from : u ≤ tick
   pub before : tick < e
 
--- Then it is there, where each job whose bound had passed by u had ended.
+-- Then it is such a job, if each job whose bound had passed by u had ended.
 active_there : (w : Trace) (bound : ℕ → ℕ) (u e x y : ℕ) → EndedBy w bound u → (a : ActiveIn w u e x y) → is_there w bound u e x y ≡ true
 active_there w bound u e x y ended a =
     let run : Active w a.tick y = active_is w a.tick y a.active in
     and_from _ _ (and_from _ _ (lt-ltb _ _ (active_listed w a.tick y a.active)) (eq-eqb _ _ a.task))
     (and_from _ _ (lt-ltb _ _ (active_after w bound u a.tick y ended a.active a.from)) (lt-ltb _ _ (omega (arith, run.released, a.before))))
 
--- So many jobs of x are there at most.
+-- At most this many jobs of x are such jobs.
 there_jobs : (w : Trace) (bound : ℕ → ℕ) (u span x : ℕ) → AreLawfulJobs (jobs_of w) → 0 < (task_at w.set x).period
     → count_below (length w.jobs) (is_there w bound u (u + span) x)
     ≤ jobs_within span (bound x + (task_at w.set x).jitter) (task_at w.set x).period
@@ -86,7 +86,7 @@ there_jobs w bound u span x lawful period =
     let job : IsLawfulJob w.set (job_of w.jobs y) = lawful.each y a.listed in
     omega (arith, a.before, job.arrived))
 
--- Where all that counts is of x's jobs that are active in a span, and each of them counts at most c, all count at most c for each job
+-- Let all that counts be of x's jobs that are active in a span, and let each of them count at most c. Then all count at most c for each job
 -- that can be active in it.
 pub paid_in_span : (w : Trace) (bound : ℕ → ℕ) (u span x m c : ℕ) (by g : ℕ → ℕ) → AreLawfulJobs (jobs_of w)
     → 0 < (task_at w.set x).period → EndedBy w bound u → ((t : ℕ) → t < m → 0 < g t → ActiveIn w u (u + span) x (by t))
@@ -116,7 +116,7 @@ paid_in_window charges w bound n j x c by g window l active most =
     record { tick = t; active = a.1; task = a.2; from = own.released; before = omega arith })
     most
 
--- The job of a tick that brings something to a row runs, is active, and listed.
+-- The job of a tick that contributes something to a row runs, is active, and is listed.
 pub record HitJob (charges : Charges) (w : Trace) (bound : ℕ → ℕ) (j t y : ℕ) : Type 0 where
   pub runs : runs_in (w.row t) y ≡ true
   pub active : is_active w t y ≡ true
@@ -131,7 +131,7 @@ hit_job charges w bound n j t f window l h =
     let active : is_active w t h.charge.job ≡ true = window.active t at.0 h.charge.job (omega arith) at.1 in
     record { runs = e.runs; active = active; listed = active_listed w t h.charge.job active }
 
--- Where all that counts is of x's jobs, and each of them brings at most c, all bring at most c for each job in the window.
+-- Let all that counts be of x's jobs, and let each of them contribute at most c. Then all contribute at most c for each job in the window.
 pub by_job : (charges : Charges) (w : Trace) (bound : ℕ → ℕ) (n j x c : ℕ) (f : ColumnDef → ℕ) → Window charges w bound n j
     → x < length w.set.tasks
     → ((t : ℕ) → t < window_end w bound n j → (h : Hit charges w f j t) → task_of w h.charge.job ≡ x)
@@ -147,7 +147,7 @@ by_job charges w bound n j x c f window l of most =
           let a : HitJob charges w bound j t h.charge.job = hit_job charges w bound n j t f window b h in
           rw (blocker_is charges w f j t h) (window.own t h.charge (omega arith) h.is_it, a.active, of t b h)
 
--- The ticks of a slot are those of one job that runs in requests of q, each bringing at most c.
+-- The ticks of a slot are those of one job that runs in requests of q, and each contributes at most c.
 pub asking_term : (charges : Charges) (w : Trace) (bound : ℕ → ℕ) (n j q y c t : ℕ) (f : ColumnDef → ℕ) → Window charges w bound n j
     → t < window_end w bound n j
     → ((h : Hit charges w f j t) → (h.resource ≡ q) × (f (column_with w h.charge h.resource) ≤ c))
@@ -168,7 +168,7 @@ asking_term charges w bound n j q y c t f window l fits =
           rw (parts.0, runs, asks) (omega (arith, h.amount, fit.1))
     ]
 
--- The ticks of a slot are those of one job that runs, each bringing at most c.
+-- The ticks of a slot are those of one job that runs, and each contributes at most c.
 pub running_term : (charges : Charges) (w : Trace) (bound : ℕ → ℕ) (n j y c t : ℕ) (f : ColumnDef → ℕ) → Window charges w bound n j
     → t < window_end w bound n j
     → ((h : Hit charges w f j t) → f (column_with w h.charge h.resource) ≤ c)
@@ -192,7 +192,7 @@ requests_share e m k l c s b ticks most count fair =
     let turned : m * l * c ≡ m * (c * l) = mul_assoc m l c ∙ ap (λ z. m * z) (mul_comm l c) in
     omega (arith, ticks, mul-le-mul_right c most, turned, mul-le-mul count fair)
 
--- Requests of q by one job bring at most s for each request that its task may make.
+-- Requests of q by one job contribute at most s for each request that its task may make.
 pub job_requests : (charges : Charges) (w : Trace) (bound : ℕ → ℕ) (n j x q y s c : ℕ) (f : ColumnDef → ℕ) → Window charges w bound n j
     → y < length w.jobs → task_of w y ≡ x → c * length_of w.set x q ≤ s
     → ((t : ℕ) → t < window_end w bound n j → (h : Hit charges w f j t) → (h.resource ≡ q) × (f (column_with w h.charge h.resource) ≤ c))
@@ -214,7 +214,7 @@ job_requests charges w bound n j x q y s c f window listed task fair fits =
     requests_share (executed_in (is_asking q) w (window_end w bound n j) y) (number_of_requests (job_of w.jobs y).script q)
     (count_of w.set x q) (length_of w.set x q) c s _ ticks here count fair
 
--- All its ticks bring at most s for each tick of its task's cost.
+-- All its ticks contribute at most s for each tick of its task's cost.
 pub job_time : (charges : Charges) (w : Trace) (bound : ℕ → ℕ) (n j x y s : ℕ) (f : ColumnDef → ℕ) → Window charges w bound n j
     → y < length w.jobs → task_of w y ≡ x
     → ((t : ℕ) → t < window_end w bound n j → (h : Hit charges w f j t) → f (column_with w h.charge h.resource) ≤ s)
@@ -233,11 +233,11 @@ job_time charges w bound n j x y s f window listed task fits =
     let within : executed w (window_end w bound n j) y ≤ (task_at w.set x).cost = omega arith in
     omega (arith, ticks, mul-le-mul_right s within)
 
--- Three factors, the other way round.
+-- Three factors in another order.
 pub product_turned : (a b s : ℕ) → a * (b * s) ≡ s * (b * a)
 product_turned a b s = mul_comm a (b * s) ∙ ap (λ z. z * a) (mul_comm b s) ∙ mul_assoc s b a
 
--- Row of requests: those of q by x, of all classes, are at most as many as x makes in the window.
+-- The row of requests: those of q by x, of all classes, are at most as many as x makes in the window.
 pub request_row_met : (charges : Charges) (w : Trace) (bound : ℕ → ℕ) (n j x q : ℕ) → Window charges w bound n j → x < length w.set.tasks
     → TicksMeet charges w bound n j (request_row w.set (task_of w j) x q)
 request_row_met charges w bound n j x q window l s share fair =
@@ -270,7 +270,7 @@ request_row_met charges w bound n j x q window l s share fair =
             ),
           )
 
--- Row of time: x's requests together take no longer than its jobs may execute.
+-- The row of time: x's requests together take no longer than its jobs may execute.
 pub time_row_met : (charges : Charges) (w : Trace) (bound : ℕ → ℕ) (n j x : ℕ) → Window charges w bound n j → x < length w.set.tasks
     → TicksMeet charges w bound n j (time_row w.set (task_of w j) x)
 time_row_met charges w bound n j x window l s share fair =

@@ -1,4 +1,5 @@
--- The laws of each protocol's programs, joined: the columns are there, the fractions are a point, and a dual bounds the blocked ticks.
+-- The laws of each protocol's programs, together: the columns are in the program, the fractions are a point, and a dual bounds the blocked
+-- ticks.
 use Rattle.std.proofs.Common.{◌≡◌, ℕ, ◌<◌, ◌≤◌, Bool, true, List, length, get_or, refl, arith, Option, Some, None, map}
 use Rattle.std.specs.Prelude.{slice_index}
 use Rattle.std.specs.Option.{option_map_or}
@@ -31,12 +32,12 @@ use Rattle.schedule_model.specs.Keeping.{KeepsBefore}
 use Rattle.schedule_model.specs.BlockedTicks.{is_shared_interference, is_dpcp_interference, is_blocked}
 use Rattle.schedule_laws.proofs.KindsOfTicks.{Blocked, blocked_is}
 use Rattle.schedule_laws.proofs.SharedLaws.{shared_runs_active}
-use Rattle.fragments.specs.declared.columns.Class.{Class}
-use Rattle.fragments.specs.declared.columns.Class.TheVariants.{Direct, Indirect, Preemption}
-use Rattle.fragments.specs.ColumnDef.{ColumnDef, classes_of, all_columns, IsKnown}
-use Rattle.fragments.specs.Columns.{is_column, columns_where, columns_of, AreRequests}
+use Rattle.blocking_columns.specs.declared.columns.Class.{Class}
+use Rattle.blocking_columns.specs.declared.columns.Class.TheVariants.{Direct, Indirect, Preemption}
+use Rattle.blocking_columns.specs.ColumnDef.{ColumnDef, classes_of, all_columns, IsKnown}
+use Rattle.blocking_columns.specs.Columns.{is_column, columns_where, columns_of, AreRequests}
 use Rattle.fragments.specs.Constraints.{ConstraintDef}
-use Rattle.fragments.proofs.KnownColumns.{passing_known, passing_pass, columns_are_requests}
+use Rattle.blocking_columns.proofs.KnownColumns.{passing_known, passing_pass, columns_are_requests}
 use Rattle.program_laws.specs.Programs.{cost_of, rows_of, program_with, program_of}
 use Rattle.program_laws.proofs.Lists.{contains_filter, contains_collected}
 use Rattle.charge_laws.specs.Charges.{Charge, shared_charge, dpcp_charge, Executes}
@@ -79,7 +80,7 @@ class_among x q Direct = (0, omega arith, refl)
 class_among x q Indirect = (1, omega arith, refl)
 class_among x q Preemption = (2, omega arith, refl)
 
--- A column of the set that passes the test stands among those that do.
+-- A column of the set that passes the test is among those that do.
 pub passing_among : (test : ColumnDef → Bool) (set : SetDef) (x q : ℕ) (c : Class) → x < length set.tasks → q < length set.resources
     → test (record { task = x; resource = q; class = c }) ≡ true
     → Contains (columns_where test set) (record { task = x; resource = q; class = c })
@@ -90,18 +91,18 @@ passing_among test set x q c a b passes =
     (contains_collected (length set.resources) q (λ r. classes_of x r) (record { task = x; resource = q; class = c }) b
     (class_among x q c))) passes
 
--- So does one that is one of task i's.
+-- So does a column that is one of task i's.
 pub placed_among : (p : Protocol) (w : Trace) (i x q : ℕ) (c : Class) → IsPlaced p w i x q c
     → Contains (columns_of p w.set i) (record { task = x; resource = q; class = c })
 placed_among p w i x q c a = passing_among (is_column p w.set i) w.set x q c a.task a.resource a.column
 
--- A tick lies in one of these columns.
+-- A tick is charged in one of these columns.
 pub record LiesIn (charges : Charges) (cs : List ColumnDef) (w : Trace) (t j : ℕ) : Type 0 where
   pub column : ColumnDef
   pub is_it : charged_column charges w t j ≡ Some column
   pub there : Contains cs column
 
--- A tick lies in a column of the program.
+-- A tick is charged in a column of the program.
 abbrev pub InColumn : Charges → Protocol → Trace → ℕ → ℕ → Type 0
 InColumn charges p w t j = LiesIn charges (columns_of p w.set (task_of w j)) w t j
 
@@ -181,7 +182,7 @@ abbrev pub ArePointOf : Charges → List ColumnDef → List ConstraintDef → Tr
 ArePointOf charges cs rows w bounds n j =
     IsScaledPoint (program_with w.set cs rows bounds) (product_of_lengths w.set cs) (fractions_of charges w (slice_index bounds) n j cs)
 
--- And of its task's program.
+-- And they are one of its task's program.
 abbrev pub ArePoint : Charges → Protocol → Trace → List ℕ → ℕ → ℕ → Type 0
 ArePoint charges p w bounds n j = ArePointOf charges (columns_of p w.set (task_of w j)) (rows_of p w.set (task_of w j)) w bounds n j
 
@@ -205,8 +206,8 @@ dpcp_point w bounds n j premises keeps =
     fractions_are_point dpcp_charge protocol.Dpcp w bounds n j (columns_have_lengths protocol.Dpcp w.set (task_of w j) premises.formed)
     (dpcp_rows_met w (slice_index bounds) n j (dpcp_window w bounds n j premises keeps) keeps)
 
--- Where the fractions are a point of a program with these columns, and each blocked tick lies in one of them, a dual bounds the blocked
--- ticks.
+-- Let the fractions be a point of a program with these columns, and let each blocked tick be charged in one of them. Then a dual bounds the
+-- blocked ticks.
 pub point_bounds : (charges : Charges) (interferes : Trace → ℕ → ℕ → Bool) (w : Trace) (bounds : List ℕ) (n j den : ℕ) (num : ℕ → ℕ)
     (program : ProgramDef) (cs : List ColumnDef) → program.costs ≡ map (cost_of w.set) cs
     → IsScaledPoint program (product_of_lengths w.set cs) (fractions_of charges w (slice_index bounds) n j cs)

@@ -20,5 +20,6 @@ pub mod Fractions
 pub mod EachRow
 pub mod Joined
 pub mod EmptyWindows
+mod ByProtocol
 pub mod ChargedTicks
 pub mod InterferingCosts

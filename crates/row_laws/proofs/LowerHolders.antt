@@ -1,5 +1,5 @@
--- Row of lower holders, under MPCP, which grants by base priority: while a job is in a request no job of a lower task becomes
--- the holder of its resource, so one that holds it has held it since before.
+-- The row of lower holders, under MPCP, which grants by base priority. While a job is in a request, no job of a lower task becomes the
+-- holder of its resource. So a lower job that holds it has held it since before.
 use Rattle.std.proofs.Common.{◌≡◌, ℕ, zero, suc, ◌*◌, ◌<◌, ◌≤◌, ◌==◌, ◌&&◌, true, false, refl, sym, ap, ◌∙◌, arith, inl, inr, Some, nat_lt}
 use Rattle.std.proofs.lemmas.Bool.{cases_lt, cases_Bool, both_ways, and_parts, eqb-true, eq-eqb, ltb-true}
 use Rattle.number_laws.specs.Sums.{flag}
@@ -17,7 +17,7 @@ use Rattle.schedule_model.specs.Keeping.{KeepsBefore}
 use Rattle.schedule_laws.proofs.Ticks.{open_between}
 use Rattle.schedule_laws.proofs.ActiveJobs.{active_stays, Requester, requester_is, requester_from, requester_listed}
 use Rattle.schedule_laws.proofs.Rows.{job_named, named_job}
-use Rattle.fragments.specs.ColumnDef.{ColumnDef, is_direct}
+use Rattle.blocking_columns.specs.ColumnDef.{ColumnDef, is_direct}
 use Rattle.direct_constraints.specs.Rows.{lower_holder_row}
 use Rattle.charge_laws.specs.Charges.{shared_charge}
 use Rattle.charge_laws.specs.Windows.{window_end}
@@ -49,7 +49,7 @@ asks_between w u v k q r j order active early late =
       there : (t : ℕ) → phase_of w t j ≡ Asking k q → u ≤ t → is_requester w t q j ≡ true
       there t e a = requester_from w t q j k (active_stays w u t j active a (rw e refl)) e
 
--- A holder at v held the resource since u, where it became the holder in no row after u.
+-- A holder at v has held the resource since u, if it became the holder in no row after u.
 pub held_back : (w : Trace) (u v q y : ℕ)
     → ((t : ℕ) → u ≤ t → suc t ≤ v → holder_in (w.row (suc t)) q ≡ Some y → is_job y (holder_in (w.row t) q) ≡ false → ⊥)
     → holder_in (w.row v) q ≡ Some y → (t : ℕ) → u ≤ t → t ≤ v → holder_in (w.row t) q ≡ Some y
@@ -64,7 +64,7 @@ held_back w u (suc v) q y none holds t a b = elim (cases_lt v t) [
   ]
 ]
 
--- So did a lower holder, where j was in its request since then.
+-- So has a lower holder, if j was in its request since then.
 pub held_since : (w : Trace) (n u v q y j : ℕ) → KeepsBefore (shared_rule mpcp) w n → v < n → Asks w u v q j → task_of w j < task_of w y
     → holder_in (w.row v) q ≡ Some y
     → (t : ℕ) → u ≤ t → t ≤ v → holder_in (w.row t) q ≡ Some y

@@ -1,5 +1,5 @@
--- Rows of which each request of a job, mostly of the job itself, pays for one: a tick's slot is the number of the request that the job
--- is in.
+-- Rows in which each request of a job, mostly of the job itself, pays for one request. A tick's slot is the number of the request that the
+-- job is in.
 use Rattle.std.proofs.Common.{◌≡◌, ℕ, zero, suc, ◌*◌, ◌<◌, ◌≤◌, ◌==◌, Bool, true, false, List, length}
 use Rattle.std.proofs.Common.{get_or, refl, sym, ap, ◌∙◌, arith, inl, inr, Option, Some, None}
 use Rattle.std.specs.Option.{option_map_or}
@@ -18,14 +18,14 @@ use Rattle.schedule_model.specs.Phase.{Phase, phase_of}
 use Rattle.schedule_model.specs.Phase.Phase.{Asking}
 use Rattle.schedule_model.specs.Activity.{task_of}
 use Rattle.schedule_laws.proofs.Segments.{RequestAt, open_segment, asks_some}
-use Rattle.fragments.specs.ColumnDef.{ColumnDef}
+use Rattle.blocking_columns.specs.ColumnDef.{ColumnDef}
 use Rattle.charge_laws.specs.Windows.{window_end}
 use Rattle.row_laws.specs.Meeting.{Charges, brings}
 use Rattle.row_laws.proofs.Brings.{Window, Hit}
 use Rattle.row_laws.proofs.SlotRow.{OneRequest, Shares, parts_paid}
 use Rattle.row_laws.proofs.OwnWeights.{weighed, own_weights}
 
--- Which number has the request? 0 where there is none.
+-- The number of the request, or 0 if there is none.
 abbrev pub number_of : Phase → ℕ
 number_of (Asking k q) = k
 number_of _ = 0
@@ -34,7 +34,7 @@ number_of _ = 0
 abbrev pub asks_passing : (ℕ → Bool) → SegmentDef → Bool
 asks_passing ok s = option_map_or (λ r. ok r.0) s.request false
 
--- As a weight.
+-- The same as a weight.
 passing_weight : (ok : ℕ → Bool) (s : SegmentDef) → flag (asks_passing ok s) ≡ weighed (λ q. flag (ok q)) s
 passing_weight ok s = go s.request where
   go : (o : Option (ℕ × ℕ)) → flag (option_map_or (λ r. ok r.0) o false) ≡ option_map_or (λ r. flag (ok r.0)) o 0
@@ -60,7 +60,7 @@ own_passing set ok job lawful =
     (λ q. only_if (ok q) (count_of set job.task q)) (λ q l. times_flag (count_of set job.task q) (ok q)) in
     omega (arith, numbers, terms, own_weights set (λ q. flag (ok q)) job lawful)
 
--- Of one resource.
+-- The same for one resource.
 pub sum_below-only : (n q : ℕ) (f : ℕ → ℕ) → sum_below n (λ k. only_if (k == q) (f k)) ≤ f q
 sum_below-only zero q f = omega arith
 sum_below-only (suc n) q f = elim (cases_Bool (n == q)) [
@@ -185,7 +185,7 @@ paid_by_each charges w bound n j z q s share f g window shares listed paid =
       of_q : (t k r : ℕ) → (m : ℕ) × (phase_of w t z ≡ Asking m q) → phase_of w t z ≡ Asking k r → phase_of w t z ≡ Asking k q
       of_q t k r a e = let x : Asking k r ≡ Asking a.0 q = sym e ∙ a.1 in let resource : r ≡ q = cc in e ∙ ap (Asking k) resource
 
--- Each request of the job itself of a resource that passes pays for one request.
+-- Each request of the job itself, of a resource that passes, pays for one request.
 pub by_number : (charges : Charges) (w : Trace) (bound : ℕ → ℕ) (n j s : ℕ) (share : ℕ → ℕ → ℕ) (f : ColumnDef → ℕ) (ok : ℕ → Bool)
     → Window charges w bound n j → Shares w s share f
     → ((t : ℕ) → t < window_end w bound n j → Hit charges w f j t → OwnRequest w t j ok)

@@ -1,5 +1,5 @@
--- Holders under DPCP: at each row, of two holders at one processor the higher one is strictly higher than the ceiling of the
--- lower one's resource. So where a lower request runs while a job waits there, its resource's ceiling is no lower than the job.
+-- Holders under DPCP. At each row, of two holders at one processor the higher one is strictly higher than the ceiling of the lower one's
+-- resource. So if a lower request runs while a job waits there, its resource's ceiling is no lower than the job.
 use Rattle.std.proofs.Common.{◌≡◌, ◌⊎◌, ℕ, zero, suc, ◌<◌, ◌≤◌, ◌==◌, ◌&&◌, ◌||◌, not, Bool, true, false, length, refl}
 use Rattle.std.proofs.Common.{sym, ap, ◌∙◌, arith, inl, inr, Option, Some, None, nat_le}
 use Rattle.std.specs.Option.{option_map_or}
@@ -57,7 +57,7 @@ pub holder_facts : (w : Trace) (n t q y : ℕ) → AreLawfulJobs (jobs_of w) →
 holder_facts w n t q y lawful keeps l holds = let grant : KeepsGrant w t = keeps t l rule.Grant in
     requester_facts w t q y lawful (grant.requests q y holds)
 
--- A resource is kept where the holder before still requests it.
+-- A resource is kept if the holder before still requests it.
 pub kept_from : (w : Trace) (t q y : ℕ) → held_before w t q ≡ Some y → is_requester w t q y ≡ true → is_kept w t q ≡ true
 unfolding is_kept
 kept_from w t q y e asks = rw e asks
@@ -119,7 +119,7 @@ abbrev pub IsOrdered : Trace → ℕ → Type 0
 IsOrdered w t = (q r i k : ℕ) → holder_in (w.row t) q ≡ Some i → holder_in (w.row t) r ≡ Some k → home_of w q ≡ home_of w r
     → task_of w i < task_of w k → task_of w i < ceiling_rank w r
 
--- It is so where a row comes from one where it is, by the rules.
+-- A row has this order if the row before has it, by the rules.
 ordered_here : (w : Trace) (n t q r i k : ℕ) → AreLawfulJobs (jobs_of w) → KeepsBefore dpcp_rule w n → t < n
     → holder_in (w.row t) q ≡ Some i → holder_in (w.row t) r ≡ Some k → home_of w q ≡ home_of w r
     → task_of w i < task_of w k → (held_before w t q ≡ Some i → held_before w t r ≡ Some k → task_of w i < ceiling_rank w r)
@@ -165,7 +165,7 @@ record Before (w : Trace) (t k j : ℕ) : Type 0 where
   waits : waits_at w t k job ≡ true
   higher : task_of w job < task_of w j
 
--- A job that waits is the first that does, or another waits before it.
+-- A job that waits is the first that waits, or another one waits before it.
 first_or_before : (w : Trace) (t k j : ℕ) → waits_at w t k j ≡ true → (is_first_waiting w t k j ≡ true) ⊎ Before w t k j
 unfolding is_first_waiting
 first_or_before w t k j waits =
@@ -182,7 +182,7 @@ first_or_before w t k j waits =
       failing true m n h = (refl, leb-false m n h)
       failing false m n h = absurd (cc)
 
--- Where job j waits, some job is the first that does, and no lower than j.
+-- If job j waits, some job is the first that waits, and it is no lower than j.
 record First (w : Trace) (t k j : ℕ) : Type 0 where
   job : ℕ
   listed : job < length w.jobs
@@ -201,7 +201,7 @@ first_waiting w t k (suc x) j l waits most = elim (first_or_before w t k j waits
       record { job = back.job; listed = back.listed; first = back.first; higher = omega (arith, back.higher, before.higher) }
 ]
 
--- The holder of what it requests holds at the resource's home.
+-- A job that holds the resource that it requests holds at the resource's home.
 pub holds_at_home : (w : Trace) (t q y m : ℕ) → is_active w t y ≡ true → phase_of w t y ≡ Asking m q → holder_in (w.row t) q ≡ Some y
     → holds_at w t (home_of w q) y ≡ true
 unfolding holds_at
@@ -281,7 +281,7 @@ barred_is w t k x h =
     let rest : (is_kept w t some.0 ≡ true) × (nat_le (ceiling_rank w some.0) x ≡ true) = and_parts _ _ parts.1 in
     record { resource = some.0; home = eqb-true _ _ parts.0; kept = rest.0; ceiling = leb-true _ _ rest.1 }
 
--- Where the first that waits were granted, it would hold, and run in place of a lower one.
+-- If the first that waits were granted, it would hold, and run in place of a lower one.
 first_not_granted : (w : Trace) (n t k j r : ℕ) → AreLawfulJobs (jobs_of w) → KeepsBefore dpcp_rule w n → t < n → LowRunner w t k j r
     → (first : First w t k j) → is_granted w t k first.job ≡ true → ⊥
 first_not_granted w n t k j r lawful keeps l low first granted =
@@ -293,7 +293,7 @@ first_not_granted w n t k j r lawful keeps l low first granted =
     grant.granted at.1 first.job first.listed (requester_from w t at.1 first.job at.0 at.2 at.3) here in
     omega (arith, low.lower, first.higher, runs_first w n t k j r at.1 first.job lawful keeps l low holds at.4)
 
--- What bars the first that waits is the resource whose request runs.
+-- The resource that bars the first that waits is the one whose request runs.
 bar_is_runner : (w : Trace) (n t k j r x : ℕ) → AreLawfulJobs (jobs_of w) → KeepsBefore dpcp_rule w n → t < n
     → (low : LowRunner w t k j r) → x ≤ task_of w j → Bar w t k x → ceiling_rank w low.runner.resource ≤ task_of w j
 bar_is_runner w n t k j r x lawful keeps l low most bar = elim (cases_lt (task_of w r) (task_of w y)) [

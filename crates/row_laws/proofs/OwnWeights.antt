@@ -14,7 +14,7 @@ use Rattle.sporadic_model.specs.Users.{count_of}
 use Rattle.schedule_model.specs.JobDef.{SegmentDef, JobDef, asks_for, number_of_requests, no_segment}
 use Rattle.schedule_model.specs.LawfulJobs.{is_resource_in, IsLawfulJob}
 
--- What a segment's request weighs; nothing where it has none.
+-- The weight of a segment's request, and 0 if it has none.
 abbrev pub weighed : (ℕ → ℕ) → SegmentDef → ℕ
 weighed weight s = option_map_or (λ r. weight r.0) s.request 0
 

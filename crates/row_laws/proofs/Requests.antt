@@ -1,4 +1,4 @@
--- When two ticks are charged to one request: where the later one's request was open at the earlier tick.
+-- When are two ticks charged to one request? If the later one's request was open at the earlier tick.
 use Rattle.std.proofs.Common.{◌≡◌, ℕ, ◌<◌, ◌≤◌, true, refl, sym, ap, subst, ◌∙◌, arith}
 use Rattle.schedule_model.specs.JobDef.{job_of}
 use Rattle.schedule_model.specs.LawfulJobs.{is_script}
@@ -9,9 +9,9 @@ use Rattle.schedule_model.specs.Activity.{task_of, is_active, is_requester}
 use Rattle.schedule_laws.specs.Agreement.{RunsActiveBefore}
 use Rattle.schedule_laws.proofs.ActiveJobs.{one_active, Requester, requester_is, requester_from}
 use Rattle.schedule_laws.proofs.Holders.{open_active, open_at}
-use Rattle.fragments.specs.declared.columns.Class.{Class}
-use Rattle.fragments.specs.declared.columns.Class.TheVariants.{Direct, Indirect, Preemption}
-use Rattle.fragments.specs.ColumnDef.{is_direct, is_indirect, is_preemption}
+use Rattle.blocking_columns.specs.declared.columns.Class.{Class}
+use Rattle.blocking_columns.specs.declared.columns.Class.TheVariants.{Direct, Indirect, Preemption}
+use Rattle.blocking_columns.specs.ColumnDef.{is_direct, is_indirect, is_preemption}
 use Rattle.schedule_model.specs.SharedRules.{Ranks}
 use Rattle.charge_laws.proofs.SharedCharging.{WaitsFor, DirectBy, IndirectBy, SharedReason}
 use Rattle.row_laws.proofs.SlotRow.{OneRequest}
@@ -44,11 +44,11 @@ one_request w n u v i k m q runs l order script active same late none =
     let early : phase_of w u k ≡ Asking m q = open_at w u v k m q script order late none in
     one_phase w u v i k m q (one_active w u i k active (open_active w n u k m q runs l script early) same) early late
 
--- Of the jobs that have one number, as that of their task, is at most one in a request at a time?
+-- Is at most one of the jobs with one number, such as that of their task, in a request at a time?
 abbrev pub AsksAlone : Trace → ℕ → (ℕ → ℕ) → Type 0
 AsksAlone w n kind = (t q r y z : ℕ) → t < n → is_requester w t q y ≡ true → is_requester w t r z ≡ true → kind y ≡ kind z → y ≡ z
 
--- Of a task.
+-- The same for the jobs of a task.
 pub tasks_ask_alone : (w : Trace) (n : ℕ) → AsksAlone w n (task_of w)
 tasks_ask_alone w n t q r y z l a b same =
     let one : Requester w t q y = requester_is w t q y a in
@@ -71,6 +71,6 @@ direct_by o w t j y c e why = subst (λ (d : Class). SharedReason o w t j d y) e
 pub indirect_by : (o : Ranks) (w : Trace) (t j y : ℕ) (c : Class) → c ≡ Indirect → SharedReason o w t j c y → IndirectBy o w t j y
 indirect_by o w t j y c e why = subst (λ (d : Class). SharedReason o w t j d y) e why
 
--- What a job waits for is what the holder's request is of.
+-- The holder's request is of the resource that the job waits for.
 pub held_resource : (w : Trace) (t j y m q : ℕ) → (a : WaitsFor w t j y) → phase_of w t y ≡ Asking m q → a.resource ≡ q
 held_resource w t j y m q a e = let x : Asking a.holding a.resource ≡ Asking m q = sym a.held ∙ e in cc

@@ -1,4 +1,4 @@
--- Under shared memory the column in which a charged tick lies is one of the blocked job's program.
+-- Under shared memory a tick is charged in a column of the blocked job's program.
 use Rattle.std.proofs.Common.{◌≡◌, ℕ, ◌<◌, ◌≤◌, ◌==◌, ◌&&◌, not, true, false, length, refl, sym, ap, ◌∙◌, arith, inl, inr, Some}
 use Rattle.std.specs.Option.{option_map_or}
 use Rattle.std.proofs.lemmas.Bool.{cases_Bool, both_ways, and_from, eq-eqb, ne_eqb, lt-ltb, le-leb, not_from_false}
@@ -22,10 +22,10 @@ use Rattle.schedule_laws.proofs.ActiveJobs.{active_listed, one_active}
 use Rattle.schedule_laws.proofs.Rows.{runs_from, runs_where, ReadyHolder, ready_holder_is, ready_active, ready_holding}
 use Rattle.schedule_laws.proofs.KindsOfTicks.{Blocked, blocked_is, delayed_from, HigherLocal, higher_local_is}
 use Rattle.schedule_laws.proofs.Segments.{open_listed, open_resource, open_user}
-use Rattle.fragments.specs.declared.columns.Class.{Class}
-use Rattle.fragments.specs.declared.columns.Class.TheVariants.{Direct, Indirect, Preemption}
-use Rattle.fragments.specs.Ceilings.{remote_ceiling_rank}
-use Rattle.fragments.specs.Columns.{may_run_before, is_path, has_path, blocks_by_sharing, may_block, is_column}
+use Rattle.blocking_columns.specs.declared.columns.Class.{Class}
+use Rattle.blocking_columns.specs.declared.columns.Class.TheVariants.{Direct, Indirect, Preemption}
+use Rattle.blocking_columns.specs.Ceilings.{remote_ceiling_rank}
+use Rattle.blocking_columns.specs.Columns.{may_run_before, is_path, has_path, blocks_by_sharing, may_block, is_column}
 use Rattle.charge_laws.proofs.SharedCharging.{IndirectBy, SharedReason}
 
 -- A column of task i, by its task, its resource and its class.
@@ -68,7 +68,7 @@ other_runner w t j y run b runs = record { other = other_task w t j y b.active b
         absurd (both_ways _ b.free (and_from (is_delayed w t j) _ (delayed_from w t j b.active b.waits) there))
   ]
 
--- Which protocol runs holders in which order: where r's job runs before first's, so may requests in its place.
+-- Which protocol runs holders in which order? If r's job runs before first's, r's request may run in its place.
 abbrev pub RunsAs : Protocol → Ranks → Type 0
 RunsAs p o = (w : Trace) (t j r q k m n : ℕ) → phase_of w t j ≡ Asking m q → phase_of w t r ≡ Asking n k
     → processor_of w j ≡ processor_of w r → o.run w t r ≤ o.run w t j
@@ -101,7 +101,7 @@ fmlp_shares = record { runs = fmlp_runs; blocks = λ set i x q c. refl }
 pub passes_not : (a b : ℕ) → ((a ≡ b) → ⊥) → not (a == b) ≡ true
 passes_not a b h = not_from_false (a == b) (ne_eqb a b h)
 
--- A path from what j waits for to what runs.
+-- A path from the resource that j waits for to the request that runs.
 path_there : (p : Protocol) (o : Ranks) (w : Trace) (t j r n q : ℕ) → Sharing p o → AreLawfulJobs (jobs_of w) → KeepsRun w t
     → j < length w.jobs → phase_of w t r ≡ Asking n q → (by : IndirectBy o w t j r)
     → has_path p w.set (task_of w j) (task_of w r) q ≡ true
@@ -163,7 +163,7 @@ blocks_there p o w t j y n q Indirect sharing lawful run listed e why = path_the
 blocks_there p o w t j y n q Preemption sharing lawful run listed e why =
     and_from _ _ (lt-ltb _ _ why.lower) (eq-eqb (processor_of w y) (processor_of w j) (sym (run.column (processor_of w j) y why.runs)))
 
--- The column in which a charged tick lies is there.
+-- The column in which a tick is charged is in the program.
 pub shared_placed : (p : Protocol) (o : Ranks) (w : Trace) (t j y n q : ℕ) (c : Class) → Sharing p o → AreLawfulJobs (jobs_of w)
     → KeepsRow (shared_rule o) w t → is_blocked is_shared_interference w t j ≡ true
     → runs_in (w.row t) y ≡ true → phase_of w t y ≡ Asking n q → SharedReason o w t j c y → IsPlaced p w (task_of w j) (task_of w y) q c

@@ -1,4 +1,4 @@
--- Rows of which each unit pays for one request: all that one slot brings is of one request, and so at most one whole.
+-- Rows in which each unit pays for one request. All that one slot contributes is of one request, and so at most one whole.
 use Rattle.std.proofs.Common.{◌≡◌, ℕ, ◌*◌, ◌<◌, ◌≤◌, ◌==◌, ◌&&◌, Bool, true, refl, sym, ap, ◌∙◌, arith, inl, inr}
 use Rattle.std.proofs.Math.Nat.{mul_comm, mul-le-mul_right}
 use Rattle.std.proofs.lemmas.Bool.{cases_lt, eq-eqb, eqb-true, and_from}
@@ -15,7 +15,7 @@ use Rattle.schedule_model.specs.Phase.Phase.{Asking}
 use Rattle.schedule_model.specs.Activity.{task_of}
 use Rattle.schedule_laws.specs.Counting.{executed_in, is_request}
 use Rattle.schedule_laws.proofs.Counts.{request_at_most}
-use Rattle.fragments.specs.ColumnDef.{ColumnDef}
+use Rattle.blocking_columns.specs.ColumnDef.{ColumnDef}
 use Rattle.charge_laws.specs.Windows.{window_end}
 use Rattle.row_laws.specs.Meeting.{Charges, brings}
 use Rattle.row_laws.proofs.Brings.{Window, Hit, hit, only_if-parts, sum_below-passing}
@@ -26,8 +26,8 @@ pub record OneRequest (w : Trace) (u v i k : ℕ) : Type 0 where
   pub job : i ≡ k
   pub phase : phase_of w u i ≡ phase_of w v k
 
--- How a part g of what the ticks bring is paid for: each tick that counts has a slot below m that passes a test, and two of
--- one slot are charged to one request.
+-- How a part g of what the ticks contribute is paid for. Each tick that counts has a slot below m that passes a test, and two ticks of one
+-- slot are charged to one request.
 pub record Parts (charges : Charges) (w : Trace) (bound : ℕ → ℕ) (n j m : ℕ) (f : ColumnDef → ℕ) (g slot : ℕ → ℕ) (p : ℕ
     → Bool) : Type 0 where
   pub below : (t : ℕ) → t < window_end w bound n j → g t ≤ brings charges w f j t
@@ -41,7 +41,7 @@ pub record Shares (w : Trace) (s : ℕ) (share : ℕ → ℕ → ℕ) (f : Colum
   pub fair : (x q : ℕ) → share x q * length_of w.set x q ≤ s
   pub small : (c : ColumnDef) → f c ≤ share c.task c.resource
 
--- In whichever order, two ticks of one slot are charged to one request.
+-- In either order, two ticks of one slot are charged to one request.
 one_of_slot : (charges : Charges) (w : Trace) (bound : ℕ → ℕ) (n j m : ℕ) (f : ColumnDef → ℕ) (g slot : ℕ → ℕ) (p : ℕ → Bool) (u v : ℕ)
     → Parts charges w bound n j m f g slot p → u < window_end w bound n j
     → v < window_end w bound n j → 0 < g u → 0 < g v → (a : Hit charges w f j u) → (b : Hit charges w f j v) → slot u ≡ slot v
@@ -53,7 +53,7 @@ one_of_slot charges w bound n j m f g slot p u v parts l k first second a b same
       record { job = sym o.job; phase = sym o.phase }
 ]
 
--- What counts brings something.
+-- A tick that counts contributes something.
 part_hit : (charges : Charges) (w : Trace) (bound : ℕ → ℕ) (n j m : ℕ) (f : ColumnDef → ℕ) (g slot : ℕ → ℕ) (p : ℕ → Bool) (t : ℕ)
     → Parts charges w bound n j m f g slot p → t < window_end w bound n j → 0 < g t
     → Hit charges w f j t
@@ -97,7 +97,7 @@ request_term charges w bound n j m s share f g slot p u v k window parts shares 
           shares.small (record { task = task_of w h.charge.job; resource = h.resource; class = h.charge.class }) in
           rw (here, runs, asks) (omega (arith, h.amount, small, same, parts.below v b))
 
--- What one slot brings is at most one whole.
+-- What one slot contributes is at most one whole.
 slot_whole : (charges : Charges) (w : Trace) (bound : ℕ → ℕ) (n j m s : ℕ) (share : ℕ → ℕ → ℕ) (f : ColumnDef → ℕ) (g slot : ℕ → ℕ) (p : ℕ
     → Bool) (u k : ℕ) → Window charges w bound n j
     → Parts charges w bound n j m f g slot p → Shares w s share f → u < window_end w bound n j → 0 < g u → slot u ≡ k
@@ -127,7 +127,7 @@ slot_whole charges w bound n j m s share f g slot p u k window parts shares l fi
           (task_of w y) a.resource,
     )
 
--- So all slots together bring at most a whole for each slot that passes.
+-- So all slots together contribute at most a whole for each slot that passes.
 pub parts_paid : (charges : Charges) (w : Trace) (bound : ℕ → ℕ) (n j m s : ℕ) (share : ℕ → ℕ → ℕ) (f : ColumnDef → ℕ) (g slot : ℕ → ℕ)
     (p : ℕ → Bool) → Window charges w bound n j
     → Parts charges w bound n j m f g slot p → Shares w s share f → sum_below (window_end w bound n j) g ≤ count_below m p * s
@@ -143,7 +143,7 @@ parts_paid charges w bound n j m s share f g slot p window parts shares =
           let both : ((slot u == k) ≡ true) × (0 < g u) = only_if-parts (slot u == k) (g u) some in
           slot_whole charges w bound n j m s share f g slot p u k window parts shares l both.1 (eqb-true (slot u) k both.0)
 
--- How a whole row is paid for, all that its ticks bring.
+-- How a whole row is paid for: all that its ticks contribute.
 pub record Slots (charges : Charges) (w : Trace) (bound : ℕ → ℕ) (n j m : ℕ) (f : ColumnDef → ℕ) (slot : ℕ → ℕ) (p : ℕ
     → Bool) : Type 0 where
   pub within : (t : ℕ) → t < window_end w bound n j → Hit charges w f j t → slot t < m

@@ -1,8 +1,8 @@
-//! Laws of rows: the ticks that block a job, charged to requests, lie in the columns of its task's program and fill
-//! fractions of them that meet every row. So a dual of the program bounds these ticks.
+//! Laws of rows. The ticks that block a job are charged to requests in the columns of its task's program. The fractions of the columns that
+//! they fill meet every row. So a dual of the program bounds these ticks.
 //!
-//! Each function here does nothing: its contract is a law, and the lemmas that prove it stand in `proofs/`, one file a
-//! subject, for the proofs of the crates above.
+//! Each function here does nothing: its contract is a law. The lemmas that prove it are in `proofs/`, one file for each subject. Proofs of
+//! crates above use them too.
 #![tactic(auto)]
 
 mod column_laws;

@@ -8,7 +8,7 @@ use std::test::Fail;
 use taskset_json::home_check;
 use worked_sets::files::*;
 
-/// Bounds, and the numerators of each dual, whose denominators are 1.
+/// Bounds, and the numerators of each dual. The denominators are 1.
 type Proof = (&'static [u64], &'static [&'static [u64]]);
 
 fn certificate_of(alloc: Global, proof: Proof) -> Result<Certificate, AllocError> {
@@ -26,7 +26,7 @@ fn certificate_of(alloc: Global, proof: Proof) -> Result<Certificate, AllocError
     })
 }
 
-/// What is answered of the rows and the certificate.
+/// The answer for the rows and the certificate.
 fn audited(
     alloc: Global,
     protocol: Protocol,

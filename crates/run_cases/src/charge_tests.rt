@@ -1,5 +1,5 @@
+use blocking_columns::Class;
 use charge::{ChargeItem, ChargeStop, ChargeTable, are_bounds, charge};
-use fragments::Class;
 use schedule_model::{JobId, JobList, RowList, Rule};
 use sporadic_model::{Protocol, ResourceId, TaskSet};
 use std::alloc::{AllocError, Global};
@@ -8,7 +8,7 @@ use taskset_json::home_check;
 use trace_conform::Breach;
 use worked_sets::files::*;
 
-/// What is answered of the rows, where these are the bounds.
+/// The answer for the rows at these bounds.
 fn charges(
     alloc: Global,
     protocol: Protocol,
@@ -190,7 +190,7 @@ const STOPS: &[Stop] = &[
     ),
 ];
 
-// Unlawful comes also where a job has passed its bound by then.
+// Unlawful comes also if a job has passed its bound by then.
 #[test]
 fn unlawful_rows_and_passed_bounds_stop_it(rt: HostRuntime) -> Result<(), Fail> {
     for (protocol, schedule, bounds, wanted) in STOPS {

@@ -214,7 +214,7 @@ fn a_sink_is_full_one_byte_early_or_just_in_time(rt: HostRuntime) -> Result<(), 
     Ok(())
 }
 
-// The last brace stands before the line end.
+// The last brace is before the line end.
 #[test]
 fn no_beginning_of_a_set_is_json(rt: HostRuntime) -> Result<(), Fail> {
     let alloc = rt.alloc();

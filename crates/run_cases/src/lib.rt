@@ -1,4 +1,4 @@
-//! Worked runs of the program's one call, over files in memory, some of which fail; and what its commands stand on: ports, certificates
+//! Worked runs of the program's one call, over files in memory, some of which fail. And tests of what its commands use: ports, certificates
 //! as they are checked, tables, studies, charges and audits.
 #![tactic(auto)]
 

@@ -9,7 +9,7 @@ use std::rt::Runtime;
 use std::test::Fail;
 use std::{env, fs};
 
-/// A shelf of two inputs, where the name of the first stands twice.
+/// A shelf of two inputs. The name of the first is there twice.
 fn two_inputs(alloc: Global, piece: usize, failing: &[u64]) -> Result<MemShelf, AllocError>
     requires { 0 < piece }
 {

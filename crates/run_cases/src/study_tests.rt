@@ -9,7 +9,7 @@ type Entry = (&'static str, u64, u64);
 // A task's name, its processor, its period, which is its deadline, its cost, which is its local limit, and its entries.
 type Task = (&'static str, u64, u64, u64, &'static [Entry]);
 
-// The first set of step 1 from the state 0, and the state behind it.
+// The first set of step 1 from the state 0, and the state after it.
 const FROM_ZERO: &[Task] = &[
     ("g7", 4, 20_000, 1120, &[("r1", 2, 68), ("r2", 1, 97)]),
     ("g6", 3, 25_000, 1200, &[("r1", 1, 17)]),
@@ -23,7 +23,7 @@ const FROM_ZERO: &[Task] = &[
 
 const BEHIND_ZERO: u64 = 18_282_144_983_226_925_988;
 
-// From the state 1. Two pairs of tasks have one period each, and keep the order of their numbers.
+// From the state 1. In two pairs the tasks have the same period, and keep the order of their numbers.
 const FROM_ONE: &[Task] = &[
     ("g7", 4, 10_000, 720, &[("r3", 1, 56)]),
     ("g4", 1, 20_000, 580, &[("r3", 2, 95)]),
@@ -76,7 +76,7 @@ fn have_homes(parts: &[ResourcePart]) -> bool {
             && part.home == *home)
 }
 
-// Has the first set of step 1 from this state these tasks, is this the state behind it, and is the set accepted?
+// Has the first set of step 1 from this state these tasks, is this the state after it, and is the set accepted?
 fn makes(alloc: Global, state: u64, tasks: &[Task], behind: u64) -> Result<bool, Fail> {
     let (parts, next) = make_set(alloc, state, 1)?;
     let right = next == behind
@@ -94,8 +94,7 @@ fn a_number_makes_its_set(rt: HostRuntime) -> Result<(), Fail> {
     Ok(())
 }
 
-// The first set has loads of at most 75 thousandths; in the last one a processor's two tasks have a load of 1025 thousandths
-// together.
+// The first set has loads of at most 75 thousandths. In the last one a processor's two tasks together have a load of 1025 thousandths.
 #[test]
 fn a_study_counts_light_and_overloaded_sets(rt: HostRuntime) -> Result<(), Fail> {
     let first = study(&rt, rt.alloc(), 5, 1)?;

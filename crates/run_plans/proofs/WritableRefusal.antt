@@ -76,6 +76,9 @@ interfering_small name.Dflp set h numbers = numbers.local_to
 interfering_small name.Spin set h numbers = cost_most set h
 interfering_small name.DpcpWindows set h numbers = interfering_most protocol.Dpcp set h numbers
 interfering_small name.FmlpPlusCloser set h numbers = interfering_most protocol.FmlpPlus set h numbers
+interfering_small name.SpinCloser set h numbers = cost_most set h
+interfering_small name.DpcpCloser set h numbers = interfering_most protocol.Dpcp set h numbers
+interfering_small name.DflpCloser set h numbers = numbers.local_to
 interfering_small name.MpcpCloser set h numbers = interfering_most protocol.Mpcp set h numbers
 
 interference_small : (n : ProtocolName) (set : SetDef) (r : List ℕ) (i : ℕ) → IsAccepted set → i < length set.tasks

@@ -9,12 +9,12 @@ use Rattle.run_plans.specs.Headline.{Call, Analyses, WritesSchedulable}
 -- The first call's words are those of `analyse` for the plain protocol, the second's those for the closer analysis, and each reads the
 -- set.
 pub record AnalyseOneSet (plain closer : ProtocolName) (first second : Call) (set : SetDef) : Type 0 where
-  pub plain : Analyses first plain set
-  pub closer : Analyses second closer set
+  pub plain_call : Analyses first plain set
+  pub closer_call : Analyses second closer set
 
 -- Each call writes "schedulable", and no bound of the second's certificate is greater than the first's.
 pub record RaisesNoBound (plain closer : ProtocolName) (first second : Call) (set : SetDef)
     (two : AnalyseOneSet plain closer first second set) : Type 0 where
-  pub plain : WritesSchedulable first plain (sha256 two.plain.read.bytes) set
-  pub closer : WritesSchedulable second closer (sha256 two.closer.read.bytes) set
-  pub no_greater : AtMost (length set.tasks) closer.certificate.bounds plain.certificate.bounds
+  pub plain_written : WritesSchedulable first plain (sha256 two.plain_call.read.bytes) set
+  pub closer_written : WritesSchedulable second closer (sha256 two.closer_call.read.bytes) set
+  pub no_greater : AtMost (length set.tasks) closer_written.certificate.bounds plain_written.certificate.bounds

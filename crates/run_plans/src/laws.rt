@@ -1,11 +1,11 @@
 //! Laws of calls. Each function does nothing, and what it ensures holds for all calls of which what a run promises is so.
 
-ghost use Rattle.std.specs.Prelude.{◌≡◌, ◌≢◌, Some};
+ghost use Rattle.std.specs.Prelude.{◌≡◌, ◌≢◌};
 ghost use Rattle.sporadic_model.specs.SetDef.{SetDef};
 ghost use Rattle.sporadic_model.specs.declared.ids.Protocol.TheVariants as protocol;
 ghost use Rattle.protocol_names.specs.declared.ProtocolName.{ProtocolName};
 ghost use Rattle.protocol_names.specs.declared.ProtocolName.TheVariants as name;
-ghost use Rattle.named_laws.specs.Named.{plain_of};
+ghost use Rattle.named_laws.specs.Named.{IsCloserThan};
 ghost use Rattle.run_plans.specs.Headline.{Call};
 ghost use Rattle.run_plans.specs.Run.{IsRun};
 ghost use Rattle.run_plans.specs.Checked.{ChecksWhatWasWritten, ChecksForAnotherSet, FindsValid, FindsOtherSet};
@@ -49,10 +49,10 @@ pub fn two_runs()
 /// "schedulable", no bound that the second writes is greater than the first's. And where the first writes it, the second doesn't say
 /// "not shown".
 pub fn closer_analyses_lose_nothing()
-    ensures bounds { (plain closer : ProtocolName) (first second : Call) (set : SetDef) → plain_of closer ≡ Some plain → IsRun first
+    ensures bounds { (plain closer : ProtocolName) (first second : Call) (set : SetDef) → IsCloserThan closer plain → IsRun first
         → IsRun second → (two : AnalyseOneSet plain closer first second set) → first.status ≡ 0 → second.status ≡ 0
         → RaisesNoBound plain closer first second set two }
-    ensures shown { (plain closer : ProtocolName) (first second : Call) (set : SetDef) → plain_of closer ≡ Some plain → IsRun first
+    ensures shown { (plain closer : ProtocolName) (first second : Call) (set : SetDef) → IsCloserThan closer plain → IsRun first
         → IsRun second → AnalyseOneSet plain closer first second set → first.status ≡ 0 → second.status ≢ 1 }
 {}
 

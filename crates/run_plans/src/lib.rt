@@ -3,7 +3,7 @@
 
 mod laws;
 
-pub use command_inputs::{Halt, Reply, Status, fault, refusal, settled};
+pub use command_inputs::{Halt, Reply, Status, fault, refusal, reply_of};
 pub use laws::{
     analysed_then_checked, checked_for_another_set, closer_analyses_lose_nothing,
     never_accepted_and_refused, refuted_then_confirmed, two_runs, windows_lose_nothing,

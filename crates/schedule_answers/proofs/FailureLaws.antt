@@ -32,7 +32,7 @@ first_once n test i j a b = elim (cases_order i j) [
 not_all : (n : ℕ) (test : ℕ → Type 0) (i : ℕ) → IsFirstFailing n test i → AllPass n test → ⊥
 not_all n test i first all = first.fails (all i first.below)
 
--- No failure of one test stands beside one of a later test.
+-- If a certificate fails one test, it has no failure of a later test.
 no_bound : (f : SourceDef) (c : CertificateDef) (i : ℕ) → IsFirstFailing (tasks_of f) (IsBoundWithin f c) i → PassesBounds f c → ⊥
 no_bound f c i first passes = not_all (tasks_of f) (IsBoundWithin f c) i first passes.1
 

@@ -1,4 +1,4 @@
--- What the answer on a schedule says.
+-- What does the answer on a schedule say?
 use Rattle.std.specs.Prelude.{◌≡◌, ℕ, ◌<◌, Bool, length, Result, Ok, Err, slice_index_or}
 use Rattle.schedule_model.specs.RowDef.{Trace}
 use Rattle.schedule_model.specs.Keeping.{KeepsBefore, IsFirstUnlawful}
@@ -14,8 +14,8 @@ pub record AreMeasures (interferes : Trace → ℕ → ℕ → Bool) (w : Trace)
   pub size : length m.tasks.items ≡ length w.set.tasks
   pub each : (x : ℕ) → x < length w.set.tasks → measure_seen (slice_index_or m.tasks.items x no_measure) ≡ measures_of interferes w n x
 
--- Each of the n rows keeps the rules, and these are the measures; or the first row is named that breaks one, and its
--- first broken rule. Only want of memory says nothing of the schedule.
+-- Either each of the n rows keeps the rules, and these are the measures. Or the answer names the first row that breaks a rule, and the
+-- first rule that it breaks. Only want of memory says nothing of the schedule.
 abbrev pub Conforms : (Rule → Trace → ℕ → Type 0) → (Trace → ℕ → ℕ → Bool) → Trace → ℕ → Result Measured Unlawful → Type 0
 Conforms keeps interferes w n (Ok m) = KeepsBefore keeps w n × AreMeasures interferes w n m
 Conforms keeps interferes w n (Err (unlawful.Broken b)) = IsFirstUnlawful keeps w n b.tick b.rule

@@ -1,4 +1,4 @@
--- In which order the tests are tried, and which failure is named: each test over all tasks, before the next.
+-- In which order are the tests tried, and which failure is named? Each test is tried over all tasks, before the next test.
 use Rattle.std.specs.Prelude.{ℕ, ◌<◌, Option, Some, None}
 use Rattle.program_form.specs.Certificate.{CertificateDef}
 use Rattle.program_form.specs.Program.{columns}
@@ -12,18 +12,18 @@ use Rattle.schedule_answers.specs.declared.checked.Invalid.TheVariants as invali
 abbrev pub AllPass : ℕ → (ℕ → Type 0) → Type 0
 AllPass n test = (i : ℕ) → i < n → test i
 
--- Is i the first of n that fails it?
+-- Is i the first of n that fails the test?
 pub record IsFirstFailing (n : ℕ) (test : ℕ → Type 0) (i : ℕ) : Type 0 where
   pub below : i < n
   pub fails : test i → ⊥
   pub earlier : (k : ℕ) → k < i → test k
 
--- Is this the first of n that fails the test, or do all pass where none is named?
+-- Is this the first of n that fails the test? If none is named, do all of them pass?
 abbrev pub Finds : Option ℕ → ℕ → (ℕ → Type 0) → Type 0
 Finds None n test = AllPass n test
 Finds (Some i) n test = IsFirstFailing n test i
 
--- Does the certificate pass the first test, the first two, three and four?
+-- Does the certificate pass the first two tests, the first three, the first four?
 abbrev pub PassesBounds : SourceDef → CertificateDef → Type 0
 PassesBounds f c = HasSizes f c × AllPass (tasks_of f) (IsBoundWithin f c)
 
@@ -33,8 +33,8 @@ PassesDualSizes f c = PassesBounds f c × AllPass (tasks_of f) (HasDualSize f c)
 abbrev pub PassesCovers : SourceDef → CertificateDef → Type 0
 PassesCovers f c = PassesDualSizes f c × AllPass (tasks_of f) (IsCovered f c)
 
--- Is this why the certificate is not valid: the first test that fails, at the first task that fails it, and of the columns
--- of its program the first?
+-- Is this why the certificate is not valid? It names the first test that fails, and the first task that fails it. For a test of columns it
+-- names the first column of the task's program too.
 abbrev pub IsFailure : Invalid → SourceDef → CertificateDef → Type 0
 IsFailure invalid.Size f c = HasSizes f c → ⊥
 IsFailure (invalid.Bound i) f c = HasSizes f c × IsFirstFailing (tasks_of f) (IsBoundWithin f c) i.0

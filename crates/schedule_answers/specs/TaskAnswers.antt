@@ -1,4 +1,4 @@
--- What is answered of a task, as contracts see it.
+-- What contracts see of an answer on a task.
 use Rattle.std.specs.Prelude.{None}
 use Rattle.schedule_model.specs.Measures.{MeasuresDef}
 use Rattle.schedule_answers.specs.declared.judged.TaskMeasure.{TaskMeasure}
@@ -8,7 +8,7 @@ use Rattle.schedule_answers.specs.declared.audited.TaskFigures.{TaskFigures}
 abbrev pub measure_seen : TaskMeasure → MeasuresDef
 measure_seen m = record { finished = m.finished; response = m.response; blocking = m.blocking }
 
--- What a look-up past the end gives: measures, and figures.
+-- What a look-up past the end gives, of measures and of figures.
 abbrev pub no_measure : TaskMeasure
 no_measure = record { finished = 0; response = None; blocking = 0 }
 

@@ -46,8 +46,8 @@ pub struct Measured {
 pub struct TaskMeasure {
     /// How many of its jobs finished.
     pub finished: u64,
-    /// The greatest number of ticks that a finished job took from its release; none where none finished.
+    /// The greatest number of ticks that a finished job took from its release; none if none finished.
     pub response: Option<u64>,
-    /// The greatest number of ticks at which a job was blocked, finished or not; 0 without a job.
+    /// The greatest number of ticks at which a job was blocked, finished or not; 0 if there is no job.
     pub blocking: u64,
 }

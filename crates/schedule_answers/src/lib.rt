@@ -1,4 +1,4 @@
-//! What the calls that judge, check and audit answer: the types, and in `specs/` what each answer says. The calls themselves stand in
+//! The answers of the calls that judge, check and audit: the types, and in `specs/` what each answer says. The calls are in
 //! `trace_conform`, `dual_check` and `audit_figures`, which pass these types on.
 #![tactic(auto)]
 

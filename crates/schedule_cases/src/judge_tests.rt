@@ -5,7 +5,7 @@ use std::alloc::Global;
 use std::test::Fail;
 use worked_sets::files::*;
 
-/// What is told of a schedule, given as the texts of its set, jobs and rows.
+/// What is said of a schedule, given as the texts of its set, jobs and rows.
 fn told_of(alloc: Global, schedule: [&str; 3]) -> Result<String, Fail> {
     let [set, jobs, rows] = schedule;
     let set = set_from(alloc, set)?;
@@ -23,7 +23,7 @@ fn judged_of(alloc: Global, protocol: Protocol, schedule: [&str; 3]) -> Result<S
     judged(alloc, protocol, &jobs, &rows)
 }
 
-/// A schedule, and the lines that are told of it.
+/// A schedule, and the lines that are said of it.
 type Told = ([&'static str; 3], &'static str);
 
 const TOLD: &[Told] = &[

@@ -86,7 +86,7 @@ fn chosen(alloc: Global, protocol: Protocol, machine: &Machine) -> Result<Row, F
     Ok(row)
 }
 
-/// The numbers of the blocked jobs, counted from 1, with `+` between them; `-` where none is.
+/// The numbers of the blocked jobs, counted from 1, with `+` between them; `-` if none is blocked.
 fn blocked_word(
     alloc: Global,
     protocol: Protocol,
@@ -107,7 +107,7 @@ fn blocked_word(
     Ok(word)
 }
 
-/// The word of the blocked jobs where the row keeps the rules, else the first rule that it breaks.
+/// The word of the blocked jobs if the row keeps the rules, and else the first rule that it breaks.
 fn row_word(
     alloc: Global,
     protocol: Protocol,
@@ -120,8 +120,8 @@ fn row_word(
     }
 }
 
-/// A word for each lawful row, of the jobs that are blocked in it. Then the first rule that is broken; where none is, `chosen`
-/// if each row is the chosen one, and else `lawful`.
+/// A word for each lawful row, of the jobs that are blocked in it. Then the first rule that is broken. If none is, `chosen` if each row is
+/// the chosen one, and else `lawful`.
 pub(crate) fn judged(
     alloc: Global,
     protocol: Protocol,

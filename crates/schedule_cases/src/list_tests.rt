@@ -8,7 +8,7 @@ use std::alloc::{AllocError, Global};
 use std::test::Fail;
 use worked_sets::{EntryRow, SetRow, TaskRow, set_of, task_row};
 
-/// What `push` answers, where the ids are in range.
+/// What `push` answers, if the ids are in range.
 fn pushed(jobs: &mut JobList, job: Job) -> Option<Result<(), JobRefusal>> {
     let set = jobs.set();
     let (tasks, resources) = (set.tasks(), set.resources());
@@ -18,7 +18,7 @@ fn pushed(jobs: &mut JobList, job: Job) -> Option<Result<(), JobRefusal>> {
     Some(jobs.push(job))
 }
 
-/// The task, the release and the script of a job, and the refusal that is wanted.
+/// The task, the release and the script of a job, and the refusal that is expected.
 type Case = (u32, u64, &'static [Part], Option<JobRefusal>);
 
 const PAIR: SetRow = SetRow {
@@ -188,7 +188,7 @@ fn lists(jobs: &JobList, wanted: &[Read]) -> bool {
     true
 }
 
-/// Is each row's job answered so when it is pushed?
+/// Does the push of each row's job give this answer?
 fn are_pushed(
     alloc: Global,
     jobs: &mut JobList,
@@ -231,7 +231,7 @@ const JITTERY: SetRow = SetRow {
     }],
 };
 
-/// The arrival, the release and the local ticks of a job, and the refusal that is wanted.
+/// The arrival, the release and the local ticks of a job, and the refusal that is expected.
 type Held = (u64, u64, u64, Option<JobRefusal>);
 
 const HELD: &[Held] = &[
@@ -298,8 +298,8 @@ fn keeps_the_limits_on_jobs_and_segments(rt: HostRuntime) -> Result<(), Fail> {
     Ok(())
 }
 
-/// A number of ticks, the jobs that run on both processors and the one that holds the resource, whether
-/// rows up to here fit the first job alone, and the refusal that is wanted.
+/// A number of ticks, the jobs that run on both processors and the one that holds the resource, whether the rows so far fit a list of only
+/// the first job, and the refusal that is expected.
 type Run = (u64, [Option<u32>; 2], Option<u32>, bool, Option<RowRefusal>);
 
 const RUNS: [Run; 8] = [
@@ -354,7 +354,7 @@ fn run_of(
     Ok(RowRun { ticks, row })
 }
 
-/// What `push` answers, where the row has the set's sizes.
+/// What `push` answers, if the row has the set's sizes.
 fn put(rows: &mut RowList, jobs: &JobList, run: RowRun) -> Option<Result<(), RowRefusal>>
     requires { IsMadeFor rows.old jobs.now }
     ensures { IsMadeFor rows.new jobs.now }
@@ -369,7 +369,7 @@ fn put(rows: &mut RowList, jobs: &JobList, run: RowRun) -> Option<Result<(), Row
     Some(rows.push(run))
 }
 
-/// The first so many jobs, one of each task.
+/// This many first jobs, one of each task.
 fn first_jobs<'a>(alloc: Global, set: &'a TaskSet, count: u32) -> Result<JobList<'a>, Fail> {
     let mut jobs = JobList::new(alloc, set);
     for task in 0..count {

@@ -41,8 +41,8 @@ const HOLDS: Answers = (Phase::Asking(0, Q), true, true, false, Some(1));
 
 const ENDED: Answers = (Phase::Finished, false, false, false, None);
 
-/// What is answered at a tick of each job, of the current job of both tasks and of the resource's holder, and the row that
-/// is then taken: what runs in each column, and who holds the resource.
+/// What is answered at a tick of each job, of the current job of both tasks and of the resource's holder. And the row that is then taken:
+/// what runs in each column, and which job holds the resource.
 type Tick = (
     &'static [Answers],
     [Option<u32>; 2],
@@ -105,7 +105,7 @@ fn shows(
         && machine.holder(Q) == named(holder)
 }
 
-/// The first tick at which something else is answered than what the table says, or at which the row can't be taken.
+/// The first tick at which an answer differs from the table, or at which the row can't be taken.
 fn first_other(alloc: Global, jobs: &JobList, ticks: &[Tick]) -> Result<Option<usize>, Fail> {
     let mut machine = Machine::new(alloc, jobs)?;
     for (t, tick) in ticks.iter().enumerate() {
@@ -120,11 +120,11 @@ fn first_other(alloc: Global, jobs: &JobList, ticks: &[Tick]) -> Result<Option<u
     Ok(None)
 }
 
-/// What is answered at the first tick of a stretch with the row that is then taken, how long the stretch is, and how many of its
-/// ticks are taken.
+/// What is answered at the first tick of a stretch with the row that is then taken, how long the stretch is, and how many of its ticks are
+/// taken.
 type Stretch = (Tick, u64, u64);
 
-/// The first stretch where something else is answered than what the table says, or whose row can't be taken so often.
+/// The first stretch for which an answer differs, or whose row can't be taken this often.
 fn first_other_stretch(
     alloc: Global,
     jobs: &JobList,
@@ -192,7 +192,7 @@ const LOWER_FIRST: &[Tick] = &[
     (&[ENDED, ENDED], [None, None], None, &[None, None], None),
 ];
 
-/// The same where the higher task's is served first.
+/// The same, but the higher task's request is served first.
 const HIGHER_FIRST: &[Tick] = &[
     (
         &[RUNS, RUNS],
@@ -244,8 +244,8 @@ const IN_TURN: &[Work] = &[
     (1, 2, &[(1, None)]),
 ];
 
-/// The first job's script ends with its request; the last job is released at tick 2, and active once the one before it of
-/// its task is finished.
+/// The first job's script ends with its request. The last job is released at tick 2. It is active once the one before it of its task is
+/// finished.
 const ONE_AT_A_TIME: &[Tick] = &[
     (
         &[RUNS, RUNS, COMES],
@@ -297,8 +297,7 @@ const ASKS: Answers = (Phase::Asking(0, Q), true, false, true, Some(12));
 
 const KEEPS: Answers = (Phase::Asking(0, Q), true, true, false, Some(12));
 
-/// A stretch ends where a job is released, where local ticks end, where a request ends and where a job ends; one of them is
-/// taken in two parts, and the last lasts for ever.
+/// Stretches end at a release, and where local ticks, a request and a job end. One of them is taken in two parts, and the last never ends.
 const BY_STRETCHES: &[Stretch] = &[
     (
         (&[RUNS, COMES], [Some(0), None], None, &[Some(0)], None),

@@ -20,7 +20,7 @@ pub(crate) fn segment((local, length): Part) -> Segment {
     Segment { local, request }
 }
 
-/// A job that is released as it arrives.
+/// A job that is released when it arrives.
 pub(crate) fn job_of(
     alloc: Global,
     task: u32,

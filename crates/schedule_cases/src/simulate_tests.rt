@@ -55,7 +55,7 @@ fn text_of(alloc: Global, protocol: Protocol, set: &str, jobs: &str) -> Result<V
     Ok(written(alloc, &jobs, &rows)?)
 }
 
-/// A task of each of three processors; they share `q`, whose home is a fourth processor without tasks.
+/// A task on each of three processors. They share `q`, whose home is a fourth processor without tasks.
 const SHARED: &str = r#"{"processors":4,"resources":[{"name":"q","home":4}],"tasks":[
 {"name":"t1","processor":1,"period":20,"cost":3,"requests":[{"resource":"q","count":1,"length":1}]},
 {"name":"t2","processor":2,"period":20,"cost":3,"requests":[{"resource":"q","count":1,"length":1}]},
@@ -64,7 +64,7 @@ const SHARED: &str = r#"{"processors":4,"resources":[{"name":"q","home":4}],"tas
 /// The requests are issued at the ticks 3, 2 and 1.
 const SHARED_JOBS: &str = "task,release,script\nt1,2,1 q:1 1\nt2,1,1 q:1 1\nt3,0,1 q:3 1\n";
 
-/// `t3` has `q` from tick 1 on. At tick 4, where it ends, `q` goes to the higher task of the two that wait.
+/// `t3` holds `q` from tick 1 on. At tick 4, when its request ends, `q` goes to the higher of the two tasks that wait.
 const BY_TASK: &str =
     "ticks,P1,P2,P3,P4,q\n1,,,3,,\n1,,2,3,,3\n1,1,,3,,3\n1,,,3,,3\n1,1,,3,,1\n1,1,2,,,2\n1,,2,,,\n3,,,,,\n";
 
@@ -72,8 +72,8 @@ const BY_TASK: &str =
 const BY_ISSUE: &str =
     "ticks,P1,P2,P3,P4,q\n1,,,3,,\n1,,2,3,,3\n1,1,,3,,3\n1,,,3,,3\n1,,2,3,,2\n1,1,2,,,1\n1,1,,,,\n3,,,,,\n";
 
-/// The requests run on the fourth processor, where two wait at tick 3. `t1` is no higher than the ceiling of `q`, which is
-/// `t1`, and gets it at tick 4, where `t3` ends.
+/// The requests run on the fourth processor, where two wait at tick 3. `t1` is no higher than the ceiling of `q`, which is `t1`. It gets
+/// `q` at tick 4, when the request of `t3` ends.
 const AT_HOME: &str =
     "ticks,P1,P2,P3,P4,q\n1,,,3,,\n1,,2,,3,3\n1,1,,,3,3\n1,,,,3,3\n1,,,3,1,1\n1,1,,,2,2\n1,,2,,,\n3,,,,,\n";
 

@@ -6,8 +6,8 @@ use sporadic_model::{ResourceId, TaskId};
 use std::alloc::{AllocError, Global};
 use std::test::Fail;
 
-/// What is answered of a job: its phase, as `local`, `ended` or the resource that it asks for with the number of the segment;
-/// then `a` where it is active, `r` where it is ready and `w` where it waits; and the issue tick of its request.
+/// What is answered of a job: its phase, as `local`, `ended` or the resource that it asks for with the number of the segment; then `a` if
+/// it is active, `r` if it is ready and `w` if it waits; and the issue tick of its request.
 fn job_word(alloc: Global, machine: &Machine, j: JobId) -> Result<String, AllocError>
     requires { j.0 < length machine.now.list.jobs }
 {

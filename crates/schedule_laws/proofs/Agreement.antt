@@ -125,11 +125,11 @@ ready_agree v w n t j a l = rw (active_local_agree v w n t j a (omega arith), re
 pub rows_agree : (jobs : JobsDef) (rows more : List RowDef) → AgreeBefore (trace_of jobs (rows ++ more)) (trace_of jobs rows) (length rows)
 rows_agree jobs rows more = record { set = refl; jobs = refl; rows = λ t l. get_or-append rows more idle_row t l }
 
--- The row that was added stands at the end of the rows before it.
+-- The row that was added comes after the rows before it.
 pub row_added : (jobs : JobsDef) (rows more : List RowDef) (row : RowDef) → (trace_of jobs (rows ++ row ∷ more)).row (length rows) ≡ row
 row_added jobs rows more row = get_or-append_seam rows row more idle_row
 
--- The same of runs of rows: the run that was added stands at each of its ticks.
+-- The same for runs of rows: the run that was added is at each of its ticks.
 row_in_begun : (runs more : List RunDef) (t : ℕ) → t < ticks_of runs → row_in (runs ++ more) t ≡ row_in runs t
 row_in_begun [] more t l = absurd (omega arith)
 row_in_begun (run ∷ runs) more t l =
@@ -152,7 +152,7 @@ pub runs_agree : (jobs : JobsDef) (runs more : List RunDef)
     → AgreeBefore (trace_in jobs (runs ++ more)) (trace_in jobs runs) (ticks_of runs)
 runs_agree jobs runs more = record { set = refl; jobs = refl; rows = λ t l. row_in_begun runs more t l }
 
--- The run that was added stands at each of its ticks.
+-- The run that was added is at each of its ticks.
 pub run_added : (jobs : JobsDef) (runs : List RunDef) (run : RunDef) (more : List RunDef) (t : ℕ) → ticks_of runs ≤ t
     → t < ticks_of runs + run.ticks
     → (trace_in jobs (runs ++ run ∷ more)).row t ≡ run.row

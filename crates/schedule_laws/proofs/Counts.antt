@@ -92,7 +92,7 @@ script_at_most p n script d none =
     count_below-longer d (total_ticks script + d) (λ e. p (phase_from n script e)) (omega arith) in
     omega (arith, longer, script_past p n script d none)
 
--- A job runs in a kind of phase at most as often as its script has ticks of that kind, and just as often once it is finished.
+-- A job runs in a kind of phase at most as often as its script has ticks of that kind, and exactly as often once it is finished.
 pub executed_in_at_most : (p : Phase → Bool) (w : Trace) (t j : ℕ) → p Finished ≡ false
     → executed_in p w t j ≤ ticks_where p 0 (job_of w.jobs j).script
 executed_in_at_most p w t j none = rw (executed_where p w t j) (script_at_most p 0 (job_of w.jobs j).script (executed w t j) none)

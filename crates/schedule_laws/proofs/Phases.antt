@@ -1,5 +1,4 @@
--- The phase of a script after so many executed ticks: it moves forward along the script, and before each request
--- stands a Local tick.
+-- The phase of a script after a number of executed ticks. It moves forward along the script, and before each request there is a Local tick.
 use Rattle.std.proofs.Common.{◌≡◌, ℕ, suc, ◌+◌, ◌-◌, ◌<◌, ◌≤◌, ◌==◌, true, false, List, [], ◌∷◌, refl, sym, ◌∙◌, arith}
 use Rattle.std.proofs.Common.{inl, inr, Option, Some, None, nat_lt}
 use Rattle.std.specs.Option.{option_map_or}

@@ -25,13 +25,13 @@ any_place (o ∷ places) j h = elim (or_cases (is_job j o) (list_any (is_job j) 
   | inr later ↦ let back : (c : ℕ) × (get_or places c None ≡ Some j) = any_place places j later in (suc back.0, back.1)
 ]
 
--- A job runs in a row where it stands in some column.
+-- A job runs in a row if it is in some column.
 pub runs_from : (row : RowDef) (k j : ℕ) → running_on row k ≡ Some j → runs_in row j ≡ true
 unfolding runs_in
 runs_from row zero j e = absurd (cc)
 runs_from row (suc c) j e = place_any row.running c j e
 
--- A job that runs in a row stands in some column.
+-- A job that runs in a row is in some column.
 pub runs_where : (row : RowDef) (j : ℕ) → runs_in row j ≡ true → (k : ℕ) × (running_on row k ≡ Some j)
 unfolding runs_in
 runs_where row j h = let a : (c : ℕ) × (get_or row.running c None ≡ Some j) = any_place row.running j h in (suc a.0, a.1)

@@ -1,5 +1,5 @@
--- Under MPCP, FMLP+ and each other order of grants and runs a lawful row stays as lawful through a steady stretch: no holder is
--- new after its first tick, and who is ready is the same.
+-- A lawful row stays lawful through a steady stretch, under MPCP, FMLP+ and each other order of grants and runs. No holder is new after the
+-- first tick, and the ready jobs stay the same.
 use Rattle.std.proofs.Common.{◌≡◌, ℕ, ◌+◌, ◌<◌, ◌≤◌, true, length, refl, sym, ap, ◌∙◌, subst, arith, inl, inr, Some}
 use Rattle.std.proofs.lemmas.Bool.{cases_lt}
 use Rattle.schedule_model.specs.declared.rule.Rule.TheVariants as rule

@@ -1,5 +1,4 @@
--- Jobs of one task arrive at least a period apart, so only so many of them arrive within a window, and their releases
--- rise.
+-- Jobs of one task arrive at least a period apart. So only a limited number of them arrive within a window, and their releases rise.
 use Rattle.std.proofs.Common.{◌≡◌, ℕ, zero, suc, ◌+◌, ◌*◌, ◌<◌, ◌≤◌, Bool, true, length, refl, sym, ◌∙◌, arith, inl, inr, suc-mul}
 use Rattle.std.specs.Int.{div_ceil}
 use Rattle.std.proofs.lemmas.Grind.{div_ceil_times}
@@ -85,7 +84,7 @@ few c n period window some less most = elim (cases_lt c n) [
   product zero (suc n) period l = absurd (omega arith)
   product (suc c) (suc n) period l = omega (arith, suc-mul c period, suc-mul n period, product c n period (omega arith))
 
--- Of one task at most so many jobs pass that arrive before r + window, and less than bound before r at most.
+-- Take the jobs of one task that arrive before r + window, and at most less than bound before r. No more than this many of them pass.
 pub arrived_within : (jobs : JobsDef) (x n r window bound : ℕ) (p : ℕ → Bool) → AreLawfulJobs jobs
     → 0 < (task_at jobs.set x).period → n ≤ length jobs.jobs → ((j : ℕ) → p j ≡ true → (job_of jobs.jobs j).task ≡ x)
     → ((j : ℕ) → p j ≡ true → r < (job_of jobs.jobs j).arrival + bound) → ((j : ℕ) → p j ≡ true → (job_of jobs.jobs j).arrival < r + window)

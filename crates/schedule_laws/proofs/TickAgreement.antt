@@ -79,7 +79,7 @@ blocked_agree interferes v w n t j a l same = rw (delayed_agree v w n t j a l, s
 pub blocked_reads : (interferes : Trace → ℕ → ℕ → Bool) → TicksReadUpTo interferes → TicksReadUpTo (is_blocked interferes)
 blocked_reads interferes reads v w n t j a l = blocked_agree interferes v w n t j a l (reads v w n t j a l)
 
--- So does who makes a tick interference,
+-- So does which job makes a tick interference,
 pub interferer_reads : (interferes : Trace → ℕ → ℕ → Bool) → TicksReadUpTo interferes → (v w : Trace) (n t j y : ℕ)
     → AgreeBefore v w n → t < n → is_interferer interferes v t j y ≡ is_interferer interferes w t j y
 unfolding is_interferer

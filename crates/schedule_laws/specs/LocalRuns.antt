@@ -4,7 +4,7 @@ use Rattle.schedule_model.specs.RowDef.{Trace, runs_in}
 use Rattle.schedule_model.specs.Phase.{phase_of}
 use Rattle.schedule_model.specs.Phase.Phase.{Local}
 
--- A tick from u on and before v, at which job j is Local and runs.
+-- A tick from u on and before v at which job j is Local and runs.
 pub record LocalRun (w : Trace) (u v j : ℕ) : Type 0 where
   pub tick : ℕ
   pub from : u ≤ tick

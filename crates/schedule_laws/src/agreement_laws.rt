@@ -10,8 +10,8 @@ ghost use Rattle.schedule_model.specs.Protocols.{shared_rule, dpcp_rule};
 ghost use Rattle.schedule_model.specs.Chosen.{IsSharedChoice, IsDpcpChoice};
 ghost use Rattle.schedule_laws.specs.Agreement.{AgreeBefore, RulesReadUpTo, ChoiceReadsUpTo, TicksReadUpTo};
 
-/// What is said of a tick is the same in each schedule that has the same rows before it. Who is ready depends on
-/// the tick's own row too.
+/// What is said of a tick is the same in each schedule that has the same rows before it. Which jobs are ready depends on the tick's own row
+/// too.
 pub fn ticks_depend_on_earlier_rows()
     ensures executed { (v w : Trace) (n t j : ℕ) → AgreeBefore v w n → t ≤ n → executed v t j ≡ executed w t j }
     ensures phase { (v w : Trace) (n t j : ℕ) → AgreeBefore v w n → t ≤ n → phase_of v t j ≡ phase_of w t j }
@@ -24,8 +24,8 @@ pub fn ticks_depend_on_earlier_rows()
     ensures ready { (v w : Trace) (n t j : ℕ) → AgreeBefore v w n → t < n → is_ready v t j ≡ is_ready w t j }
 {}
 
-/// Whether a row keeps each of a protocol's rules, and is the chosen one, depends on the rows up to it alone, and so does
-/// what a tick is for a job, who makes it interference, and whether the row can be taken.
+/// These depend only on the rows up to a row: whether it keeps each of a protocol's rules, whether it is the chosen one, what its tick is
+/// for a job, which job makes it interference, and whether the row can be taken.
 pub fn rules_depend_on_earlier_rows()
     ensures mpcp { RulesReadUpTo (shared_rule mpcp) }
     ensures fmlp_plus { RulesReadUpTo (shared_rule fmlp_plus) }
@@ -42,8 +42,7 @@ pub fn rules_depend_on_earlier_rows()
     ensures taken { (v w : Trace) (n t : ℕ) → AgreeBefore v w n → t < n → CanBeTaken v t → CanBeTaken w t }
 {}
 
-/// Rows that are added to a list change nothing before its end, and the first of them stands there; likewise runs of
-/// rows.
+/// If rows are added to a list, nothing changes before its old end, and the first new row is there. It is the same for runs of rows.
 pub fn added_rows_change_no_earlier_tick()
     ensures rows { (jobs : JobsDef) (rows more : List RowDef)
         → AgreeBefore (trace_of jobs (rows ++ more)) (trace_of jobs rows) (length rows) }

@@ -11,9 +11,9 @@ ghost use Rattle.schedule_model.specs.Phase.Phase.{Asking, Finished};
 ghost use Rattle.schedule_laws.specs.Agreement.{RunsActiveBefore};
 ghost use Rattle.schedule_laws.specs.Counting.{ticks_where, executed_in, is_request, requests_in, requests_begun};
 
-/// A job runs in a kind of phase at most as often as its script has ticks of that kind, and just as often once it is
-/// finished. So it runs Local at most its local ticks, in requests of a resource at most their number times the length
-/// that its task may have, in one request at most that length, and in all no more than its script's ticks.
+/// A job runs in a kind of phase at most as often as its script has ticks of that kind, and exactly as often once it is finished. So it
+/// runs Local for at most its local ticks, and in all for no more than its script's ticks. In requests of a resource it runs for at most
+/// their number times the length that its task may have, and in one request for at most that length.
 pub fn executed_ticks_are_counted_along_the_script()
     ensures most { (p : Phase → Bool) (w : Trace) (t j : ℕ) → p Finished ≡ false
         → executed_in p w t j ≤ ticks_where p 0 (job_of w.jobs j).script }
@@ -27,8 +27,8 @@ pub fn executed_ticks_are_counted_along_the_script()
     ensures all { (w : Trace) (n t j : ℕ) → RunsActiveBefore w n → t ≤ n → executed w t j ≤ total_ticks (job_of w.jobs j).script }
 {}
 
-/// The number of requests that a job has begun rises, and is at most its script's. It is the same at two ticks of one
-/// request, and where it is, a request that is open at the later was open at the earlier.
+/// The number of requests that a job has begun never falls, and is at most its script's. It is the same at two ticks of one request. If it
+/// is the same at two ticks, a request that is open at the later one was open at the earlier one.
 pub fn requests_begun_are_counted()
     ensures up { (w : Trace) (u t j : ℕ) → u ≤ t → requests_begun w u j ≤ requests_begun w t j }
     ensures most { (w : Trace) (t j : ℕ) → requests_begun w t j ≤ requests_in (job_of w.jobs j).script }
@@ -38,8 +38,8 @@ pub fn requests_begun_are_counted()
         → requests_begun w u j ≡ requests_begun w t j }
 {}
 
-/// A lawful job requests resources of the set that its task uses, each by the segment of the request's number, and has
-/// no more requests, of one resource or of all, than its task may make.
+/// A lawful job requests resources of the set that its task uses, each by the segment of the request's number. It has no more requests, of
+/// one resource or of all, than its task may make.
 pub fn requests_are_within_the_budget()
     ensures resource { (set : SetDef) (w : Trace) (t j m q : ℕ) → IsLawfulJob set (job_of w.jobs j) → phase_of w t j ≡ Asking m q
         → q < length set.resources }

@@ -1,8 +1,7 @@
-//! Laws of jobs, of schedules and of the rules of MPCP, FMLP+ and DPCP, for the crates that run, judge, charge and
-//! bound them.
+//! Laws of jobs, of schedules and of the rules of MPCP, FMLP+ and DPCP, for the crates that run, judge, charge and bound them.
 //!
-//! Each function here does nothing: its contract is a law, and the lemmas that prove it stand in `proofs/`, one file a
-//! subject, for the proofs of the crates above.
+//! Each function here does nothing: its contract is a law. The lemmas that prove it are in `proofs/`, one file for each subject. Proofs of
+//! crates above use them too.
 #![tactic(auto)]
 
 mod agreement_laws;

@@ -11,8 +11,8 @@ ghost use Rattle.schedule_model.specs.Phase.Phase.{Finished};
 ghost use Rattle.schedule_model.specs.BlockedTicks.{is_blocked};
 ghost use Rattle.schedule_model.specs.Measures.{has_finished, finish_of, response_of, blocking_of};
 
-/// A job is finished from its finish on and not before, which further rows don't change; where it is finished some
-/// ticks after its release, its response is no more than these. Its blocked ticks rise by one at a blocked tick.
+/// A job is finished from its finish on and not before, and further rows don't change that. If it is finished some ticks after its release,
+/// its response is no more than these. Its blocked ticks rise by one at a blocked tick.
 pub fn measures_are_kept()
     ensures finished { (w : Trace) (n j : ℕ) → has_finished w n j ≡ true → phase_of w (finish_of w n j) j ≡ Finished }
     ensures before { (w : Trace) (n t j : ℕ) → t < finish_of w n j → is_finished (phase_of w t j) ≡ false }
@@ -23,8 +23,8 @@ pub fn measures_are_kept()
         → blocking_of interferes w (n + 1) j ≡ blocking_of interferes w n j + flag (is_blocked interferes w n j) }
 {}
 
-/// Of one task, at most as many jobs arrive less than `bound` ticks before a window or in it as a sporadic task with
-/// that bound and its period can run in it.
+/// Take the jobs of one task that arrive in a window, or less than `bound` ticks before it. They are at most as many as can run in the
+/// window of a sporadic task with that bound and its period.
 pub fn arrivals_are_spaced()
     ensures { (jobs : JobsDef) (x n r window bound : ℕ) (p : ℕ → Bool) → AreLawfulJobs jobs
         → 0 < (task_at jobs.set x).period → n ≤ length jobs.jobs
@@ -34,8 +34,8 @@ pub fn arrivals_are_spaced()
         → count_below n p ≤ jobs_within window bound (task_at jobs.set x).period }
 {}
 
-/// Jobs of one task are released in the order in which they are listed, since a jitter is below its period. Their
-/// releases may be less than a period apart.
+/// Jobs of one task are released in the order in which they are listed, since a jitter is below its task's period. Their releases may be
+/// less than a period apart.
 pub fn releases_rise()
     ensures { (jobs : JobsDef) (a b : ℕ) → AreLawfulJobs jobs → TaskNumbers jobs.set (job_of jobs.jobs a).task
         → a < b → b < length jobs.jobs → (job_of jobs.jobs a).task ≡ (job_of jobs.jobs b).task

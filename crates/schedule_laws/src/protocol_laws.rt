@@ -20,8 +20,8 @@ ghost use Rattle.schedule_laws.specs.Agreement.{AgreeBefore, RunsActiveBefore};
 
 use schedule_model::BlockingProtocol;
 
-/// The laws of `BlockingProtocol` where requests run on their own task's processor, whatever the order of grants and
-/// runs: so for MPCP and FMLP+.
+/// The laws of `BlockingProtocol` if requests run on their own task's processor, whatever the order of grants and runs: so for MPCP and
+/// FMLP+.
 pub fn shared_memory_keeps_its_laws()
     ensures one_of_three { (w : Trace) (t j : ℕ) → IsOneOfThree is_shared_interference w t j }
     ensures sound_row { (o : Ranks) (w : Trace) (t : ℕ) → KeepsRow (shared_rule o) w t → IsSoundRow is_shared_interference w t }
@@ -43,14 +43,13 @@ pub fn chosen_rows_are_unique()
     ensures dpcp { (v w : Trace) (t : ℕ) → AgreeBefore v w t → IsDpcpChoice v t → IsDpcpChoice w t → v.row t ≡ w.row t }
 {}
 
-/// In rows that keep the rules of a protocol, whichever it is, each running job is active.
+/// In rows that keep the rules of any protocol each running job is active.
 pub fn running_jobs_are_active<P: BlockingProtocol>()
     ensures { (p : P) (w : Trace) (n : ℕ) → P.suits p w.set → KeepsBefore (P.keeps p) w n → RunsActiveBefore w n }
 {}
 
-/// In rows that keep the rules of a protocol, whichever it is, a job ends within `b` ticks of its release `r` where the
-/// earlier jobs of its task are finished at `r`, and its script, its interference and its blocking have no more than
-/// `b` ticks.
+/// In rows that keep the rules of any protocol: let the earlier jobs of a job's task be finished at its release `r`. Let its script, its
+/// interference and its blocking together have no more than `b` ticks. Then the job ends within `b` ticks of `r`.
 pub fn jobs_end_in_time<P: BlockingProtocol>()
     ensures { (p : P) (w : Trace) (r b j : ℕ) → P.suits p w.set → KeepsBefore (P.keeps p) w (r + b)
         → (job_of w.jobs j).release ≡ r → ((e : ℕ) → e < j → task_of w e ≡ task_of w j → phase_of w r e ≡ Finished)
@@ -59,8 +58,8 @@ pub fn jobs_end_in_time<P: BlockingProtocol>()
         → is_finished (phase_of w (r + b) j) ≡ true }
 {}
 
-/// A tick is interference for a job exactly where some job makes it so. One alone does: it is of a higher task of the
-/// job's processor, and under DPCP it is Local.
+/// A tick is interference for a job exactly if some job makes it so. Only one does. It is of a higher task of the job's processor, and
+/// under DPCP it is Local.
 pub fn interference_has_one_cause()
     ensures shared { (w : Trace) (t j : ℕ)
         → (is_shared_interference w t j ≡ true) ↔ ((y : ℕ) × (is_interferer is_shared_interference w t j y ≡ true)) }
@@ -76,21 +75,20 @@ pub fn interference_has_one_cause()
         → is_local (phase_of w t y) ≡ true }
 {}
 
-/// In a row that keeps the rules of a protocol, whichever it is, a tick is interference for a job exactly where a job
-/// of a higher task of its processor makes it so.
+/// In a row that keeps the rules of any protocol, a tick is interference for a job exactly if a job of a higher task of its processor makes
+/// it so.
 pub fn interference_comes_from_higher_tasks<P: BlockingProtocol>()
     ensures { (p : P) (w : Trace) (t j : ℕ) → P.suits p w.set → KeepsRow (P.keeps p) w t
         → (P.interferes p w t j ≡ true)
         ↔ ((y : ℕ) × (is_interferer (P.interferes p) w t j y ≡ true) × (is_higher_local w.set (task_of w j) (task_of w y) ≡ true)) }
 {}
 
-/// A row that keeps the rules of a protocol, whichever it is, can be taken after the rows before it, if it has the set's
-/// sizes.
+/// A row that keeps the rules of any protocol, and has the set's sizes, can be taken after the rows before it.
 pub fn lawful_rows_can_be_taken<P: BlockingProtocol>()
     ensures { (p : P) (w : Trace) (t : ℕ) → P.suits p w.set → IsSized w.set (w.row t) → KeepsRow (P.keeps p) w t → CanBeTaken w t }
 {}
 
-/// In rows that can be taken running jobs are active; and the test of a row's sizes and names says that it fits.
+/// In rows that can be taken running jobs are active. The test of a row's sizes and names says exactly whether it fits.
 pub fn taken_rows_run_active_jobs()
     ensures active { (w : Trace) (n : ℕ) → CanBeTakenBefore w n → RunsActiveBefore w n }
     ensures fits { (w : Trace) (t : ℕ)

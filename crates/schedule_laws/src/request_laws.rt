@@ -11,8 +11,8 @@ ghost use Rattle.schedule_model.specs.Keeping.{KeepsBefore};
 ghost use Rattle.schedule_laws.specs.Agreement.{RunsActiveBefore};
 ghost use Rattle.schedule_laws.specs.LocalRuns.{LocalRun};
 
-/// The issue tick of a request is no later than each tick at which the request is open, the request is open from then
-/// on, and the issue tick stays while the request is open. Where the request is new it is the present tick.
+/// The issue tick of a request is no later than each tick at which the request is open. The request is open from then on, and its issue
+/// tick stays while it is open. If the request is new, it is the present tick.
 pub fn issue_ticks_are_first()
     ensures present { (w : Trace) (t j : ℕ) → issue_tick_of w t j ≤ t }
     ensures least { (w : Trace) (u t j : ℕ) → is_same_request (phase_of w u j) (phase_of w t j) ≡ true → issue_tick_of w t j ≤ u }
@@ -24,8 +24,8 @@ pub fn issue_ticks_are_first()
         → issue_tick_of w (t + 1) j ≡ t + 1 }
 {}
 
-/// A request that is open at a later tick and not at an earlier one has an executed Local tick between; so, where each
-/// running job is active, a job in a request is active.
+/// If a request is open at a later tick and not at an earlier one, its job executes a Local tick in between. So if each running job is
+/// active, a job in a request is active.
 pub fn requests_follow_local_ticks()
     ensures between { (w : Trace) (u v j m q : ℕ) → is_script (job_of w.jobs j).script ≡ true → u ≤ v
         → phase_of w v j ≡ Asking m q → is_same_request (phase_of w u j) (Asking m q) ≡ false → LocalRun w u v j }
@@ -33,7 +33,7 @@ pub fn requests_follow_local_ticks()
         → phase_of w t j ≡ Asking m q → is_active w t j ≡ true }
 {}
 
-/// In rows that keep a protocol's rules a holder stays the holder while the request is open that it is in.
+/// In rows that keep a protocol's rules a holder stays the holder while its request is open.
 pub fn holders_stay()
     ensures shared { (o : Ranks) (w : Trace) (n u t q j m r : ℕ) → KeepsBefore (shared_rule o) w n → u ≤ t → t < n
         → phase_of w u j ≡ Asking m r → phase_of w t j ≡ Asking m q → holder_in (w.row u) q ≡ Some j

@@ -8,14 +8,14 @@ ghost use Rattle.schedule_model.specs.Phase.Phase.{Asking, Finished};
 ghost use Rattle.schedule_model.specs.Activity.{task_of, is_active, active_job_of};
 ghost use Rattle.schedule_laws.specs.Agreement.{RunsActiveBefore};
 
-/// A job's executed ticks begin with none, rise by one at a tick at which it runs, and else stay.
+/// A job's executed ticks begin with 0. They rise by one at a tick at which it runs, and else stay.
 pub fn executed_ticks_rise_by_one()
     ensures none { (w : Trace) (j : ℕ) → executed w 0 j ≡ 0 }
     ensures next { (w : Trace) (t j : ℕ) → executed w (t + 1) j ≡ executed w t j + flag (runs_in (w.row t) j) }
 {}
 
-/// A phase moves forward: it stays where the job doesn't run, a finished job stays finished, a request that is open at
-/// two ticks is open at each between, the numbers of requests rise, and one number is a request of one resource.
+/// A phase moves forward. It stays if the job doesn't run, and a finished job stays finished. A request that is open at two ticks is open
+/// at each tick between. The numbers of requests never fall, and one number is a request of one resource.
 pub fn phases_move_forward()
     ensures waits { (w : Trace) (t j : ℕ) → runs_in (w.row t) j ≡ false → phase_of w (t + 1) j ≡ phase_of w t j }
     ensures finished { (w : Trace) (u t j : ℕ) → u ≤ t → phase_of w u j ≡ Finished → phase_of w t j ≡ Finished }
@@ -25,8 +25,7 @@ pub fn phases_move_forward()
     ensures resource { (w : Trace) (u v j m q r : ℕ) → phase_of w u j ≡ Asking m q → phase_of w v j ≡ Asking m r → q ≡ r }
 {}
 
-/// An active job is in the list, is the only active one of its task, and so the task's active job, and stays active
-/// until it is finished.
+/// An active job is in the list. It is the only active one of its task, and so the task's active job. It stays active until it is finished.
 pub fn tasks_have_one_active_job()
     ensures listed { (w : Trace) (t j : ℕ) → is_active w t j ≡ true → j < length w.jobs }
     ensures one { (w : Trace) (t i j : ℕ) → is_active w t i ≡ true → is_active w t j ≡ true → task_of w i ≡ task_of w j → i ≡ j }
@@ -36,8 +35,8 @@ pub fn tasks_have_one_active_job()
     ensures none { (w : Trace) (t x : ℕ) → (active_job_of w t x ≡ None) ↔ ((j : ℕ) → task_of w j ≡ x → is_active w t j ≡ false) }
 {}
 
-/// The jobs of a task finish in their order, where running jobs are active. So a job is active once it is released and
-/// the last job of its task before it is finished, until it is finished itself.
+/// The jobs of a task finish in their order, if running jobs are active. So a job is active from when it is released and the last job of
+/// its task before it is finished, until it is finished itself.
 pub fn jobs_finish_in_order()
     ensures order { (w : Trace) (n t p e : ℕ) → RunsActiveBefore w n → t ≤ n → is_script (job_of w.jobs p).script ≡ true
         → phase_of w t p ≡ Finished → e < p → task_of w e ≡ task_of w p → phase_of w t e ≡ Finished }

@@ -13,7 +13,7 @@ last_arrival-here : (job : JobDef) (jobs : List JobDef) (x : ℕ) → last_arriv
     → last_arrival (job ∷ jobs) x ≡ Some job.arrival
 last_arrival-here job jobs x none same = rw (none, same) refl
 
--- The job at a place is the last one of its task, and was arrived at r.
+-- The job at a place is the last one of its task, and arrived at r.
 pub record IsLastAt (jobs : List JobDef) (x r : ℕ) : Type 0 where
   pub place : ℕ
   pub within : place < length jobs
@@ -28,7 +28,7 @@ option_or-none (Some r) p h = absurd (cc)
 not_here : (job : JobDef) (x : ℕ) → cond (job.task == x) (Some job.arrival) None ≡ None → job.task ≡ x → ⊥
 not_here job x h e = let same : (job.task == x) ≡ true = eq-eqb _ _ e in let g : Some job.arrival ≡ None = rw same at h in cc
 
--- Where a task has no last arrival, no job is of it.
+-- If a task has no last arrival, no job is of it.
 pub last_arrival-none : (jobs : List JobDef) (x c : ℕ) → last_arrival jobs x ≡ None → c < length jobs → (job_of jobs c).task ≡ x → ⊥
 last_arrival-none [] x c h l e = omega arith
 last_arrival-none (job ∷ jobs) x zero h l e =
@@ -76,7 +76,7 @@ pub last_arrival-at : (jobs : List JobDef) (x r : ℕ) → last_arrival jobs x �
 last_arrival-at [] x r h = absurd (cc)
 last_arrival-at (job ∷ jobs) x r h = last_of_tail job jobs x r (λ s e. last_arrival-at jobs x s e) (last_arrival jobs x) refl h
 
--- A job of the task behind which no job is of it has the task's last arrival.
+-- A job of the task that has no job of the task after it has the task's last arrival.
 pub last_arrival-found : (segments : List SegmentDef) (a b : ℕ) (jobs : List KeptJob) (n x : ℕ) (d : KeptJob) → n < length jobs
     → last_arrival (kept_jobs segments b (drop (suc n) jobs)) x ≡ None → ((get_or jobs n d).task.0 == x) ≡ true
     → last_arrival (kept_jobs segments a jobs) x ≡ Some (get_or jobs n d).arrival

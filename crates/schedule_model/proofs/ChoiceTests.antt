@@ -1,4 +1,4 @@
--- The chosen row as a test that computes, for the worked examples: where the test passes, the row is chosen.
+-- The chosen row as a test that computes, for the worked examples. If the test passes, the row is chosen.
 use Rattle.std.proofs.Common.{◌≡◌, ◌≢◌, ℕ, ◌<◌, ◌≤◌, ◌==◌, ◌&&◌, ◌||◌, not, Bool, true, length, Some, leb}
 use Rattle.std.proofs.lemmas.Bool.{and_parts, and_from, leb-true, eqb-true, eq-eqb, false_from_ne_true}
 use Rattle.number_laws.specs.Tests.{all_below}
@@ -22,7 +22,7 @@ sized_from set row h =
     and_parts (length row.running == set.processors) (length row.holders == length set.resources) h in
     record { processors = eqb-true _ _ parts.0; resources = eqb-true _ _ parts.1 }
 
--- Is job i, of those that request with j, granted as early as j?
+-- Does job i request resource q, and go equally first with j?
 abbrev pub ties_grant : Ranks → Trace → ℕ → ℕ → ℕ → ℕ → Bool
 ties_grant o w t q j i = is_requester w t q i && (o.grant w t i == o.grant w t j)
 
@@ -30,7 +30,7 @@ abbrev pub is_highest_grant : Ranks → Trace → ℕ → ℕ → ℕ → Bool
 is_highest_grant o w t q j = is_job j (held_before w t q)
     || all_below (length w.jobs) (λ i. not (ties_grant o w t q j i) || leb (task_of w j) (task_of w i))
 
--- Is job i, of those that hold and are ready on processor k, run as early as r?
+-- Is job i a ready holder on processor k, and does it go equally first with r?
 abbrev pub ties_run : Ranks → Trace → ℕ → ℕ → ℕ → ℕ → Bool
 ties_run o w t k r i = (processor_of w i == k) && (is_ready_holder w t i && (o.run w t i == o.run w t r))
 

@@ -38,9 +38,8 @@ unfolding phase_of phase_from executed runs_in is_pending is_next is_active is_r
 barred_broken = first_from dpcp_rule trace_barred (passes_dpcp trace_barred) (dpcp_from trace_barred) 5 2 rule.Grant (omega arith) refl refl
     (λ kept. let granted : false ≡ true = kept.new 1 0 refl (λ e. cc) in cc)
 
--- One processor, which is also the home: the first tick, at which the higher job runs as Local, is interference
--- for the lower one; the second, at which its request runs, is blocked. Under shared memory both would be
--- interference.
+-- One processor, which is also the home. At the first tick the higher job runs as Local, which is interference for the lower one. At the
+-- second its request runs, and the lower job is blocked. Under shared memory both would be interference.
 pub one_keeps_dpcp : KeepsBefore dpcp_rule trace_one 3
 unfolding phase_of phase_from executed runs_in is_pending is_next is_active is_requester is_active_local has_request_at
     has_requests holds_at is_kept waits_at is_first_waiting is_barred is_granted
@@ -54,13 +53,13 @@ unfolding phase_of phase_from executed runs_in is_pending is_next is_active is_d
     is_shared_interference is_dpcp_interference is_blocked
 request_blocks = refl
 
--- Where nothing has run by tick 10, the second job of the lower task is pending and not active, since the one
--- before it isn't finished; once that has run, it is active.
+-- If nothing has run by tick 10, the second job of the lower task is pending and not active, since the one before it isn't finished. Once
+-- that one has run, it is active.
 pub pending_not_active : is_pending trace_unrun 10 2 ∷ is_active trace_unrun 10 2 ∷ is_active trace_one 10 2 ∷ [] ≡ true ∷ false ∷ true ∷ []
 unfolding phase_of phase_from executed runs_in is_pending is_next is_active
 pending_not_active = refl
 
--- A job whose release is past the last row counts for nothing: it isn't finished, and no tick blocks it.
+-- A job whose release is past the last row doesn't count: it isn't finished, and no tick blocks it.
 pub past_the_rows : has_finished trace_one 3 2 ≡ false
 unfolding phase_of phase_from executed runs_in has_finished
 past_the_rows = refl

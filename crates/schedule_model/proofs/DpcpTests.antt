@@ -1,4 +1,4 @@
--- Each rule of DPCP as a test that computes, for the worked examples: where the test passes, the rule is kept.
+-- Each rule of DPCP as a test that computes, for the worked examples. If the test passes, the rule is kept.
 use Rattle.std.proofs.Common.{◌≡◌, ℕ, ◌<◌, ◌≤◌, ◌==◌, ◌&&◌, ◌||◌, not, Bool, true, false, length, refl, ap, sym, ◌∙◌}
 use Rattle.std.proofs.Common.{Option, Some, None, is_some, leb}
 use Rattle.std.specs.Option.{option_map_or}
@@ -94,7 +94,7 @@ grant_from w t h = record {
   may q j e = and_parts (is_requester w t q j) (is_job j (held_before w t q) || is_granted w t (home_of w q) j)
       (place_named (w.row t).holders (may_hold w t) parts.0 q j e)
 
--- What is told of the home of each request is told of a processor that has a request.
+-- What is true of the home of each request is true of a processor that has a request.
 abbrev pub tells_home : Trace → (ℕ → Bool) → Phase → Bool
 tells_home w p (Asking n q) = p (home_of w q)
 tells_home w p Local = true

@@ -64,8 +64,8 @@ jit_lawful = record { each = each; apart = apart } where
   apart (suc (suc a)) b l m e = absurd (omega arith)
   apart a (suc (suc (suc b))) l m e = absurd (omega arith)
 
--- One tick later than the jitter the first is refused; and where they arrive as they are released, 6 ticks after the
--- first the second is.
+-- One tick later than the jitter allows, the first job is refused. If jobs arrive when they are released, the second is refused 6 ticks
+-- after the first.
 pub jit_refusals : first_refusal (record { set = set_jit; jobs = [] }) (held_job 0 0 5 (local_only 2 ∷ []))
     ∷ first_refusal (record { set = set_jit; jobs = job 0 4 (local_only 2 ∷ []) ∷ [] }) (job 0 10 (local_only 2 ∷ [])) ∷ []
     ≡ Some refusal.Late ∷ Some refusal.TooClose ∷ []

@@ -1,4 +1,4 @@
--- Worked examples of lawful jobs, of a task's active job, of who makes a tick interference, and of rows that can be taken.
+-- Worked examples of lawful jobs, of a task's active job, of the job that makes a tick interference, and of rows that can be taken.
 use Rattle.std.proofs.Common.{◌≡◌, ℕ, zero, suc, ◌+◌, ◌<◌, ◌≤◌, true, false, [], ◌∷◌, refl, arith, Some, None}
 use Rattle.sporadic_model.specs.SetDef.{SetDef, task_at}
 use Rattle.schedule_model.specs.JobDef.{JobsDef, job_of}
@@ -73,6 +73,6 @@ unfolding phase_of phase_from executed runs_in is_pending is_next is_active is_d
     is_shared_interference is_dpcp_interference is_interferer
 interferers_of_one = refl
 
--- A row in which a job stands in two columns can't be taken.
+-- A row in which a job is in two columns can't be taken.
 pub twice_not_taken : CanBeTaken trace_twice 0 → ⊥
 twice_not_taken taken = let same : ◌≡◌ {A = ℕ} 1 2 = taken.one_column 1 2 0 refl refl in omega arith

@@ -76,7 +76,7 @@ within_from set job h =
       lengths = three.1;
     }
 
--- What it says that a job isn't late.
+-- What it says if a job isn't late.
 pub in_time_from : (set : SetDef) (job : JobDef) → is_late set job ≡ false
     → (job.arrival ≤ job.release) × (job.release ≤ job.arrival + (task_at set job.task).jitter)
 unfolding is_late
@@ -172,7 +172,7 @@ each_more P jobs job old new j l = elim (cases_lt j (length jobs)) [
 pub segments_more : (jobs : List JobDef) (job : JobDef) → segment_count (jobs ++ job ∷ []) ≡ segment_count jobs + length job.script
 segments_more jobs job = sum_by-append (λ (j : JobDef). length j.script) jobs (job ∷ []) ∙ omega arith
 
--- Any two jobs of one task are a period apart, the new one among them.
+-- Any two jobs of one task are a period apart, also with the new one.
 apart_more : (jobs : JobsDef) (job : JobDef) → AreLawfulJobs jobs → IsApart jobs job
     → (a b : ℕ) → a < b → b < length (jobs.jobs ++ job ∷ [])
     → (job_of (jobs.jobs ++ job ∷ []) a).task ≡ (job_of (jobs.jobs ++ job ∷ []) b).task
@@ -198,7 +198,7 @@ lawful_more jobs job lawful task resources none =
       apart = apart_more jobs job lawful (apart_from jobs job accepted.apart);
     }
 
--- What it says that there is room for a job.
+-- What it says if there is room for a job.
 room_from : (jobs : List JobDef) (job : JobDef) → is_too_many jobs job ≡ false
     → (length jobs < MOST_JOBS) × (segment_count jobs + length job.script ≤ MOST_SEGMENTS)
 unfolding is_too_many
@@ -207,7 +207,7 @@ room_from jobs job h =
     or_parts (leb MOST_JOBS (length jobs)) (ltb MOST_SEGMENTS (segment_count jobs + length job.script)) h in
     (leb-false _ _ parts.0, ltb-false _ _ parts.1)
 
--- And it stays within the limits.
+-- It stays within the limits too.
 pub listed_more : (jobs : JobsDef) (job : JobDef) → IsJobList jobs → first_refusal jobs job ≡ None → IsJobList (with_job jobs job)
 listed_more jobs job listed none =
     let accepted = accepted_from jobs job none in
@@ -220,7 +220,7 @@ listed_more jobs job listed none =
       segments = omega (arith, room.1, segments_more jobs.jobs job);
     }
 
--- A job for which no refusal is due fits behind the others.
+-- A job for which no refusal is due fits at the end of the others.
 pub fits_from : (jobs : JobsDef) (job : JobDef) → length jobs.set.resources ≤ MOST_RESOURCES
     → list_all (is_resource_in (length jobs.set.resources)) job.script ≡ true
     → first_refusal jobs job ≡ None → FitsBehind jobs.jobs job

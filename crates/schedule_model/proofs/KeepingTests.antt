@@ -45,12 +45,12 @@ passes_of p all rule.Priority = all.priority
 pub each_rule-passes : (p : Rule → Bool) → each_rule p ≡ true → (r : Rule) → p r ≡ true
 each_rule-passes p h r = passes_of p (all_pass p h) r
 
--- Where each test of the rows before tick n passes, these rows keep the rules.
+-- If each test of the rows before tick n passes, these rows keep the rules.
 pub keeps_from : (keeps : Rule → Trace → ℕ → Type 0) (w : Trace) (p : ℕ → Rule → Bool) → ((t : ℕ) (r : Rule) → p t r ≡ true → keeps r w t)
     → (n : ℕ) → all_below n (λ t. each_rule (p t)) ≡ true → KeepsBefore keeps w n
 keeps_from keeps w p sound n h t l r = sound t r (each_rule-passes (p t) (all_below-each n (λ u. each_rule (p u)) h t l) r)
 
--- Where each test before rule r passes and r is broken, r is the first that is.
+-- If each test before rule r passes and r is broken, r is the first that is.
 pub breaks_from : (keeps : Rule → Trace → ℕ → Type 0) (w : Trace) (p : ℕ → Rule → Bool) → ((t : ℕ) (r : Rule) → p t r ≡ true → keeps r w t)
     → (t : ℕ) (r : Rule) → each_earlier r (p t) ≡ true → (keeps r w t → ⊥) → Breaks keeps w t r
 breaks_from keeps w p sound t r h broken = record {
@@ -59,7 +59,7 @@ breaks_from keeps w p sound t r h broken = record {
   broken = broken;
 }
 
--- Where the rows before tick t pass, and t is the first to break a rule.
+-- If the rows before tick t pass, and t is the first to break a rule.
 pub first_from : (keeps : Rule → Trace → ℕ → Type 0) (w : Trace) (p : ℕ → Rule → Bool) → ((t : ℕ) (r : Rule) → p t r ≡ true → keeps r w t)
     → (n t : ℕ) (r : Rule) → t < n → all_below t (λ u. each_rule (p u)) ≡ true → each_earlier r (p t) ≡ true
     → (keeps r w t → ⊥) → IsFirstUnlawful keeps w n t r

@@ -1,4 +1,4 @@
--- Jobs in small form: how many they and their segments are, which stands where, and what one more adds.
+-- Jobs in small form: how many jobs and segments there are, which is where, and what one more job adds.
 use Rattle.std.proofs.Common.{◌≡◌, ℕ, zero, suc, ◌+◌, ◌-◌, ◌<◌, ◌≤◌, ◌==◌, ◌++◌, false, List, [], ◌∷◌, length, get_or}
 use Rattle.std.proofs.Common.{refl, ◌∙◌, ap, arith, drop, None}
 use Rattle.std.proofs.lemmas.List.{take-append-le, drop-append-le, length-take-le, length-drop}
@@ -9,13 +9,13 @@ use Rattle.schedule_model.specs.JobLists.{last_arrival, segment_count}
 use Rattle.schedule_model.specs.Kept.{between, kept_job, kept_jobs, start_of, Rise}
 use Rattle.schedule_model.specs.declared.kept_jobs.KeptJob.{KeptJob}
 
--- Between two places within a list stand as many as they are apart.
+-- Between two places within a list there are as many segments as the places are apart.
 pub between-length : (from end : ℕ) (segments : List SegmentDef) → from ≤ end → end ≤ length segments
     → length (between from end segments) ≡ end - from
 between-length from end segments o w =
     length-take-le (end - from) (drop from segments) (omega (arith, length-drop from segments)) ∙ refl
 
--- What stands behind a list doesn't matter to the places within it.
+-- What comes after a list doesn't matter to the places within it.
 between-append : (from end : ℕ) (segments more : List SegmentDef) → from ≤ end → end ≤ length segments
     → between from end (segments ++ more) ≡ between from end segments
 between-append from end segments more o w =
@@ -58,7 +58,7 @@ pub start_of-first : (from : ℕ) (jobs : List KeptJob) → from ≡ start_of fr
 start_of-first from [] = refl
 start_of-first from (job ∷ jobs) = refl
 
--- The segments of a job behind the first begin where those of the one before it end.
+-- The segments of a job after the first begin where those of the one before it end.
 pub start_of-next : (from : ℕ) (jobs : List KeptJob) (j : ℕ) (d : KeptJob) → j < length jobs
     → start_of from jobs (suc j) ≡ (get_or jobs j d).end
 start_of-next from [] j d l = absurd (omega arith)
@@ -66,7 +66,7 @@ start_of-next from (job ∷ []) zero d l = refl
 start_of-next from (job ∷ next ∷ jobs) zero d l = refl
 start_of-next from (job ∷ jobs) (suc j) d l = start_of-next job.end jobs j d (omega arith)
 
--- The jobs have as many segments as stand between where the first begin and where the last end.
+-- The jobs have as many segments as there are between where the first begin and where the last end.
 pub kept_jobs-count : (segments : List SegmentDef) (from : ℕ) (jobs : List KeptJob) (last : ℕ) → Rise from jobs last
     → last ≤ length segments → segment_count (kept_jobs segments from jobs) + from ≡ last
 kept_jobs-count segments from [] last h l = omega (arith, h)
@@ -79,7 +79,7 @@ kept_jobs-count segments from (job ∷ jobs) last h l =
       kept_jobs-count segments job.end jobs last h.1 l,
     )
 
--- One more job, whose segments stand behind those of the others.
+-- One more job, whose segments come after those of the others.
 pub kept_jobs-more : (segments more : List SegmentDef) (from : ℕ) (jobs : List KeptJob) (job : KeptJob)
     → Rise from jobs (length segments) → job.end ≡ length segments + length more
     → kept_jobs (segments ++ more) from (jobs ++ job ∷ [])
@@ -90,7 +90,7 @@ kept_jobs-more segments more from (first ∷ jobs) job h e =
     let within : first.end ≤ length segments = Rise-order first.end jobs (length segments) h.1 in
     rw (between-append from first.end segments more h.0 within, kept_jobs-more segments more first.end jobs job h.1 e) refl
 
--- The last arrivals don't hang on the segments.
+-- The last arrivals don't depend on the segments.
 pub last_arrival-scripts : (s t : List SegmentDef) (a b : ℕ) (jobs : List KeptJob) (x : ℕ)
     → last_arrival (kept_jobs s a jobs) x ≡ last_arrival (kept_jobs t b jobs) x
 last_arrival-scripts s t a b [] x = refl

@@ -1,4 +1,4 @@
--- Segments that three lists make: how many they are, which stands where, and what more of them add.
+-- The segments of three lists: how many there are, which is where, and what more of them add.
 use Rattle.std.proofs.Common.{◌≡◌, ℕ, zero, suc, ◌<◌, ◌==◌, ◌++◌, true, false, List, [], ◌∷◌, map, length, get_or, refl}
 use Rattle.std.proofs.Common.{ap, arith, inl, inr, Option, Some, None}
 use Rattle.std.specs.Option.{option_map_or}
@@ -29,7 +29,7 @@ kept_segments-at (l ∷ ls) (x ∷ ts) (y ∷ qs) zero a b c t q m = refl
 kept_segments-at (l ∷ ls) (x ∷ ts) (y ∷ qs) (suc n) a b c t q m =
     kept_segments-at ls ts qs n a b c (omega arith) (omega arith) (omega arith)
 
--- A request takes a tick where its segment is one that a list takes.
+-- A request takes a tick if its segment is one that a list takes.
 request_some : (l : ℕ) (r : ℕ × ℕ) → is_listed_segment (record { local = l; request = Some r }) ≡ true → (r.1 == 0) ≡ false
 request_some l r h =
     let parts : (is_in_range 1 MOST_TICKS l ≡ true) × (is_in_range 1 MOST_TICKS r.1 ≡ true) =
@@ -53,7 +53,7 @@ kept_segments-same (s ∷ ss) h =
     and_parts (is_listed_segment s) (list_all is_listed_segment ss) h in
     rw (kept_segment-same s.local s.request parts.0, kept_segments-same ss parts.1) refl
 
--- The numbers of further segments behind those of the first ones add these segments.
+-- If the numbers of further segments come after those of the first ones, these segments are added.
 pub kept_segments-append : (ls ts qs : List ℕ) (ss : List SegmentDef) → length ts ≡ length ls → length qs ≡ length ls
     → list_all is_listed_segment ss ≡ true
     → kept_segments (ls ++ map (λ s. s.local) ss) (ts ++ map request_ticks ss) (qs ++ map requested ss)

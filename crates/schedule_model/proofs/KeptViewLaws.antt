@@ -19,7 +19,7 @@ pub kept_view-count : (l : JobsInside) → AreJobsKept l → segment_count (kept
 kept_view-count l kept =
     omega (arith, kept_jobs-count l.segments 0 l.jobs.items (length l.segments) kept.ends (omega arith))
 
--- The segments of each job stand in order, among all.
+-- The segments of each job are in order, among all.
 pub kept_view-at : (l : JobsInside) (j : ℕ) (d : KeptJob) → AreJobsKept l → j < length (kept_view l)
     → (start_of 0 l.jobs.items j ≤ (get_or l.jobs.items j d).end) × ((get_or l.jobs.items j d).end ≤ length l.segments)
 kept_view-at l j d kept within =

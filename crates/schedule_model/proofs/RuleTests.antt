@@ -1,4 +1,4 @@
--- Each rule as a test that computes, for the worked examples: where the test passes, the rule is kept.
+-- Each rule as a test that computes, for the worked examples. If the test passes, the rule is kept.
 use Rattle.std.proofs.Common.{◌≡◌, ◌≢◌, ℕ, zero, suc, ◌<◌, ◌≤◌, ◌==◌, ◌&&◌, ◌||◌, not, Bool, true, false, List, length}
 use Rattle.std.proofs.Common.{get_or, refl, ap, ◌∙◌, inl, inr, Option, Some, None, is_some, leb}
 use Rattle.std.specs.Option.{option_map_or}
@@ -16,7 +16,7 @@ use Rattle.schedule_model.specs.Protocols.{shared_rule}
 use Rattle.schedule_model.specs.SharedRules as shared
 use Rattle.schedule_model.specs.SharedRules.{Ranks}
 
--- What is told of each named place of a list is told of the place that names j.
+-- What is true of each named place of a list is true of the place that names j.
 abbrev pub each_place : List (Option ℕ) → (ℕ → ℕ → Bool) → Bool
 each_place places p = all_below (length places) (λ c. option_map_or (p c) (get_or places c None) true)
 
@@ -45,12 +45,12 @@ pub before_named : (w : Trace) (t : ℕ) (p : ℕ → ℕ → Bool) → each_bef
 before_named w zero p h q j e = absurd (cc)
 before_named w (suc u) p h q j e = place_named (w.row u).holders p h q j e
 
--- A place passes for j where it names j.
+-- A place passes for j if it names j.
 pub job_named : (j : ℕ) (o : Option ℕ) → is_job j o ≡ true → o ≡ Some j
 job_named j None h = absurd (cc)
 job_named j (Some i) h = ap (λ k. Some k) (eqb-true i j h)
 
--- A test that says 'if a then b' gives b where a passes.
+-- A test that says 'if a then b' gives b if a passes.
 pub then_true : (a b : Bool) → (not a || b) ≡ true → a ≡ true → b ≡ true
 then_true true b h e = h
 then_true false b h e = absurd (cc)

@@ -1,4 +1,4 @@
--- The tests of a script over its segments as they lie in memory, and over the records that contracts see.
+-- The tests of a script over its segments in memory, and over the records that contracts see.
 use Rattle.std.proofs.Common.{◌≡◌, ℕ, ◌<◌, ◌≤◌, ◌-◌, ◌==◌, ◌&&◌, not, Bool, true, false, List, [], ◌∷◌, map, length}
 use Rattle.std.proofs.Common.{take, get_or, refl, sym, ◌∙◌, arith, inl, inr, Option, Some, None, is_some, option_map}
 use Rattle.std.proofs.Common.{nat_lt, nat_le, cond}
@@ -17,7 +17,7 @@ use Rattle.schedule_model.specs.JobLists.{is_listed_segment, is_listed_script}
 use Rattle.schedule_model.specs.Seen.{segment_seen}
 use Rattle.schedule_model.specs.declared.job.Segment.{Segment}
 
--- Where each element of a list passes a test, so does the one at a place.
+-- If each element of a list passes a test, so does the one at a place.
 pub list_all-each : {X : Type 0} (p : X → Bool) → (xs : List X) (i : ℕ) (d : X) → i < length xs → list_all p xs ≡ true
     → p (get_or xs i d) ≡ true
 list_all-each p xs i d l h = elim (cases_Bool (p (get_or xs i d))) [
@@ -33,7 +33,7 @@ requests-seen : (xs : List Segment) → list_all (λ s. is_some s.request) (map 
 requests-seen [] = refl
 requests-seen (s ∷ xs) = rw (is_some-map {B = ℕ × ℕ} (λ (r : ResourceId × ℕ). (r.0.0, r.1)) s.request, requests-seen xs) refl
 
--- A script as it lies in memory passes where its records do.
+-- A script in memory passes if its records do.
 pub is_listed_script-seen : (xs : List Segment) → is_listed_script (map segment_seen xs)
     ≡ (not (length xs == 0) && (list_all (λ s. is_listed_segment (segment_seen s)) xs
     && list_all (λ s. is_some s.request) (take (length xs - 1) xs)))
@@ -45,19 +45,19 @@ is_listed_script-seen xs =
       requests-seen (take (length xs - 1) xs),
     ) refl
 
--- A script as it lies in memory: what its three tests answer, together.
+-- A script in memory: what its three tests answer, together.
 pub is_listed_script-from : (xs : List Segment) (b c d : Bool) → (length xs == 0) ≡ b
     → list_all (λ s. is_listed_segment (segment_seen s)) xs ≡ c
     → list_all (λ s. is_some s.request) (take (length xs - 1) xs) ≡ d
     → is_listed_script (map segment_seen xs) ≡ (not b && (c && d))
 is_listed_script-from xs b c d e f g = is_listed_script-seen xs ∙ rw (e, f, g) refl
 
--- Where each segment's record passes a test, so does that of the one at a place.
+-- If each segment's record passes a test, so does that of the one at a place.
 pub segment-each : (p : SegmentDef → Bool) → (xs : List Segment) (i : ℕ) (d : Segment) → i < length xs
     → list_all p (map segment_seen xs) ≡ true → p (segment_seen (get_or xs i d)) ≡ true
 segment-each p xs i d l h = list_all-each (λ (s : Segment). p (segment_seen s)) xs i d l (sym (list_all-map p segment_seen xs) ∙ h)
 
--- The resource that a segment requests is in range where all are.
+-- The resource that a segment requests is in range if all are.
 pub resource_at-each : (n : ℕ) (xs : List Segment) (i : ℕ) (d : Segment) → i < length xs
     → list_all (is_resource_in n) (map segment_seen xs) ≡ true → is_resource_in n (segment_seen (get_or xs i d)) ≡ true
 resource_at-each n xs i d l h = segment-each (is_resource_in n) xs i d l h
@@ -95,7 +95,7 @@ number_of_requests-past n q (s ∷ script) l h =
     let here : asks_for q s ≡ false = asks_for-past n q s.request l parts.0 in
     sum_by-cons (λ (r : SegmentDef). cond (asks_for q r) 1 0) s script ∙ rw (here, number_of_requests-past n q script l parts.1) refl
 
--- What is from 1 is above 0.
+-- A number from 1 on is above 0.
 pub from_one : (n : ℕ) → is_in_range 1 MOST_TICKS n ≡ true → nat_lt 0 n ≡ true
 from_one n h = let parts : (nat_le 1 n ≡ true) × (nat_le n MOST_TICKS ≡ true) = and_parts _ _ h in
     lt-ltb 0 n (omega (arith, leb-true _ _ parts.0))
@@ -115,7 +115,7 @@ segments_from (s ∷ script) h =
     and_from (is_segment s) (list_all is_segment script)
     (and_from _ _ (from_one s.local numbers.0) (from_one_where s.request numbers.1)) (segments_from script parts.1)
 
--- What it says that a list takes a script.
+-- What it says if a list takes a script.
 pub listed_script-parts : (script : List SegmentDef) → is_listed_script script ≡ true
     → (not (length script == 0) ≡ true)
     × (list_all is_listed_segment script ≡ true)

@@ -71,7 +71,7 @@ unfolding phase_of phase_from executed runs_in is_pending is_next is_active is_r
 chosen_keeps_fmlp = keeps_from (shared_rule fmlp_plus) trace_chosen (passes_shared fmlp_plus trace_chosen)
     (shared_from fmlp_plus trace_chosen) 5 refl
 
--- Its rows are the chosen ones, under both protocols; the row at tick 1 above, which grants to the lower task, isn't.
+-- Its rows are the chosen ones, under both protocols. The row at tick 1 above, which grants to the lower task, isn't.
 pub chosen_by_fmlp : (t : ℕ) → t < 5 → IsSharedChoice fmlp_plus trace_chosen t
 unfolding phase_of phase_from executed runs_in is_pending is_next is_active is_requester issue_tick_of is_active_local
     is_ready_holder is_ready fmlp_plus
@@ -94,8 +94,8 @@ unfolding phase_of phase_from executed runs_in is_pending is_next is_active is_d
     measures_of
 measures_of_chosen = refl
 
--- A job that is released past the last row counts for nothing. One that was released at tick 2 and never runs is blocked at all
--- ticks from then on, and gives no response.
+-- A job that is released past the last row doesn't count. A job that was released at tick 2 and never runs is blocked at all ticks from
+-- then on, and has no response.
 pub measures_of_late : measures_of is_shared_interference trace_late 5 0 ∷ measures_of is_shared_interference trace_late 5 1 ∷ []
     ≡ record { finished = 0; response = None; blocking = 0 } ∷ record { finished = 0; response = None; blocking = 3 } ∷ []
 unfolding phase_of phase_from executed runs_in is_pending is_next is_active is_delayed runs_higher
@@ -163,9 +163,8 @@ priority_broken = first_from (shared_rule fmlp_plus) trace_priority (passes_shar
       none (suc zero) l = refl
       none (suc (suc i)) l = absurd (omega arith)
 
--- Two ready holders on one processor, at tick 2. Task 2's resource has the higher ceiling of all users, task 3's
--- that of the users on other processors; and task 3's request was issued earlier. So both protocols run task 3's
--- job, and neither runs task 2's.
+-- Two ready holders on one processor, at tick 2. Task 2's resource has the higher ceiling of all users, and task 3's that of the users on
+-- other processors. And task 3's request was issued earlier. So both protocols run task 3's job, and neither runs task 2's.
 pub boost_keeps_mpcp : KeepsBefore (shared_rule mpcp) (trace_boost 2) 3
 unfolding phase_of phase_from executed runs_in is_pending is_next is_active is_requester issue_tick_of is_active_local
     is_ready_holder is_ready mpcp

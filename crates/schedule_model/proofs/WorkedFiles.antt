@@ -31,21 +31,21 @@ jittery name processor period cost jitter = record {
   requests = [];
 }
 
--- One request of the resource of this name, for so many ticks.
+-- One request of the resource of this name, for this many ticks.
 abbrev pub once : ℕ → ℕ → RequestDef
 once name length = record { resource = name ∷ []; count = 1; length = length }
 
 abbrev pub resource : ℕ → Option ℕ → ResourceDef
 resource name home = record { name = name ∷ []; home = home }
 
--- Local ticks, then a request of resource q for so many ticks; and local ticks alone.
+-- Local ticks, then a request of resource q for a number of ticks. And local ticks alone.
 abbrev pub then_request : ℕ → ℕ → ℕ → SegmentDef
 then_request local q length = record { local = local; request = Some (q, length) }
 
 abbrev pub local_only : ℕ → SegmentDef
 local_only local = record { local = local; request = None }
 
--- A job that is released as it arrives, and one that isn't.
+-- A job that is released when it arrives, and one that isn't.
 abbrev pub job : ℕ → ℕ → List SegmentDef → JobDef
 job task release script = record { task = task; arrival = release; release = release; script = script }
 
@@ -55,7 +55,7 @@ held_job task arrival release script = record { task = task; arrival = arrival; 
 abbrev pub run : ℕ → List (Option ℕ) → List (Option ℕ) → RunDef
 run ticks running holders = record { ticks = ticks; row = record { running = running; holders = holders } }
 
--- Two tasks on processors of their own that use one resource (named 113), of home 2.
+-- Two tasks on processors of their own that use one resource (named 113) of home 2.
 abbrev pub set_a : SetDef
 set_a = record {
   processors = 2;
@@ -80,7 +80,7 @@ rows_a =
 abbrev pub trace_a : Trace
 trace_a = trace_in jobs_a rows_a
 
--- The same jobs where the first is served first: each row is the chosen one.
+-- The same jobs, with the first job served first. Each row is the chosen one.
 abbrev pub rows_chosen : List RunDef
 rows_chosen =
     run 1 (Some 0 ∷ Some 1 ∷ []) (None ∷ [])
@@ -134,8 +134,8 @@ jobs_five = record { set = set_five; jobs = job 0 0 (local_only 2 ∷ []) ∷ jo
 abbrev pub trace_priority : Trace
 trace_priority = trace_in jobs_five (run 1 (Some 1 ∷ None ∷ []) (None ∷ []) ∷ [])
 
--- Resource 0 has its highest user on processor 1, and its highest user elsewhere is task 4; resource 1 has its
--- highest user on processor 2.
+-- The highest user of resource 0 is on processor 1, and its highest user elsewhere is task 4. The highest user of resource 1 is on
+-- processor 2.
 abbrev pub set_boost : SetDef
 set_boost = record {
   processors = 2;

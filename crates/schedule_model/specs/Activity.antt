@@ -7,7 +7,7 @@ use Rattle.schedule_model.specs.RowDef.{Trace, is_job, holder_in}
 use Rattle.schedule_model.specs.Phase.{Phase, is_local, is_finished, is_asking, is_same_request, phase_of}
 use Rattle.schedule_model.specs.Phase.Phase.{Asking}
 
--- The task of job j. The lower number is the higher task.
+-- The task of job j. A lower number is a higher task.
 abbrev pub task_of : Trace → ℕ → ℕ
 task_of w j = (job_of w.jobs j).task
 
@@ -31,7 +31,7 @@ is_active w t j = is_pending w t j && is_next w t j
 unfoldable pub is_active_job_of : Trace → ℕ → ℕ → ℕ → Bool
 is_active_job_of w t x j = is_active w t j && (task_of w j == x)
 
--- Which job of task x is active at tick t, where one is? No two are.
+-- Which job of task x is active at tick t? There is at most one.
 unfoldable pub active_job_of : Trace → ℕ → ℕ → Option ℕ
 active_job_of w t x = found_below (length w.jobs) (is_active_job_of w t x)
 
@@ -39,12 +39,11 @@ active_job_of w t x = found_below (length w.jobs) (is_active_job_of w t x)
 unfoldable pub is_requester : Trace → ℕ → ℕ → ℕ → Bool
 is_requester w t q j = is_active w t j && is_asking q (phase_of w t j)
 
--- At which tick was the request issued that job j is in at tick t? It is the first one at which that
--- request was its phase.
+-- At which tick was the request issued that job j is in at tick t? It is the first tick at which that request was j's phase.
 unfoldable pub issue_tick_of : Trace → ℕ → ℕ → ℕ
 issue_tick_of w t j = first_below t (λ u. is_same_request (phase_of w u j) (phase_of w t j))
 
--- Where the resources have these holders: does job j, in this phase, hold what it requests?
+-- Let the resources have these holders. Does job j, in this phase, hold the resource that it requests?
 abbrev pub holds_by : (ℕ → Option ℕ) → ℕ → Phase → Bool
 holds_by holder j (Asking n q) = is_job j (holder q)
 holds_by holder j _ = false
@@ -61,10 +60,10 @@ is_ready_holder w t j = is_active w t j && holds_by (holder_in (w.row t)) j (pha
 unfoldable pub is_ready : Trace → ℕ → ℕ → Bool
 is_ready w t j = is_active_local w t j || is_ready_holder w t j
 
--- Is this true of each job of processor k's tasks?
+-- Is this true of each job of the tasks of processor k?
 abbrev pub EachJobOf : Trace → ℕ → (ℕ → Type 0) → Type 0
 EachJobOf w k P = (i : ℕ) → i < length w.jobs → processor_of w i ≡ k → P i
 
--- Is no active Local job of processor k's tasks of a higher task than job r?
+-- Is no active Local job on processor k of a higher task than job r?
 abbrev pub NoLocalIsHigher : Trace → ℕ → ℕ → ℕ → Type 0
 NoLocalIsHigher w t k r = EachJobOf w k (λ i. is_active_local w t i ≡ true → task_of w r ≤ task_of w i)

@@ -1,5 +1,4 @@
--- What a tick is for a job that is active: it executes, or it is delayed by higher tasks of its processor, or
--- it is blocked.
+-- What a tick is for an active job: the job executes, or higher tasks of its processor delay it (interference), or it is blocked.
 use Rattle.std.specs.Prelude.{ℕ, ◌&&◌, not, Bool, false}
 use Rattle.std.specs.Option.{option_map_or}
 use Rattle.sporadic_model.specs.SetDef.{is_higher_local}
@@ -25,19 +24,19 @@ runs_higher_local w t j =
     option_map_or (λ r. is_higher_local w.set (task_of w j) (task_of w r) && is_local (phase_of w t r))
     (running_on (w.row t) (processor_of w j)) false
 
--- Is tick t interference for job j? Under shared memory any higher job of its processor interferes; under
--- DPCP only a Local one, for a request there serves its resource.
+-- Is tick t interference for job j? Under shared memory any running job of a higher task of its processor interferes. Under DPCP only a
+-- Local one does, since a request that runs there serves its resource.
 unfoldable pub is_shared_interference : Trace → ℕ → ℕ → Bool
 is_shared_interference w t j = is_delayed w t j && runs_higher w t j
 
 unfoldable pub is_dpcp_interference : Trace → ℕ → ℕ → Bool
 is_dpcp_interference w t j = is_delayed w t j && runs_higher_local w t j
 
--- Does job y make tick t interference for job j, where these ticks are interference: is the tick, and does y run on
--- j's processor?
+-- Does job y make tick t interference for job j? It does if the tick is interference for j, and y runs on j's processor. The first argument
+-- says which ticks are interference.
 unfoldable pub is_interferer : (Trace → ℕ → ℕ → Bool) → Trace → ℕ → ℕ → ℕ → Bool
 is_interferer interferes w t j y = interferes w t j && is_job y (running_on (w.row t) (processor_of w j))
 
--- Is job j blocked at tick t, where these ticks are interference: active, not running, and not interfered with?
+-- Is job j blocked at tick t: active, not running, and the tick isn't interference? The first argument says which ticks are interference.
 unfoldable pub is_blocked : (Trace → ℕ → ℕ → Bool) → Trace → ℕ → ℕ → Bool
 is_blocked interferes w t j = is_delayed w t j && not (interferes w t j)

@@ -1,4 +1,4 @@
--- What a protocol keeps and chooses, and the ticks that are interference under it, by its name.
+-- The rules, the chosen row and the interference of each protocol, by its name.
 use Rattle.std.specs.Prelude.{ℕ, Bool}
 use Rattle.sporadic_model.specs.declared.ids.Protocol.{Protocol}
 use Rattle.sporadic_model.specs.declared.ids.Protocol.TheVariants as protocol

@@ -1,5 +1,5 @@
--- The row that is chosen where the rules leave several: each new holder and each running job is of the
--- highest task that the rules allow there.
+-- Where the rules leave several rows, one of them is chosen. Each new holder and each running job is of the highest task that the rules
+-- allow there.
 use Rattle.std.specs.Prelude.{◌≡◌, ◌≢◌, ℕ, ◌<◌, ◌≤◌, true, length, Some}
 use Rattle.sporadic_model.specs.SetDef.{SetDef}
 use Rattle.schedule_model.specs.RowDef.{Trace, RowDef, running_on, holder_in, held_before}
@@ -13,14 +13,14 @@ pub record IsSized (set : SetDef) (row : RowDef) : Type 0 where
   pub processors : length row.running ≡ set.processors
   pub resources : length row.holders ≡ length set.resources
 
--- Of the requesters of a resource that go equally first, is the one that becomes the holder of the highest task?
+-- Among the requesters of a resource that go equally first, is the new holder of the highest task?
 abbrev pub GrantsHighest : (Trace → ℕ → ℕ → ℕ) → Trace → ℕ → Type 0
 GrantsHighest rank w t = (q j : ℕ) → holder_in (w.row t) q ≡ Some j → held_before w t q ≢ Some j
     → (i : ℕ) → i < length w.jobs → is_requester w t q i ≡ true → rank w t i ≡ rank w t j → task_of w j ≤ task_of w i
 
--- Under an order of grants and runs: of the requesters of a resource that go equally first, the one of the
--- highest task becomes the holder; of the ready holders on a processor that go equally first, the one of the
--- highest task runs. All else is settled by the rules.
+-- The chosen row of a shared-memory protocol with these orders. Among the requesters of a resource that go equally first, the one of the
+-- highest task becomes the holder. Among the ready holders on a processor that go equally first, the one of the highest task runs. The
+-- rules settle all else.
 pub record IsSharedChoice (o : Ranks) (w : Trace) (t : ℕ) : Type 0 where
   pub sized : IsSized w.set (w.row t)
   pub keeps : KeepsRow (shared_rule o) w t
@@ -29,7 +29,7 @@ pub record IsSharedChoice (o : Ranks) (w : Trace) (t : ℕ) : Type 0 where
       → (i : ℕ) → i < length w.jobs → processor_of w i ≡ k → is_ready_holder w t i ≡ true → o.run w t i ≡ o.run w t r
       → task_of w r ≤ task_of w i
 
--- The rules of DPCP leave one row.
+-- The rules of DPCP leave at most one row.
 pub record IsDpcpChoice (w : Trace) (t : ℕ) : Type 0 where
   pub sized : IsSized w.set (w.row t)
   pub keeps : KeepsRow dpcp_rule w t

@@ -15,11 +15,11 @@ use Rattle.schedule_model.specs.declared.limits.TheConstants.{MOST_JOBS, MOST_SE
 use Rattle.schedule_model.specs.declared.refusal.JobRefusal.{JobRefusal}
 use Rattle.schedule_model.specs.declared.refusal.JobRefusal.TheVariants as refusal
 
--- Are the segment's local ticks, and its request's length where it has one, from 1 to 10^9?
+-- Are the segment's local ticks from 1 to 10^9, and those of its request, if it has one?
 abbrev pub is_listed_segment : SegmentDef → Bool
 is_listed_segment s = is_in_range 1 MOST_TICKS s.local && option_map_or (λ r. is_in_range 1 MOST_TICKS r.1) s.request true
 
--- Is it a script that a list takes: one or more such segments, of which only the last may lack a request?
+-- Does a list take the script: one or more such segments, of which only the last may lack a request?
 abbrev pub is_listed_script : List SegmentDef → Bool
 is_listed_script script =
     not (length script == 0) && (list_all is_listed_segment script && list_all (λ s. is_some s.request) (take (length script - 1) script))
@@ -28,16 +28,16 @@ is_listed_script script =
 abbrev pub segment_count : List JobDef → ℕ
 segment_count jobs = sum_by (λ job. length job.script) jobs
 
--- The limits of every list of jobs, beside that its jobs are lawful: each number of a script is at most 10^9, and so is
--- each release; there are at most 100,000 jobs, with at most 1,000,000 segments in all.
+-- The limits of every list of jobs, besides that its jobs are lawful. Each number of a script is at most 10^9, and so is each release.
+-- There are at most 100,000 jobs, with at most 1,000,000 segments in all.
 pub record IsJobList (jobs : JobsDef) : Type 0 where
   pub scripts : (j : ℕ) → j < length jobs.jobs → is_listed_script (job_of jobs.jobs j).script ≡ true
   pub release : (j : ℕ) → j < length jobs.jobs → (job_of jobs.jobs j).release ≤ MOST_TICKS
   pub most : length jobs.jobs ≤ MOST_JOBS
   pub segments : segment_count jobs.jobs ≤ MOST_SEGMENTS
 
--- Does the job stay within its task's budget: its ticks within the cost, its local ticks within the local
--- limit, its requests of each resource within the count, and each of them within the length?
+-- Does the job stay within its task's budget? Its ticks are at most the cost, and its local ticks at most the local limit. Its requests of
+-- each resource are at most the count, and each of them is at most the length.
 unfoldable pub is_within_budget : SetDef → JobDef → Bool
 is_within_budget set job =
     nat_le (total_ticks job.script) (task_at set job.task).cost
@@ -45,7 +45,7 @@ is_within_budget set job =
     && (all_below (length set.resources) (λ q. nat_le (number_of_requests job.script q) (count_of set job.task q))
     && list_all (is_length_kept set job.task) job.script))
 
--- When did the last listed job of task x arrive, if it has one?
+-- When did the last listed job of task x arrive? None if the task has no listed job.
 abbrev pub last_arrival : List JobDef → ℕ → Option ℕ
 last_arrival [] x = None
 last_arrival (job ∷ jobs) x = option_or (last_arrival jobs x) (if job.task == x then Some job.arrival else None)
@@ -60,11 +60,11 @@ is_too_close jobs job =
 unfoldable pub is_too_many : List JobDef → JobDef → Bool
 is_too_many jobs job = nat_le MOST_JOBS (length jobs) || nat_lt MOST_SEGMENTS (segment_count jobs + length job.script)
 
--- Is the job released before it arrives, or later than its task's jitter lets it be?
+-- Is the job released before it arrives, or later than its task's jitter allows?
 unfoldable pub is_late : SetDef → JobDef → Bool
 is_late set job = nat_lt job.release job.arrival || nat_lt (job.arrival + (task_at set job.task).jitter) job.release
 
--- Is the refusal due for the job, after these jobs?
+-- Is the refusal due for the job behind these jobs?
 abbrev pub is_due : JobsDef → JobDef → JobRefusal → Bool
 is_due jobs job refusal.Script = not (is_listed_script job.script)
 is_due jobs job refusal.OverBudget = not (is_within_budget jobs.set job)
@@ -84,8 +84,8 @@ first_refusal jobs job = find (is_due jobs job) refusals_in_order
 abbrev pub with_job : JobsDef → JobDef → JobsDef
 with_job jobs job = record { set = jobs.set; jobs = jobs.jobs ++ job ∷ [] }
 
--- What the answer on a job says: it stands at the end of the list; or it is refused for the first reason that
--- is due, and the list is as it was. Only want of memory says nothing of the job.
+-- What the answer on a job says. Either the job is at the end of the list. Or it is refused for the first reason that is due, and the list
+-- is as it was. Only want of memory says nothing of the job.
 abbrev pub JobJudged : {T : Type 0} → Result T JobRefusal → JobsDef → JobsDef → JobDef → Type 0
 JobJudged (Ok _) before after job = (first_refusal before job ≡ None) × (after ≡ with_job before job)
 JobJudged (Err refusal.Memory) before after job = after ≡ before

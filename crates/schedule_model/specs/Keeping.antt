@@ -1,10 +1,10 @@
--- Which schedules keep the rules of a protocol, and where one is broken first.
+-- Which schedules keep the rules of a protocol, and where is a rule broken first?
 use Rattle.std.specs.Prelude.{ℕ, ◌<◌}
 use Rattle.schedule_model.specs.RowDef.{Trace}
 use Rattle.schedule_model.specs.declared.rule.Rule.{Rule}
 use Rattle.schedule_model.specs.declared.rule.Rule.TheVariants as rule
 
--- The number of a rule, in the order in which they are tried.
+-- The number of a rule, in the order of trying.
 abbrev pub rule_number : Rule → ℕ
 rule_number rule.Run = 1
 rule_number rule.Keep = 2
@@ -25,7 +25,7 @@ pub record Breaks (keeps : Rule → Trace → ℕ → Type 0) (w : Trace) (t : �
   pub earlier : (s : Rule) → rule_number s < rule_number r → keeps s w t
   pub broken : keeps r w t → ⊥
 
--- Of n rows, is the one at tick t the first that breaks a rule, and r the first rule that it breaks?
+-- Of n rows, is the one at tick t the first that breaks a rule, and is r the first rule that it breaks?
 pub record IsFirstUnlawful (keeps : Rule → Trace → ℕ → Type 0) (w : Trace) (n t : ℕ) (r : Rule) : Type 0 where
   pub within : t < n
   pub before : KeepsBefore keeps w t

@@ -1,4 +1,4 @@
--- How jobs are kept in small form: their segments one after another in three lists of numbers, and a record for each job.
+-- How jobs are kept in small form: all segments one after another in three lists of numbers, and a record for each job.
 use Rattle.std.specs.Prelude.{◌≡◌, ℕ, suc, ◌+◌, ◌-◌, ◌<◌, ◌≤◌, ◌==◌, true, length, List, [], ◌∷◌, take, drop, Some, None, if◌then◌else◌}
 use Rattle.std.specs.List.{list_all}
 use Rattle.std.specs.Option.{option_map_or}
@@ -9,15 +9,15 @@ use Rattle.schedule_model.specs.JobLists.{segment_count, is_listed_segment}
 use Rattle.schedule_model.specs.declared.limits.TheConstants.{MOST_JOBS, MOST_SEGMENTS}
 use Rattle.schedule_model.specs.declared.kept_jobs.KeptJob.{KeptJob}
 
--- The resource that the segment requests, and 0 where it requests none.
+-- The resource that the segment requests, and 0 if it requests none.
 abbrev pub requested : SegmentDef → ℕ
 requested s = option_map_or (λ r. r.0) s.request 0
 
--- The segment of these local ticks whose request takes so many ticks, of this resource. With 0 ticks there is no request.
+-- The segment with these local ticks, and a request of this many ticks of this resource. With 0 ticks there is no request.
 abbrev pub kept_segment : ℕ → ℕ → ℕ → SegmentDef
 kept_segment local ticks resource = record { local = local; request = if ticks == 0 then None else Some (resource, ticks) }
 
--- The segments that three lists make: the local ticks, the requests' ticks and the resources of each, at one place.
+-- The segments that three lists keep: their local ticks, the ticks of their requests, and the resources.
 abbrev pub kept_segments : List ℕ → List ℕ → List ℕ → List SegmentDef
 kept_segments (l ∷ locals) (t ∷ ticks) (q ∷ resources) = kept_segment l t q ∷ kept_segments locals ticks resources
 kept_segments _ _ _ = []
@@ -26,7 +26,7 @@ kept_segments _ _ _ = []
 abbrev pub between : ℕ → ℕ → List SegmentDef → List SegmentDef
 between from end segments = take (end - from) (drop from segments)
 
--- The job of a record, where its segments begin at `from`.
+-- The job of a record whose segments begin at `from`.
 abbrev pub kept_job : List SegmentDef → ℕ → KeptJob → JobDef
 kept_job segments from job = record {
   task = job.task.0;
@@ -35,23 +35,22 @@ kept_job segments from job = record {
   script = between from job.end segments;
 }
 
--- The jobs of the records, where the segments of the first begin at `from`: those of each further one begin where
--- those of the one before it end.
+-- The jobs of the records. The segments of the first begin at `from`. Those of each further job begin where those of the one before end.
 abbrev pub kept_jobs : List SegmentDef → ℕ → List KeptJob → List JobDef
 kept_jobs segments from [] = []
 kept_jobs segments from (job ∷ jobs) = kept_job segments from job ∷ kept_jobs segments job.end jobs
 
--- Where the segments of job number j begin, if those of the first begin at `from`.
+-- Where do the segments of job number j begin, if those of the first begin at `from`?
 abbrev pub start_of : ℕ → List KeptJob → ℕ → ℕ
 start_of from (job ∷ jobs) (suc j) = start_of job.end jobs j
 start_of from _ _ = from
 
--- From `from` on each job's segments end no earlier than they begin, and those of the last job end at `last`.
+-- The segments of the first job begin at `from`. No job's segments end before they begin, and those of the last job end at `last`.
 abbrev pub Rise : ℕ → List KeptJob → ℕ → Type 0
 Rise from [] last = from ≡ last
 Rise from (job ∷ jobs) last = (from ≤ job.end) × Rise job.end jobs last
 
--- The job fits behind these: so do its numbers fit what is kept of them, and there is room for it and its segments.
+-- Can the job be kept behind these jobs? Its numbers fit their small form, and there is room for it and its segments.
 pub record FitsBehind (jobs : List JobDef) (job : JobDef) : Type 0 where
   pub listed : list_all is_listed_segment job.script ≡ true
   pub resources : list_all (is_resource_in MOST_RESOURCES) job.script ≡ true

@@ -1,4 +1,4 @@
--- What a contract sees of kept segments and of kept jobs, and what is kept of their parts.
+-- What a contract sees of kept segments and of kept jobs, and what their types keep true.
 use Rattle.std.specs.Prelude.{◌≡◌, ◌≤◌, List, length}
 use Rattle.schedule_model.specs.JobDef.{SegmentDef, JobDef}
 use Rattle.schedule_model.specs.Kept.{kept_segments, kept_jobs, Rise}
@@ -9,7 +9,7 @@ use Rattle.schedule_model.specs.declared.kept_jobs.KeptJobs.TheInside.{Inside as
 abbrev pub segments_view : SegmentsInside → List SegmentDef
 segments_view s = kept_segments s.locals.items s.ticks.items s.resources.items
 
--- The three lists are of one length.
+-- The three lists have the same length.
 pub record AreSegmentsKept (s : SegmentsInside) : Type 0 where
   pub ticks : length s.ticks.items ≡ length s.locals.items
   pub resources : length s.resources.items ≡ length s.locals.items
@@ -17,7 +17,7 @@ pub record AreSegmentsKept (s : SegmentsInside) : Type 0 where
 abbrev pub kept_view : JobsInside → List JobDef
 kept_view l = kept_jobs l.segments 0 l.jobs.items
 
--- Ends rise up to the number of segments, and the list is within its limits.
+-- Ends never fall, the last one is the number of segments, and the list is within its limits.
 pub record AreJobsKept (l : JobsInside) : Type 0 where
   pub ends : Rise 0 l.jobs.items (length l.segments)
   pub jobs : length l.jobs.items ≤ MOST_JOBS

@@ -1,4 +1,4 @@
--- What a contract sees of a list of jobs and of a list of rows, and what is kept of their parts.
+-- What a contract sees of a list of jobs and of a list of rows, and what their types keep true.
 use Rattle.std.specs.Prelude.{◌≡◌, map}
 use Rattle.schedule_model.specs.JobDef.{JobsDef}
 use Rattle.schedule_model.specs.Seen.{run_seen}

@@ -1,4 +1,4 @@
--- What a contract sees of the script of a listed job: the segments between two places, which stand in this order.
+-- What a contract sees of the script of a listed job: the segments between two places.
 use Rattle.std.specs.Prelude.{◌≤◌, List, length}
 use Rattle.schedule_model.specs.JobDef.{SegmentDef}
 use Rattle.schedule_model.specs.Kept.{between}

@@ -1,5 +1,4 @@
--- What is measured of a schedule: for each task how many jobs finished, their greatest response, and the
--- greatest blocking of its jobs.
+-- What is measured of a schedule. For each task: how many jobs finished, their greatest response, and the greatest blocking of its jobs.
 use Rattle.std.specs.Prelude.{ℕ, zero, suc, ◌-◌, ◌==◌, ◌&&◌, Bool, max, length, if◌then◌else◌, Option, None, Some}
 use Rattle.number_laws.specs.Sums.{only_if}
 use Rattle.number_laws.specs.Tests.{count_below, first_below}
@@ -9,7 +8,7 @@ use Rattle.schedule_model.specs.Phase.{is_finished, phase_of}
 use Rattle.schedule_model.specs.Activity.{task_of}
 use Rattle.schedule_model.specs.BlockedTicks.{is_blocked}
 
--- Which is the greatest of f 0, .., f (n - 1)? 0 where there is none.
+-- The greatest of f 0, .., f (n - 1), and 0 if n is 0.
 abbrev pub greatest_below : ℕ → (ℕ → ℕ) → ℕ
 greatest_below zero f = 0
 greatest_below (suc n) f = max (greatest_below n f) (f n)
@@ -18,19 +17,19 @@ greatest_below (suc n) f = max (greatest_below n f) (f n)
 unfoldable pub has_finished : Trace → ℕ → ℕ → Bool
 has_finished w n j = is_finished (phase_of w n j)
 
--- After which tick is job j finished? It is the first one at which it is: the tick after its last running one.
+-- At which tick is job j first finished? It is the tick after the last one at which the job runs.
 unfoldable pub finish_of : Trace → ℕ → ℕ → ℕ
 finish_of w n j = first_below n (λ t. is_finished (phase_of w t j))
 
--- How long did job j, if it finished within n rows, take from its release?
+-- The response of job j, if it finished within n rows: the ticks from its release until it is finished.
 unfoldable pub response_of : Trace → ℕ → ℕ → ℕ
 response_of w n j = finish_of w n j - (job_of w.jobs j).release
 
--- At how many of n ticks was job j blocked, where these ticks are interference?
+-- At how many of n ticks was job j blocked? The first argument says which ticks are interference.
 unfoldable pub blocking_of : (Trace → ℕ → ℕ → Bool) → Trace → ℕ → ℕ → ℕ
 blocking_of interferes w n j = count_below n (λ t. is_blocked interferes w t j)
 
--- The measures of one task.
+-- The measures of a task.
 pub record MeasuresDef : Type 0 where
   pub finished : ℕ
   pub response : Option ℕ
@@ -44,8 +43,8 @@ counts_for w n x j = (task_of w j == x) && has_finished w n j
 unfoldable pub finished_jobs : Trace → ℕ → ℕ → ℕ
 finished_jobs w n x = count_below (length w.jobs) (counts_for w n x)
 
--- What is measured of task x over n rows, where these ticks are interference? The response is that of the
--- finished job that took longest; the blocking that of any of its jobs, finished or not.
+-- What is measured of task x over n rows? The first argument says which ticks are interference. The response is the longest of a finished
+-- job. The blocking is the greatest of any job, finished or not.
 unfoldable pub measures_of : (Trace → ℕ → ℕ → Bool) → Trace → ℕ → ℕ → MeasuresDef
 measures_of interferes w n x = record {
   finished = finished_jobs w n x;

@@ -1,12 +1,11 @@
--- How far a job has come.
+-- How far is a job in its script?
 use Rattle.std.specs.Prelude.{ℕ, suc, ◌-◌, ◌==◌, Bool, true, false, nat_lt, if◌then◌else◌, List, [], ◌∷◌, Option}
 use Rattle.std.specs.Option.{option_map_or}
 use Rattle.number_laws.specs.Tests.{count_below}
 use Rattle.schedule_model.specs.JobDef.{SegmentDef, job_of, segment_ticks}
 use Rattle.schedule_model.specs.RowDef.{Trace, runs_in}
 
--- What a job does next: a local tick, a tick of its request number n (counted from 0), which is of
--- resource q, or nothing more.
+-- What a job does next: a local tick, a tick of its request number n (counted from 0) of resource q, or nothing more.
 pub data Phase : Type 0 where
   Local : Phase
   Asking : ℕ → ℕ → Phase
@@ -25,7 +24,7 @@ abbrev pub is_asking : ℕ → Phase → Bool
 is_asking q (Asking n r) = r == q
 is_asking q _ = false
 
--- Are both the phase of one and the same request?
+-- Are both the phase of the same request?
 abbrev pub is_same_request : Phase → Phase → Bool
 is_same_request (Asking n q) (Asking m r) = n == m
 is_same_request _ _ = false

@@ -1,4 +1,4 @@
--- What each protocol's rules give: the three kinds of ticks, and what is true of who is named in a row.
+-- What follows from each protocol's rules: the three kinds of ticks, and what is true of the jobs that a row names.
 use Rattle.std.specs.Prelude.{◌≡◌, ℕ, ◌+◌, ◌<◌, Bool, true, length, Some}
 use Rattle.number_laws.specs.Sums.{flag}
 use Rattle.sporadic_model.specs.SetDef.{is_higher_local}
@@ -6,8 +6,8 @@ use Rattle.schedule_model.specs.RowDef.{Trace, running_on, holder_in}
 use Rattle.schedule_model.specs.Activity.{task_of, processor_of, is_active}
 use Rattle.schedule_model.specs.BlockedTicks.{is_executing, is_blocked}
 
--- Each tick at which a job is active is exactly one of these for it: it executes, the tick is interference, or
--- it is blocked. A tick at which it isn't active is none of them.
+-- A tick at which a job is active is exactly one of three for it: the job executes, the tick is interference, or it is blocked. A tick at
+-- which the job isn't active is none of them.
 abbrev pub IsOneOfThree : (Trace → ℕ → ℕ → Bool) → Trace → ℕ → ℕ → Type 0
 IsOneOfThree interferes w t j =
     flag (is_executing w t j) + flag (interferes w t j) + flag (is_blocked interferes w t j) ≡ flag (is_active w t j)
@@ -18,8 +18,8 @@ pub record HasHigherRunner (w : Trace) (t j : ℕ) : Type 0 where
   pub runs : running_on (w.row t) (processor_of w j) ≡ Some runner
   pub higher : is_higher_local w.set (task_of w j) (task_of w runner) ≡ true
 
--- In a row that keeps the rules: each named job is in the list, each running job is active and stands in one
--- column only, and where the tick is interference for a job, a job of a higher task of its processor runs there.
+-- In a row that keeps the rules each named job is in the list. Each running job is active, and is in one column only. Where the tick is
+-- interference for a job, a job of a higher task of its processor runs there.
 pub record IsSoundRow (interferes : Trace → ℕ → ℕ → Bool) (w : Trace) (t : ℕ) : Type 0 where
   pub running_listed : (k j : ℕ) → running_on (w.row t) k ≡ Some j → j < length w.jobs
   pub holders_listed : (q j : ℕ) → holder_in (w.row t) q ≡ Some j → j < length w.jobs

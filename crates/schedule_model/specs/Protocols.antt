@@ -1,4 +1,4 @@
--- The rules of the three protocols, by the name of the rule.
+-- The five rules of each of the three protocols.
 use Rattle.std.specs.Prelude.{ℕ}
 use Rattle.sporadic_model.specs.SetDef.{SetDef}
 use Rattle.schedule_model.specs.RowDef.{Trace}
@@ -9,7 +9,7 @@ use Rattle.schedule_model.specs.DpcpRules as distributed
 use Rattle.schedule_model.specs.declared.rule.Rule.{Rule}
 use Rattle.schedule_model.specs.declared.rule.Rule.TheVariants as rule
 
--- Five rules, by the name of the rule. Keep is the same in each protocol.
+-- Five rules as one function of the rule. Keep is the same in each protocol.
 abbrev pub five_rules : (run grant idle priority : Trace → ℕ → Type 0) → Rule → Trace → ℕ → Type 0
 five_rules run grant idle priority rule.Run = run
 five_rules run grant idle priority rule.Keep = shared.KeepsKeep
@@ -17,7 +17,7 @@ five_rules run grant idle priority rule.Grant = grant
 five_rules run grant idle priority rule.Idle = idle
 five_rules run grant idle priority rule.Priority = priority
 
--- The rules of a protocol that grants and runs in this order.
+-- The rules of a shared-memory protocol that grants requests and runs holders in these orders.
 abbrev pub shared_rule : Ranks → Rule → Trace → ℕ → Type 0
 shared_rule o r = five_rules shared.KeepsRun (shared.KeepsGrant o) shared.KeepsIdle (shared.KeepsPriority o) r
 
@@ -25,7 +25,6 @@ shared_rule o r = five_rules shared.KeepsRun (shared.KeepsGrant o) shared.KeepsI
 abbrev pub dpcp_rule : Rule → Trace → ℕ → Type 0
 dpcp_rule r = five_rules distributed.KeepsRun distributed.KeepsGrant distributed.KeepsIdle (distributed.KeepsPriority by_task) r
 
--- Which sets suit a protocol that asks for no homes? All of them. DPCP suits those whose resources each have a home
--- (`EachHasHome`).
+-- Which sets suit a protocol that needs no homes? All of them. DPCP suits those in which each resource has a home (`EachHasHome`).
 abbrev pub EachSetSuits : SetDef → Type 0
 EachSetSuits set = Unit {0}

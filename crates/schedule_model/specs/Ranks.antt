@@ -11,8 +11,8 @@ use Rattle.schedule_model.specs.SharedRules.{Ranks}
 abbrev pub by_task : Trace → ℕ → ℕ → ℕ
 by_task w t j = task_of w j
 
--- With what priority does a job on processor k run in this phase, once it holds what it requests? With that
--- of the resource's highest user on the other processors (of its highest user, where all are on k).
+-- The priority of a job on processor k that holds the resource of its request. It is that of the resource's highest user on the other
+-- processors. If all users are on k, it is that of the highest user.
 abbrev pub boost_in : Trace → ℕ → Phase → ℕ
 boost_in w k (Asking n q) = unwrap_or (remote_ceiling_of w.set q k) (length w.set.tasks)
 boost_in w k _ = length w.set.tasks

@@ -6,12 +6,12 @@ use Rattle.std.specs.List.{list_any}
 use Rattle.sporadic_model.specs.SetDef.{SetDef}
 use Rattle.schedule_model.specs.JobDef.{JobDef, JobsDef}
 
--- One tick of a schedule: per processor the job that runs there, per resource the job that holds it.
+-- One tick of a schedule: for each processor the job that runs there, and for each resource the job that holds it.
 pub record RowDef : Type 0 where
   pub running : List (Option ℕ)
   pub holders : List (Option ℕ)
 
--- A number of equal ticks on end.
+-- A row and how many ticks on end it lasts.
 pub record RunDef : Type 0 where
   pub ticks : ℕ
   pub row : RowDef
@@ -20,7 +20,7 @@ pub record RunDef : Type 0 where
 abbrev pub idle_row : RowDef
 idle_row = record { running = []; holders = [] }
 
--- Which row does a list of runs have at tick t? Past its end, one in which nothing happens.
+-- Which row does a list of runs have at tick t? Past its end it is one in which nothing happens.
 abbrev pub row_in : List RunDef → ℕ → RowDef
 row_in [] t = idle_row
 row_in (run ∷ runs) t = if nat_lt t run.ticks then run.row else row_in runs (t - run.ticks)
@@ -29,7 +29,7 @@ row_in (run ∷ runs) t = if nat_lt t run.ticks then run.row else row_in runs (t
 abbrev pub ticks_of : List RunDef → ℕ
 ticks_of runs = sum_by (λ run. run.ticks) runs
 
--- Which row does a list of rows have at tick t? Past its end, one in which nothing happens.
+-- Which row does a list of rows have at tick t? Past its end it is one in which nothing happens.
 abbrev pub row_at : List RowDef → ℕ → RowDef
 row_at rows t = slice_index_or rows t idle_row
 
@@ -50,18 +50,18 @@ holder_in row q = slice_index_or row.holders q None
 unfoldable pub runs_in : RowDef → ℕ → Bool
 runs_in row j = list_any (is_job j) row.running
 
--- A task set, jobs of its tasks, and what happens at each tick: all that the notions of this model speak of.
--- What is said of tick t reads the rows up to t alone.
+-- A task set, jobs of its tasks, and the row at each tick. The definitions of this model are about a trace. What they say of tick t depends
+-- only on the rows up to t.
 pub record Trace : Type 0 where
   pub set : SetDef
   pub jobs : List JobDef
   pub row : ℕ → RowDef
 
--- The jobs of a trace, as the list that they are.
+-- The jobs of a trace as a list of jobs.
 abbrev pub jobs_of : Trace → JobsDef
 jobs_of w = record { set = w.set; jobs = w.jobs }
 
--- The jobs under a list of rows, and under a list of runs.
+-- The trace of a list of jobs and a list of rows, or a list of runs.
 abbrev pub trace_of : JobsDef → List RowDef → Trace
 trace_of jobs rows = record { set = jobs.set; jobs = jobs.jobs; row = row_at rows }
 

@@ -1,4 +1,4 @@
--- What a contract sees of a job, of a row and of a run: the records of their numbers and lists.
+-- What a contract sees of a job, of a row and of a run: records of their numbers and lists.
 use Rattle.std.specs.Prelude.{ℕ, map, option_map, Option}
 use Rattle.schedule_model.specs.JobDef.{SegmentDef, JobDef}
 use Rattle.schedule_model.specs.RowDef.{RowDef, RunDef}

@@ -16,8 +16,7 @@ use sporadic_model::TaskSet;
 use std::alloc::{AllocError, Global};
 use std::marker::Model;
 
-/// Lawful jobs of a task set, in the order in which they were pushed. Those of one task arrive at least a
-/// period apart.
+/// Lawful jobs of a task set, in the order in which they were pushed. Any two of one task arrive at least a period apart.
 #[derive(Drop)]
 pub struct JobList<'a> {
     set: &'a TaskSet,
@@ -47,8 +46,8 @@ impl<'a> JobList<'a> {
         }
     }
 
-    /// Takes the job into the list, at its end, or names the first refusal that is due, in the order in
-    /// which they stand in [`JobRefusal`]. After a refusal the list is as it was.
+    /// Takes the job into the list, at its end, or names the first refusal that is due. The refusals are tried in the order of
+    /// [`JobRefusal`]. After a refusal the list is as it was.
     pub fn push(&mut self, job: Job) -> Result<(), JobRefusal>
         requires task { job.task.0 < length self.old.set.tasks }
         requires resources { IsTrue (list_all (is_resource_in (length self.old.set.resources)) (job_seen job).script) }
@@ -59,7 +58,7 @@ impl<'a> JobList<'a> {
             Some(refusal) => return Err(refusal),
             None => {}
         }
-        // its resources, as those of every set, are few enough to be kept in a byte
+        // a byte is enough for a resource's number: no set has more than 32 resources
         self.set.keeps_the_model();
         match self.jobs.push(&job) {
             Ok(()) => Ok(()),
@@ -77,7 +76,7 @@ impl<'a> JobList<'a> {
         self.jobs.len() as u32
     }
 
-    /// The job.
+    /// Job `j` of the list.
     pub fn job(&self, j: JobId) -> ListedJob<'_>
         requires { j.0 < length self.now.jobs }
         ensures value { listed_seen result ≡ job_of self.now.jobs j.0 }
@@ -87,16 +86,16 @@ impl<'a> JobList<'a> {
         self.jobs.job(j.0 as usize)
     }
 
-    /// Every list's jobs are lawful and within the limits of lists. This says so, and does nothing.
+    /// The jobs of every list are lawful, and within the limits of lists. This call says so in a proof, and does nothing.
     pub fn keeps_its_rules(&self)
         ensures lawful { AreLawfulJobs self.now }
         ensures listed { IsJobList self.now }
     {
-        // what every list keeps is known once a field is read
+        // a proof knows what every list keeps once a field is read
         let _jobs = &self.jobs;
     }
 
-    /// The set whose tasks the jobs are of.
+    /// The task set of the jobs.
     pub fn set(&self) -> &'a TaskSet
         ensures { result.now ≡ self.now.set }
     {

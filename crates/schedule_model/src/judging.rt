@@ -28,7 +28,7 @@ fn follows_too_closely(set: &TaskSet, jobs: &KeptJobs, job: &Job) -> bool
     job.release > MOST_TICKS
 }
 
-/// Is the tick before the end of a period that begins at the last arrival, if there was one?
+/// Is the tick less than a period after the last arrival, if there was one?
 fn is_within(last: Option<u64>, period: u64, tick: u64) -> bool
     ensures { result ≡ option_map_or (λ last. nat_lt tick (last + period)) last false }
 {
@@ -38,7 +38,7 @@ fn is_within(last: Option<u64>, period: u64, tick: u64) -> bool
     }
 }
 
-/// Is there no room for the job after the listed ones?
+/// Is there no room for the job behind the listed ones?
 #[tactic(auto, unfolding(crate::specs::JobLists::is_too_many))]
 fn passes_limits(jobs: &KeptJobs, job: &Job) -> bool
     ensures { result ≡ is_too_many jobs.now (job_seen job.now) }
@@ -61,7 +61,7 @@ fn leaves_its_jitter(set: &TaskSet, job: &Job) -> bool
     job.release - job.arrival > set.jitter(job.task)
 }
 
-/// The first refusal that is due for the job after the listed ones.
+/// The first refusal that is due for the job behind the listed ones.
 pub(crate) fn refusal_of(set: &TaskSet, jobs: &KeptJobs, job: &Job) -> Option<JobRefusal>
     requires task { job.now.task.0 < length set.now.tasks }
     requires resources { IsTrue (list_all (is_resource_in (length set.now.resources)) (job_seen job.now).script) }

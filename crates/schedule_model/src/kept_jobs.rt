@@ -15,17 +15,17 @@ use sporadic_model::{MOST_RESOURCES, MOST_TICKS, TaskId};
 use std::alloc::{AllocError, Global};
 use std::marker::Model;
 
-/// What is kept of a job beside its segments.
+/// What is kept of a job, without its segments.
 #[derive(Clone, Copy, Debug)]
 pub(crate) struct KeptJob {
     task: TaskId,
     arrival: u32,
     release: u32,
-    /// Where its segments end, among those of all jobs. They begin where those of the job before it end.
+    /// Where its segments end, among the segments of all jobs. They begin where those of the job before end.
     end: u32,
 }
 
-/// Jobs, in 16 bytes each and 9 for each of their segments.
+/// Jobs, in 16 bytes each and 9 bytes for each segment.
 #[derive(Drop)]
 pub(crate) struct KeptJobs {
     jobs: Vec<KeptJob>,
@@ -91,7 +91,7 @@ impl KeptJobs {
         }
     }
 
-    /// Puts the job behind, whole or not at all.
+    /// Puts the job at the end, whole or not at all.
     pub(crate) fn push(&mut self, job: &Job) -> Result<(), AllocError>
         requires { FitsBehind self.old (job_seen job.now) }
         ensures ok { OnOk result (self.new ≡ self.old ++ job_seen job.now ∷ []) }

@@ -15,7 +15,7 @@ use std::marker::Model;
 #[derive(Drop)]
 pub(crate) struct KeptSegments {
     locals: Vec<u32>,
-    /// How many ticks each segment's request takes, and 0 where it has none.
+    /// How many ticks each segment's request takes, and 0 if it has none.
     ticks: Vec<u32>,
     resources: Vec<u8>,
 }
@@ -58,7 +58,7 @@ impl KeptSegments {
         segment_from(self.locals[n], self.ticks[n], self.resources[n])
     }
 
-    /// Puts the segments of the script behind, all or none.
+    /// Puts the segments of the script at the end, all or none.
     pub(crate) fn append(&mut self, script: &[Segment]) -> Result<(), AllocError>
         requires listed { list_all is_listed_segment (map segment_seen script.now) ≡ true }
         requires resources { list_all (is_resource_in MOST_RESOURCES) (map segment_seen script.now) ≡ true }
@@ -75,7 +75,7 @@ impl KeptSegments {
     }
 }
 
-/// The segment of its three numbers.
+/// The segment that these three numbers keep.
 fn segment_from(local: u32, ticks: u32, resource: u8) -> Segment
     ensures { segment_seen result ≡ kept_segment local ticks resource }
 {
@@ -97,7 +97,7 @@ fn local_of(segment: &Segment) -> u32
     segment.local as u32
 }
 
-/// How many ticks the segment's request takes, 0 where it has none.
+/// How many ticks the segment's request takes, and 0 if it has none.
 fn ticks_of(segment: &Segment) -> u32
     requires { is_listed_segment (segment_seen segment.now) ≡ true }
     ensures { result ≡ request_ticks (segment_seen segment.now) }
@@ -108,7 +108,7 @@ fn ticks_of(segment: &Segment) -> u32
     }
 }
 
-/// The resource that the segment requests, 0 where it requests none.
+/// The resource that the segment requests, and 0 if it requests none.
 fn resource_of(segment: &Segment) -> u8
     requires { is_resource_in MOST_RESOURCES (segment_seen segment.now) ≡ true }
     ensures { result ≡ requested (segment_seen segment.now) }

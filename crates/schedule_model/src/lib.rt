@@ -1,4 +1,4 @@
-//! Jobs of a task set, schedules of them, and the rules that locking protocols set for a schedule.
+//! Jobs of a task set, schedules of them, and the rules of locking protocols for a schedule.
 #![tactic(auto)]
 
 mod job;

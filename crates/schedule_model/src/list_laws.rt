@@ -8,8 +8,8 @@ ghost use Rattle.schedule_model.specs.JobLists.{IsJobList, first_refusal, with_j
 
 use crate::limits::{MOST_JOBS, MOST_SEGMENTS};
 
-/// After lawful jobs within the limits, no refusal of a job whose ids are in range is due exactly where the list with
-/// it at its end is lawful and within the limits.
+/// Take lawful jobs within the limits of lists, and a job whose task and resources are of the set. No refusal of the job is due if and only
+/// if the list with it at its end is lawful and within the limits.
 pub fn job_refusals_are_exact()
     ensures { (jobs : JobsDef) (job : JobDef) → AreLawfulJobs jobs → IsJobList jobs → job.task < length jobs.set.tasks
         → IsTrue (list_all (is_resource_in (length jobs.set.resources)) job.script)

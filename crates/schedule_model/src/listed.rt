@@ -14,9 +14,9 @@ use std::marker::Model;
 pub struct ListedJob<'a> {
     /// The job's task.
     pub task: TaskId,
-    /// The tick at which the job arrives: from here its deadline counts.
+    /// The tick at which the job arrives. Its deadline counts from here.
     pub arrival: u64,
-    /// The tick at which the job is released, at most 10^9: from here it may run, and its response counts.
+    /// The tick at which the job is released, at most 10^9. From here it may run, and its response counts from here.
     pub release: u64,
     /// What the job does, segment after segment.
     pub script: ListedScript<'a>,

@@ -12,7 +12,7 @@ pub struct ListedRows<'a> {
 }
 
 impl<'a> ListedRows<'a> {
-    /// It stands at the first run.
+    /// A reader at the first run of the list.
     pub fn new(rows: &'a RowList) -> ListedRows<'a>
         ensures rows { result.rows.now ≡ rows.now }
         ensures at { result.at ≡ 0 }

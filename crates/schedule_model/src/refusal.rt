@@ -3,15 +3,15 @@ ghost use Rattle.std.specs.Prelude.{◌≡◌};
 use std::alloc::AllocFailed;
 use thiserror::Error;
 
-/// Why a job is not taken into a list. The refusals are tried in the order in which they stand here.
+/// Why a job is not taken into a list. The refusals are tried in the order in which they are listed here.
 #[derive(Clone, Copy, Debug, PartialEq, Eq, Error)]
 pub enum JobRefusal {
-    /// The script has no segment, a local number or a request's length that is not from 1 to 10^9, or
-    /// a segment without a request before the last one.
+    /// The script has no segment. Or a local number or a request's length is not from 1 to 10^9. Or a segment before the last one has no
+    /// request.
     #[error("a script is not local ticks and requests in turn, each from 1 to 1000000000 ticks")]
     Script,
-    /// The job takes more ticks than its task's cost, more local ticks than its local limit, or more
-    /// or longer requests of a resource than its entry for the resource has.
+    /// The job takes more ticks than its task's cost, or more local ticks than the local limit. Or its requests of a resource are more or
+    /// longer than the task's entry for it allows.
     #[error("a job exceeds what its task may execute or request")]
     OverBudget,
     /// The job arrives less than a period after the last job of its task, or is released after tick 10^9.
@@ -38,8 +38,7 @@ impl<T: Drop> From<AllocFailed<T>> for JobRefusal {
     }
 }
 
-/// Why a run of equal rows is not taken into a list. The refusals are tried in the order in which they
-/// stand here.
+/// Why a run of equal rows is not taken into a list. The refusals are tried in the order in which they are listed here.
 #[derive(Clone, Copy, Debug, PartialEq, Eq, Error)]
 pub enum RowRefusal {
     /// The run's ticks are not from 1 to 10^9.

@@ -14,7 +14,7 @@ use sporadic_model::MOST_TICKS;
 use std::alloc::Global;
 use std::marker::Model;
 
-/// Rows for a list of jobs, as runs of equal rows on end.
+/// Rows for a list of jobs, as runs of equal rows.
 #[derive(Drop)]
 pub struct RowList {
     processors: u32,
@@ -37,8 +37,7 @@ impl Model for RowList {
 }
 
 impl RowList {
-    /// A list without rows, for the processors and resources of the jobs' set and for the jobs that are
-    /// listed now.
+    /// A list without rows. It is made for the processors and resources of the jobs' set, and for the jobs that are listed now.
     pub fn new(alloc: Global, jobs: &JobList) -> RowList
         ensures value { result ≡ rows_for jobs.now }
         ensures made { IsMadeFor result jobs.now }
@@ -52,8 +51,8 @@ impl RowList {
         }
     }
 
-    /// Takes the run into the list, at its end, or names the first refusal that is due, in the order in
-    /// which they stand in [`RowRefusal`]. After a refusal the list is as it was.
+    /// Takes the run into the list, at its end, or names the first refusal that is due. The refusals are tried in the order of
+    /// [`RowRefusal`]. After a refusal the list is as it was.
     pub fn push(&mut self, run: RowRun) -> Result<(), RowRefusal>
         requires { IsTrue (is_sized self.old.processors self.old.resources (run_seen run).row) }
         ensures value { RunJudged result self.old self.new (run_seen run) }
@@ -74,8 +73,8 @@ impl RowList {
         Ok(())
     }
 
-    /// Has each row one place per processor and per resource of the jobs' set, and does it name jobs of
-    /// the list alone? A list that was made for these jobs, or before more of them were listed, fits them.
+    /// Has each row one place for each processor and each resource of the jobs' set, and does it name only jobs of the list? A row list
+    /// that was made for a job list fits it, and still fits it with more jobs.
     pub fn fits(&self, jobs: &JobList) -> bool
         ensures value { result ≡ is_fitting self.now jobs.now }
         ensures made { IsMadeFor self.now jobs.now → result ≡ true }
@@ -93,11 +92,11 @@ impl RowList {
         self.ticks
     }
 
-    /// Every list's rows fit its sizes and are within the limits of lists. This says so, and does nothing.
+    /// The rows of every list fit its sizes, and are within the limits of lists. This call says so in a proof, and does nothing.
     pub fn keeps_its_rules(&self)
         ensures { IsRowList self.now }
     {
-        // what every list keeps is known once a field is read
+        // a proof knows what every list keeps once a field is read
         let _runs = &self.runs;
     }
 
@@ -110,7 +109,7 @@ impl RowList {
     }
 }
 
-/// Are the jobs that are named at these places below so many?
+/// Do these places name only jobs whose number is below this?
 fn name_below(places: &[Option<JobId>], jobs: u32) -> bool
     ensures { result ≡ names_below jobs (map place_seen places.now) }
 {
@@ -120,14 +119,14 @@ fn name_below(places: &[Option<JobId>], jobs: u32) -> bool
     })
 }
 
-/// Are the jobs that the row names below so many?
+/// Does the row name only jobs whose number is below this?
 fn names_only(row: &Row, jobs: u32) -> bool
     ensures { result ≡ names_jobs jobs (row_seen row.now) }
 {
     name_below(&row.running, jobs) && name_below(&row.holders, jobs)
 }
 
-/// Has the row so many processors and resources, and are the jobs that it names below so many?
+/// Has the row a place for each of this many processors and resources, and does it name only jobs whose number is below this?
 fn fits_sizes(row: &Row, processors: u32, resources: u32, jobs: u32) -> bool
     ensures { result ≡ fits_row processors resources jobs (row_seen row.now) }
 {

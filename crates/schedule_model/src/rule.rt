@@ -1,14 +1,14 @@
-/// A rule that each row of a schedule keeps. The rules are tried in the order in which they stand here.
+/// A rule that each row of a schedule keeps. The rules are tried in the order in which they are listed here.
 #[derive(Clone, Copy, Debug, PartialEq, Eq)]
 pub enum Rule {
-    /// Who runs may run, and where.
+    /// Which jobs may run, and in which column.
     Run,
     /// A holder stays the holder until its request ends.
     Keep,
-    /// Who becomes a holder, and which resources have none.
+    /// Which jobs may become holders, and which resources may have none.
     Grant,
-    /// A processor that runs nothing has nothing to run.
+    /// A processor that runs nothing has no job that could run there.
     Idle,
-    /// Which of the jobs that may run on a processor runs.
+    /// Which one of the jobs that may run on a processor does run.
     Priority,
 }

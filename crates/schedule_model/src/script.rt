@@ -39,8 +39,7 @@ fn are_requests(script: &[Segment]) -> bool
     script.iter().all(|segment| segment.request.is_some())
 }
 
-/// Is it a script that a list takes: one or more segments, each with its numbers from 1 to 10^9, and only the last may lack
-/// a request?
+/// Does a list take the script? It has one or more segments, each number is from 1 to 10^9, and only the last segment may have no request.
 pub(crate) fn is_listed_script(script: &[Segment]) -> bool
     ensures { result ≡ is_listed_script (map segment_seen script.now) }
 {
@@ -53,7 +52,7 @@ pub(crate) fn is_listed_script(script: &[Segment]) -> bool
     are_requests(&script[..script.len() - 1])
 }
 
-/// Does the script take at most so many ticks?
+/// Does the script take at most this many ticks?
 fn takes_at_most(script: &[Segment], most: u64) -> bool
     ensures { result ≡ nat_le (total_ticks (map segment_seen script.now)) most }
 {
@@ -77,7 +76,7 @@ fn ticks_of_request(segment: &Segment) -> u64
     }
 }
 
-/// Does the script take at most so many ticks outside its requests?
+/// Does the script take at most this many ticks outside its requests?
 fn stays_local_at_most(script: &[Segment], most: u64) -> bool
     ensures { result ≡ nat_le (local_ticks (map segment_seen script.now)) most }
 {
@@ -122,7 +121,7 @@ fn keeps_counts(set: &TaskSet, x: TaskId, script: &[Segment]) -> bool
     true
 }
 
-/// Is the segment's request, if it has one, at most as long as one of a job of the task may be?
+/// Is the segment's request, if it has one, no longer than a job of the task may request its resource?
 fn keeps_length(set: &TaskSet, x: TaskId, segment: &Segment) -> bool
     requires task { x.0 < length set.now.tasks }
     requires resource { IsTrue (is_resource_in (length set.now.resources) (segment_seen segment.now)) }
@@ -134,7 +133,7 @@ fn keeps_length(set: &TaskSet, x: TaskId, segment: &Segment) -> bool
     }
 }
 
-/// Is each request of the script at most as long as one of a job of the task may be?
+/// Is each request of the script no longer than a job of the task may request its resource?
 fn keeps_lengths(set: &TaskSet, x: TaskId, script: &[Segment]) -> bool
     requires task { x.0 < length set.now.tasks }
     requires resources { IsTrue (list_all (is_resource_in (length set.now.resources)) (map segment_seen script.now)) }

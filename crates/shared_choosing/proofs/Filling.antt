@@ -83,7 +83,7 @@ filled_some m claim start x j places more g own same = record {
     | inr fails ↦ fails.now ∙ g.keeps k i e
   ]
 
-  -- The one who comes takes an empty place that no one before it claimed.
+  -- The job that comes takes an empty place that no job before it claimed.
   newcomer : (k : ℕ) → Gets claim places more j k → Takes m claim (x + 1) k j
   newcomer k gets = record {
     active = own.0;

@@ -42,7 +42,7 @@ granted_first s held same = record {
   free = λ q e i h l. absurd (omega arith);
 }
 
--- What follows where the one who asks doesn't get the resource from its new holder.
+-- What follows if the job that asks doesn't get the resource from its new holder.
 refused : (s : Scene) (q j h : ℕ) → takes s q j (Some h) ≡ false → is_asking q (s.phase j) ≡ true
     → (s.before q ≡ Some h → ⊥) → s.grant h ≤ s.grant j
 refused s q j h fails asks new = elim (and_cases (is_asking q (s.phase j)) (gives_way s q j (Some h)) fails) [
@@ -56,7 +56,7 @@ refused s q j h fails asks new = elim (and_cases (is_asking q (s.phase j)) (give
   ]
 ]
 
--- And where the one who asks does get it.
+-- And if the job that asks does get it.
 record Won (s : Scene) (q j h : ℕ) : Type 0 where
   new : s.before q ≡ Some h → ⊥
   later : s.grant j < s.grant h
@@ -72,7 +72,7 @@ won s q j h passes =
       later = ltb-true (s.grant j) (s.grant h) r.1;
     }
 
--- Who holds q then, by whether the one who asks gets it.
+-- Which job holds q then, by whether the one that asks gets it.
 record Taken (s : Scene) (held more : ℕ → Option ℕ) (q j : ℕ) : Type 0 where
   passes : takes s q j (held q) ≡ true
   now : more q ≡ Some j
@@ -120,7 +120,7 @@ granted_some s x j held more g own same = record {
     | inr l ↦ let a : s.task i < x = g.early q i (sym l.now ∙ e) new in omega arith
   ]
 
-  -- The one who gets q leads those who have asked.
+  -- The job that gets q leads those that have asked.
   taker_leads : (q i : ℕ) (o : Option ℕ) → held q ≡ o → takes s q j o ≡ true → requests s q i ≡ true → s.task i < x
       → Leads s.grant s.task j i
   taker_leads q i None e passes h l = absurd (g.free q e i h l)

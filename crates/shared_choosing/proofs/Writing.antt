@@ -88,7 +88,7 @@ unfolding requester_now
 kept_named m places same q j e =
     active_now_listed m j (and_parts _ _ (kept_some (scene_now (λ i. 0) (λ i. 0) m) q j (holder_now m q) (sym (same q) ∙ e)).1).0
 
--- Where nothing is named, no one is who isn't listed.
+-- If nothing is named, no unlisted job is.
 pub nothing_named : (places : List (Option JobId)) (n : ℕ) → ((k : ℕ) → running_in (map place_seen places) k ≡ None)
     → NamesBelow n (map place_seen places)
 nothing_named places n empty c j e = let two : None ≡ Some j = sym (empty (suc c)) ∙ e in absurd (cc)

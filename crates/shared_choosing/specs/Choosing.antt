@@ -1,14 +1,14 @@
--- What is true of the holders, and of what runs, while the tasks are gone through from the highest on.
+-- What is true of the holders, and of what runs, during a walk over the tasks from the highest on?
 use Rattle.std.specs.Prelude.{◌≡◌, ℕ, ◌<◌, ◌≤◌, true, false, Option, None, Some}
 use Rattle.schedule_model.specs.Phase.{is_local}
 use Rattle.shared_choosing.specs.Scene.{Scene, requests, holds, may_run}
 
--- Job j goes no later than job i, and where both go equally first it is of no lower task.
+-- Job j goes no later than job i. If both go equally first, j is of no lower task.
 pub record Leads (rank task : ℕ → ℕ) (j i : ℕ) : Type 0 where
   pub first : rank j ≤ rank i
   pub tie : rank i ≡ rank j → task j ≤ task i
 
--- These are the holders once the tasks below x have asked.
+-- Are these the holders after the tasks below x have asked?
 pub record Granted (s : Scene) (x : ℕ) (held : ℕ → Option ℕ) : Type 0 where
   pub asks : (q j : ℕ) → held q ≡ Some j → requests s q j ≡ true
   pub keeps : (q j : ℕ) → s.before q ≡ Some j → requests s q j ≡ true → held q ≡ Some j
@@ -17,7 +17,7 @@ pub record Granted (s : Scene) (x : ℕ) (held : ℕ → Option ℕ) : Type 0 wh
       → Leads s.grant s.task j i
   pub free : (q : ℕ) → held q ≡ None → (i : ℕ) → requests s q i ≡ true → s.task i < x → ⊥
 
--- This is what runs, by the processor, once the tasks below x have come, with these holders.
+-- Is this what runs on each processor after the tasks below x have come, with these holders?
 pub record Placed (s : Scene) (held : ℕ → Option ℕ) (x : ℕ) (running : ℕ → Option ℕ) : Type 0 where
   pub active : (k r : ℕ) → running k ≡ Some r → s.active r ≡ true
   pub ready : (k r : ℕ) → running k ≡ Some r → may_run s held r ≡ true

@@ -29,7 +29,7 @@ pub fn put(places: &mut [Option<JobId>], i: usize, job: Option<JobId>)
     places[i] = job;
 }
 
-/// The job that is named at a place, where the places name listed jobs.
+/// The job that is named at a place. The places name only listed jobs.
 pub fn job_at(machine: &Machine, places: &[Option<JobId>], i: usize) -> Option<JobId>
     requires within { i < length places.now }
     requires named { NamesBelow (length machine.now.list.jobs) (map place_seen places.now) }
@@ -39,7 +39,7 @@ pub fn job_at(machine: &Machine, places: &[Option<JobId>], i: usize) -> Option<J
     places[i]
 }
 
-/// The last row's holder, where it still requests the resource.
+/// The last row's holder, if it still requests the resource.
 pub fn kept(machine: &Machine, q: ResourceId) -> Option<JobId>
     requires { q.0 < length machine.now.list.set.resources }
     ensures { place_seen result ≡ stays (requester_now machine.now q.0) (holder_now machine.now q.0) }
@@ -55,7 +55,7 @@ pub fn kept(machine: &Machine, q: ResourceId) -> Option<JobId>
     }
 }
 
-/// Names the kept holders, and no others.
+/// Names the holders that are kept, and no others.
 pub fn keep_all(machine: &Machine, holders: &mut [Option<JobId>])
     requires { length holders.old ≡ length machine.now.list.set.resources }
     ensures len { length holders.new ≡ length holders.old }
@@ -69,7 +69,7 @@ pub fn keep_all(machine: &Machine, holders: &mut [Option<JobId>])
     }
 }
 
-/// The resource that the job requests, where it does.
+/// The resource that the job requests, if it requests one.
 pub fn requested(machine: &Machine, j: JobId) -> Option<ResourceId>
     requires { j.0 < length machine.now.list.jobs }
     ensures value { option_map (λ q. q.0) result ≡ resource_in (phase_now machine.now j.0) }
@@ -82,7 +82,7 @@ pub fn requested(machine: &Machine, j: JobId) -> Option<ResourceId>
     }
 }
 
-/// Does what holds the resource give way to the job: no one, or a new holder that goes later?
+/// Does the holder of the resource give way to the job? It does if there is none, or if it is new and goes later.
 fn gives_way<O: Order>(
     order: &O,
     machine: &Machine,
@@ -104,7 +104,7 @@ fn gives_way<O: Order>(
     }
 }
 
-/// Who holds the resource once the job has asked: the job, where what holds it gives way, else that.
+/// The holder of the resource after the job has asked: the job, if the holder gives way, and else the holder.
 fn offered<O: Order>(
     order: &O,
     machine: &Machine,
@@ -126,7 +126,7 @@ fn offered<O: Order>(
     holder
 }
 
-/// Grants the resource to the job, where its holder gives way.
+/// Grants the resource to the job, if its holder gives way.
 fn offer<O: Order>(
     order: &O,
     machine: &Machine,
@@ -150,7 +150,7 @@ fn offer<O: Order>(
     put(holders, q.0 as usize, offered(order, machine, q, j, holder));
 }
 
-/// Offers what it requests to the job.
+/// Offers the job the resource that it requests.
 fn ask<O: Order>(order: &O, machine: &Machine, j: JobId, holders: &mut [Option<JobId>])
     requires listed { j.0 < length machine.now.list.jobs }
     requires len { length holders.old ≡ length machine.now.list.set.resources }
@@ -185,8 +185,8 @@ impl<'a, O: Order> Visitor for Asking<'a, O> {
     }
 }
 
-/// Names the holders of the row: the kept ones, and for each other resource the requester that goes first, of those that
-/// go equally first the one of the highest task.
+/// Names the holders of the row: those that are kept, and for each other resource the requester that goes first. Among requesters that go
+/// equally first, it is the one of the highest task.
 pub fn grant_all<O: Order>(order: &O, machine: &Machine, holders: &mut [Option<JobId>])
     requires { length holders.old ≡ length machine.now.list.set.resources }
     ensures len { length holders.new ≡ length holders.old }
@@ -209,7 +209,7 @@ pub fn put_on(running: &mut [Option<JobId>], k: u32, job: Option<JobId>)
     put(running, k as usize - 1, job);
 }
 
-/// The job that runs on processor `k`, where the columns name listed jobs.
+/// The job that runs on processor `k`. The columns name only listed jobs.
 pub fn job_on(machine: &Machine, running: &[Option<JobId>], k: u32) -> Option<JobId>
     requires least { 1 ≤ k }
     requires most { k ≤ length running.now }
@@ -220,7 +220,7 @@ pub fn job_on(machine: &Machine, running: &[Option<JobId>], k: u32) -> Option<Jo
     job_at(machine, running, k as usize - 1)
 }
 
-/// Does what runs give way to the job: nothing, or a job that goes later?
+/// Does what runs give way to the job? It does if nothing runs, or if the running job goes later.
 fn is_outrun<O: Order>(
     order: &O,
     machine: &Machine,
@@ -244,7 +244,7 @@ fn is_outrun<O: Order>(
     }
 }
 
-/// Which of the two runs: the job, where it is ready and the runner gives way, else the runner.
+/// Which of the two runs? The job, if it is ready and the runner gives way, and else the runner.
 fn faster<O: Order>(
     order: &O,
     machine: &Machine,
@@ -269,7 +269,7 @@ fn faster<O: Order>(
     runner
 }
 
-/// Lets the job run on its processor, where it is ready and what runs there gives way.
+/// Lets the job run on its processor, if it is ready and what runs there gives way.
 fn enter<O: Order, C: Columns>(
     order: &O,
     columns: &C,
@@ -326,8 +326,8 @@ pub fn clear(places: &mut [Option<JobId>])
     }
 }
 
-/// Names what runs, where these are the holders: on each processor the ready holder that goes first, of those that go
-/// equally first the one of the highest task; where no holder is ready there, the Local job of the highest task.
+/// Names what runs, given the holders. On each processor it is the ready holder that goes first, and among equal ones that of the highest
+/// task. If no holder is ready there, it is the Local job of the highest task.
 pub fn run_all<O: Order, C: Columns>(
     order: &O,
     columns: &C,
@@ -354,7 +354,7 @@ pub fn run_all<O: Order, C: Columns>(
     );
 }
 
-/// The choice under an order, where jobs run in these columns.
+/// The choice under an order, if jobs run in these columns.
 #[derive(Drop)]
 struct OrderedChoice<'a, O, C> {
     order: &'a O,
@@ -378,7 +378,7 @@ impl<'a, O: Order, C: Columns> RowChoice for OrderedChoice<'a, O, C> {
     }
 }
 
-/// Makes the lent row one that grants and runs in this order, where jobs run in these columns.
+/// Makes the lent row one that grants and runs in this order, if jobs run in these columns.
 pub fn choose_ordered<O: Order, C: Columns>(
     order: &O,
     columns: &C,
@@ -396,7 +396,7 @@ pub fn choose_ordered<O: Order, C: Columns>(
     choose_row(&OrderedChoice { order, columns }, machine, row);
 }
 
-/// Makes the lent row the chosen one under the order: the holders first, then what runs.
+/// Makes the lent row the chosen one under the order: first the holders, then what runs.
 pub fn choose_shared<O: Order>(order: &O, machine: &Machine, row: &mut Row)
     requires sized { IsSized machine.now.list.set (row_seen row.old) }
     ensures sized { IsSized machine.now.list.set (row_seen row.new) }

@@ -11,7 +11,7 @@ use phase_machine::columns::Columns;
 use phase_machine::lookup::{holds, is_local, named_at};
 use schedule_model::JobId;
 
-/// Names the job at a place, where none is named.
+/// Names the job at a place, if none is named there.
 pub fn fill(places: &mut [Option<JobId>], i: usize, j: JobId)
     requires { i < length places.old }
     ensures len { length places.new ≡ length places.old }
@@ -23,7 +23,7 @@ pub fn fill(places: &mut [Option<JobId>], i: usize, j: JobId)
     }
 }
 
-/// Names the job in the column of processor `k`, counted from 1, where none is named.
+/// Names the job in the column of processor `k`, counted from 1, if none is named there.
 pub fn fill_on(running: &mut [Option<JobId>], k: u32, j: JobId)
     requires least { 1 ≤ k }
     requires most { k ≤ length running.old }
@@ -33,12 +33,12 @@ pub fn fill_on(running: &mut [Option<JobId>], k: u32, j: JobId)
     fill(running, k as usize - 1, j);
 }
 
-/// The processors that active jobs claim.
+/// A trait of claims: which processor does an active job claim?
 pub trait Claim {
     /// What a claim needs of the machine.
     ghost needs: { Self → MachineDef → Type 0 };
 
-    /// The processor that a job claims, counted from 1, where it claims one.
+    /// The processor that a job claims, counted from 1, if it claims one.
     ghost claim: { Self → MachineDef → ℕ → Option ℕ };
 
     /// That processor.
@@ -50,7 +50,7 @@ pub trait Claim {
         ensures most { IfSome result (λ k. k ≤ machine.now.list.set.processors) };
 }
 
-/// Active jobs get what they claim, where it is free, one after the other.
+/// Active jobs get what they claim, if it is free, one after the other.
 #[derive(Drop)]
 struct Claiming<'a, C> {
     claim: &'a C,
@@ -71,7 +71,7 @@ impl<'a, C: Claim> Visitor for Claiming<'a, C> {
     }
 }
 
-/// Names what runs where nothing does: on each processor the job of the highest task that claims it.
+/// Names what runs on the free processors: on each the job of the highest task that claims it.
 pub fn fill_each<C: Claim>(claim: &C, machine: &Machine, running: &mut [Option<JobId>])
     requires needs { C.needs claim.now machine.now }
     requires len { length running.old ≡ machine.now.list.set.processors }
@@ -82,8 +82,8 @@ pub fn fill_each<C: Claim>(claim: &C, machine: &Machine, running: &mut [Option<J
     visit_each(&Claiming { claim }, machine, running);
 }
 
-/// Names what runs: on each processor the job of the highest task that claims it by the first claim, and where there is none,
-/// by the second.
+/// Names what runs: on each processor the job of the highest task that claims it by the first claim. If there is none, it is the one by the
+/// second claim.
 pub fn fill_twice<A: Claim, B: Claim>(
     first: &A,
     second: &B,

@@ -1,5 +1,5 @@
-//! Choosing the row that comes next under MPCP and FMLP+, over the order in which a protocol grants requests and runs holders.
-//! What does not depend on that order, as writing what a row names, stands in public modules for other protocols.
+//! Chooses the next row under MPCP and FMLP+, over the order in which a protocol grants requests and runs holders. What doesn't depend on
+//! that order, such as how a row's names are written, is in public modules for other protocols.
 #![tactic(auto)]
 
 pub mod choosing;

@@ -15,7 +15,7 @@ pub trait RowChoice {
     /// Are these the holders?
     ghost granted: { Self → MachineDef → (ℕ → Option ℕ) → Type 0 };
 
-    /// Is this what runs, where these are the holders?
+    /// Is this what runs, given the holders?
     ghost placed: { Self → MachineDef → (ℕ → Option ℕ) → (ℕ → Option ℕ) → Type 0 };
 
     /// Names the holders.
@@ -25,7 +25,7 @@ pub trait RowChoice {
         ensures len { length holders.new ≡ length holders.old }
         ensures granted { granted self.now machine.now (place_in (map place_seen holders.new)) };
 
-    /// Names what runs, where these are the holders.
+    /// Names what runs, given the holders.
     fn run(&self, machine: &Machine, holders: &[Option<JobId>], running: &mut [Option<JobId>])
         requires needs { needs self.now machine.now }
         requires holders { length holders.now ≡ length machine.now.list.set.resources }
@@ -34,7 +34,7 @@ pub trait RowChoice {
         ensures placed { placed self.now machine.now (place_in (map place_seen holders.now)) (running_in (map place_seen running.new)) };
 }
 
-/// Makes the lent row the chosen one: the holders first, then what runs.
+/// Makes the lent row the chosen one: first the holders, then what runs.
 pub fn choose_row<C: RowChoice>(choice: &C, machine: &Machine, row: &mut Row)
     requires needs { C.needs choice.now machine.now }
     requires sized { IsSized machine.now.list.set (row_seen row.old) }

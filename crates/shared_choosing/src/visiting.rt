@@ -11,13 +11,13 @@ use sporadic_model::TaskId;
 
 /// What active jobs do to the places of a row, one after the other.
 pub trait Visitor {
-    /// Who is named at a place, by the number that the place has for this visitor.
+    /// Which job is named at a place, by the number that the place has for this visitor.
     ghost view: { List (Option ℕ) → ℕ → Option ℕ };
 
-    /// What a visit needs of the machine and the places, and keeps.
+    /// What a visit needs of the machine and the places, and keeps true.
     ghost needs: { Self → MachineDef → List (Option ℕ) → Type 0 };
 
-    /// Who is named at a place once a job has come, by who was named there before.
+    /// Which job is named at a place after a job has come, given the one that was named before.
     ghost step: { Self → MachineDef → ℕ → ℕ → Option ℕ → Option ℕ };
 
     /// The job comes.
@@ -28,7 +28,7 @@ pub trait Visitor {
         ensures each { (k : ℕ) → view (map place_seen places.new) k ≡ step self.now machine.now j.0 k (view (map place_seen places.old) k) };
 }
 
-/// The task's active job comes, where it has one.
+/// The task's active job comes, if it has one.
 fn visit_current<V: Visitor>(
     visitor: &V,
     machine: &Machine,

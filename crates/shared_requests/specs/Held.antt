@@ -1,7 +1,7 @@
 -- The tables that the limits of a task's closer rows are read from. In each, i is the analysed task.
 use Rattle.std.specs.Prelude.{◌≡◌, ℕ, ◌==◌, ◌&&◌, not, ◌<◌, ◌≤◌, Bool, false, List, length, slice_index, slice_index_or}
 use Rattle.sporadic_model.specs.SetDef.{SetDef}
-use Rattle.fragments.specs.Columns.{have_one_processor}
+use Rattle.blocking_columns.specs.Columns.{have_one_processor}
 use Rattle.indirect_constraints.specs.Rows.{is_beside}
 use Rattle.closer_laws.specs.CloserRows.{is_shared_out, is_held_there, is_held_beside, requests_where}
 use Rattle.shared_requests.specs.declared.holders.Holders.{Holders}

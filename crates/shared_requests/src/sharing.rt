@@ -3,7 +3,7 @@
 ghost use Rattle.std.specs.Prelude.{◌≡◌, ◌<◌, ◌&&◌, not, length, IfOk};
 ghost use Rattle.number_laws.specs.Tests.{any_below};
 ghost use Rattle.sporadic_model.specs.Users.{is_user};
-ghost use Rattle.fragments.specs.Columns.{have_one_processor};
+ghost use Rattle.blocking_columns.specs.Columns.{have_one_processor};
 ghost use Rattle.closer_laws.specs.CloserRows.{is_shared_out};
 ghost use Rattle.shared_requests.specs.Held.{AreSharedOut, is_holder};
 

@@ -11,7 +11,7 @@ use Rattle.phase_machine.proofs.Facts.{same_bool, active_shown}
 use Rattle.phase_machine.specs.Now.{processor_now}
 use Rattle.shared_rules.specs.Blocked.{is_higher_beside, blocked_now}
 
--- In a row that keeps Run a job runs exactly where it stands in its processor's column.
+-- In a row that keeps Run a job runs exactly if it is in its processor's column.
 pub runs_here : (w : Trace) (t j : ℕ) → KeepsRun w t → runs_in (w.row t) j ≡ is_job j (running_on (w.row t) (processor_of w j))
 runs_here w t j run = same_bool (runs_in (w.row t) j) (is_job j (running_on (w.row t) (processor_of w j))) there back where
   there : runs_in (w.row t) j ≡ true → is_job j (running_on (w.row t) (processor_of w j)) ≡ true

@@ -36,7 +36,7 @@ stands m place row (suc c) j h e =
     let column : place j ≡ c + 1 = eqb-true _ _ b.1 in
     record { active = a.0; ready = b.0; column = omega arith }
 
--- Where each job that runs may stand there, the test passes.
+-- If each running job may be in its column, the test passes.
 pub stands_from : (m : MachineDef) (place : ℕ → ℕ) (row : RowDef)
     → ((c j : ℕ) → get_or row.running c None ≡ Some j → may_stand m place row c j ≡ true) → each_stands m place row ≡ true
 unfolding each_stands

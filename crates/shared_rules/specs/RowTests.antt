@@ -1,5 +1,4 @@
--- The rules of a row as tests: what they look at is a machine's value and the row that comes next. The orders of grants
--- and runs stand as numbers of jobs.
+-- The rules of a row as tests of a machine's state and the next row. The orders of grants and runs are given as numbers of jobs.
 use Rattle.std.specs.Prelude.{ℕ, ◌+◌, ◌==◌, ◌&&◌, ◌||◌, not, Bool, true, false, nat_le, if◌then◌else◌, length, Option}
 use Rattle.std.specs.Prelude.{None, Some, is_some, slice_index_or}
 use Rattle.std.specs.Option.{option_map_or}
@@ -20,8 +19,7 @@ current_passes m p x = option_map_or p (current_now m x) true
 unfoldable pub each_current : MachineDef → (ℕ → Bool) → Bool
 each_current m p = all_below (length m.list.set.tasks) (current_passes m p)
 
--- Run: is what runs in column c, counted from 0, active and ready, and is the column the one of the processor that the job
--- runs on?
+-- Run: is the job that runs in column c, counted from 0, active and ready, and is it the column of the processor that the job runs on?
 abbrev pub may_stand : MachineDef → (ℕ → ℕ) → RowDef → ℕ → ℕ → Bool
 may_stand m column row c j = active_now m j && (may_run_now m (holder_in row) j && (column j == c + 1))
 
@@ -31,11 +29,11 @@ column_passes m column row c = option_map_or (may_stand m column row c) (slice_i
 unfoldable pub each_stands : MachineDef → (ℕ → ℕ) → RowDef → Bool
 each_stands m column row = all_below (length row.running) (column_passes m column row)
 
--- Here each job runs on its task's processor.
+-- Run, if each job runs on its task's processor.
 abbrev pub passes_run : MachineDef → RowDef → Bool
 passes_run m row = each_stands m (processor_now m) row
 
--- Keep: is the last row's holder of q, if it still requests q, the holder?
+-- Keep: does the holder of q in the last row hold it, if it still requests q?
 abbrev pub stays_holder : MachineDef → RowDef → ℕ → ℕ → Bool
 stays_holder m row q j = not (requester_now m q j) || is_job j (holder_in row q)
 
@@ -49,7 +47,7 @@ passes_keep m row = all_below (length m.list.set.resources) (kept_passes m row)
 abbrev pub holder_passes : MachineDef → RowDef → ℕ → Bool
 holder_passes m row q = option_map_or (requester_now m q) (holder_in row q) true
 
--- And does what job j requests have a holder, an old one or one that goes no later than j?
+-- Grant: has the resource that job j requests a holder, an old one or one that goes no later than j?
 abbrev pub goes_before : MachineDef → (ℕ → ℕ) → ℕ → ℕ → Option ℕ → Bool
 goes_before m grant q j None = false
 goes_before m grant q j (Some h) = is_job h (holder_now m q) || nat_le (grant h) (grant j)
@@ -64,14 +62,14 @@ request_passes m grant row j = is_served m grant row j (phase_now m j)
 unfoldable pub passes_grant : MachineDef → (ℕ → ℕ) → RowDef → Bool
 passes_grant m grant row = all_below (length m.list.set.resources) (holder_passes m row) && each_current m (request_passes m grant row)
 
--- Idle: does job j's processor run something, where j is ready?
+-- Idle: does job j's processor run something, if j is ready?
 abbrev pub idle_passes : MachineDef → RowDef → ℕ → Bool
 idle_passes m row j = not (may_run_now m (holder_in row) j) || is_some (running_on row (processor_now m j))
 
 unfoldable pub passes_idle : MachineDef → RowDef → Bool
 passes_idle m row = each_current m (idle_passes m row)
 
--- Priority: does what runs on job j's processor go no later than j? Holders go before Local jobs.
+-- Priority: does the job that runs on job j's processor go no later than j? Holders go before Local jobs.
 abbrev pub runs_before : MachineDef → (ℕ → ℕ) → RowDef → ℕ → Option ℕ → Bool
 runs_before m run row j None = true
 runs_before m run row j (Some r) =
@@ -84,7 +82,7 @@ priority_passes m run row j = runs_before m run row j (running_on row (processor
 unfoldable pub passes_priority : MachineDef → (ℕ → ℕ) → RowDef → Bool
 passes_priority m run row = each_current m (priority_passes m run row)
 
--- The first rule whose test fails, by the tests of Run, Keep, Grant, Idle and Priority.
+-- The first rule whose test fails, given the answers of the tests of Run, Keep, Grant, Idle and Priority.
 abbrev pub first_of : Bool → Bool → Bool → Bool → Bool → Option Rule
 first_of run keep grant idle priority =
     if not run then Some rule.Run
@@ -93,7 +91,7 @@ first_of run keep grant idle priority =
     else (if not idle then Some rule.Idle
     else (if not priority then Some rule.Priority else None))))
 
--- The same, where these are the tests; and a test of each rule by these five.
+-- The same for a test of each rule; and the test of each rule that five answers make.
 abbrev pub first_failing : (Rule → Bool) → Option Rule
 first_failing passes = first_of (passes rule.Run) (passes rule.Keep) (passes rule.Grant) (passes rule.Idle) (passes rule.Priority)
 

@@ -12,7 +12,7 @@ use phase_machine::Machine;
 use phase_machine::lookup::{running_beside, task_of};
 use schedule_model::{JobId, Row};
 
-/// Is what runs beside the job neither the job nor one of a higher task of its processor?
+/// Is the job that runs on the job's processor, if there is one, another job, and not of a higher task there?
 fn waits_beside(machine: &Machine, j: JobId, running: Option<JobId>) -> bool
     requires listed { j.0 < length machine.now.list.jobs }
     requires running { IfSome running (λ r. r.0 < length machine.now.list.jobs) }
@@ -30,7 +30,7 @@ fn waits_beside(machine: &Machine, j: JobId, running: Option<JobId>) -> bool
     }
 }
 
-/// Is the job active, and does neither it nor a job of a higher task of its processor run there?
+/// Is the job active and not running, and does no job of a higher task of its processor run there?
 #[tactic(auto, unfolding(crate::specs::Blocked::blocked_now))]
 fn is_blocked(machine: &Machine, row: &Row, j: JobId) -> bool
     requires fits { IsRowFor machine.now.list (row_seen row.now) }
@@ -40,7 +40,7 @@ fn is_blocked(machine: &Machine, row: &Row, j: JobId) -> bool
     machine.active(j) && waits_beside(machine, j, running_beside(machine, row, j))
 }
 
-/// In a row that keeps Run: is this tick blocked for the job, where requests run on their own task's processor?
+/// In a row that keeps Run: is this tick blocked for the job, if requests run on their own task's processor?
 pub fn blocked_shared(machine: &Machine, row: &Row, j: JobId) -> bool
     requires fits { IsRowFor machine.now.list (row_seen row.now) }
     requires listed { j.0 < length machine.now.list.jobs }

@@ -23,7 +23,7 @@ use phase_machine::{Machine, Order, Phase};
 use schedule_model::{JobId, Row, Rule};
 use sporadic_model::ResourceId;
 
-/// May the job stand in the column, counted from 0?
+/// May the job be in the column, counted from 0?
 fn may_stand<C: Columns>(columns: &C, machine: &Machine, row: &Row, c: usize, j: JobId) -> bool
     requires suits { C.suits columns.now machine.now.list.set }
     requires fits { IsRowFor machine.now.list (row_seen row.now) }
@@ -35,7 +35,7 @@ fn may_stand<C: Columns>(columns: &C, machine: &Machine, row: &Row, c: usize, j:
         && columns.column_of(machine, j) as usize - 1 == c
 }
 
-/// May what runs in the column stand there?
+/// May the job that runs in the column be there?
 fn column_passes<C: Columns>(columns: &C, machine: &Machine, row: &Row, c: usize) -> bool
     requires suits { C.suits columns.now machine.now.list.set }
     requires fits { IsRowFor machine.now.list (row_seen row.now) }
@@ -48,7 +48,7 @@ fn column_passes<C: Columns>(columns: &C, machine: &Machine, row: &Row, c: usize
     }
 }
 
-/// Run: may each running job stand in its column?
+/// Run: may each running job be in its column?
 #[tactic(auto, unfolding(crate::specs::RowTests::each_stands))]
 pub fn each_stands<C: Columns>(columns: &C, machine: &Machine, row: &Row) -> bool
     requires suits { C.suits columns.now machine.now.list.set }
@@ -63,7 +63,7 @@ pub fn each_stands<C: Columns>(columns: &C, machine: &Machine, row: &Row) -> boo
     true
 }
 
-/// Does the last row's holder of the resource, if it still requests it, hold it?
+/// Does the resource's holder in the last row hold it, if it still requests it?
 fn kept_passes(machine: &Machine, row: &Row, q: ResourceId) -> bool
     requires fits { IsRowFor machine.now.list (row_seen row.now) }
     requires resource { q.0 < length machine.now.list.set.resources }
@@ -75,7 +75,7 @@ fn kept_passes(machine: &Machine, row: &Row, q: ResourceId) -> bool
     }
 }
 
-/// Keep: does each holder stay that still requests its resource?
+/// Keep: does each holder stay if it still requests its resource?
 #[tactic(auto, unfolding(crate::specs::RowTests::passes_keep))]
 pub fn passes_keep(machine: &Machine, row: &Row) -> bool
     requires fits { IsRowFor machine.now.list (row_seen row.now) }
@@ -114,7 +114,7 @@ pub fn holders_pass(machine: &Machine, row: &Row) -> bool
     true
 }
 
-/// Has what the job requests a holder, an old one or one that goes no later than the job?
+/// Has the resource that the job requests a holder: an old one, or one that goes no later than the job?
 fn request_passes<O: Order>(order: &O, machine: &Machine, row: &Row, j: JobId) -> bool
     requires fits { IsRowFor machine.now.list (row_seen row.now) }
     requires listed { j.0 < length machine.now.list.jobs }
@@ -126,7 +126,7 @@ fn request_passes<O: Order>(order: &O, machine: &Machine, row: &Row, j: JobId) -
     }
 }
 
-/// Is there a holder of the resource, an old one or one that goes no later than the job?
+/// Is there a holder of the resource: an old one, or one that goes no later than the job?
 fn goes_before<O: Order>(
     order: &O,
     machine: &Machine,
@@ -164,7 +164,7 @@ impl<'a, O: Order> JobTest for RequestTest<'a, O> {
     }
 }
 
-/// Is each request of an active job served?
+/// Is the request of each active job served?
 fn requests_pass<O: Order>(order: &O, machine: &Machine, row: &Row) -> bool
     requires fits { IsRowFor machine.now.list (row_seen row.now) }
     ensures { result ≡ each_current machine.now (request_passes machine.now (O.grant order.now machine.now) (row_seen row.now)) }
@@ -172,7 +172,7 @@ fn requests_pass<O: Order>(order: &O, machine: &Machine, row: &Row) -> bool
     each_passes(&RequestTest { order, row }, machine)
 }
 
-/// Idle, for one job: does its processor run something, where the job is ready?
+/// Idle, for one job: does its processor run something, if the job is ready?
 fn idle_passes(machine: &Machine, row: &Row, j: JobId) -> bool
     requires fits { IsRowFor machine.now.list (row_seen row.now) }
     requires listed { j.0 < length machine.now.list.jobs }
@@ -197,7 +197,7 @@ impl<'a> JobTest for IdleTest<'a> {
     }
 }
 
-/// Idle: is no processor idle that has a ready job?
+/// Idle: does each processor that has a ready job run something?
 #[tactic(auto, unfolding(crate::specs::RowTests::passes_idle))]
 fn passes_idle(machine: &Machine, row: &Row) -> bool
     requires fits { IsRowFor machine.now.list (row_seen row.now) }
@@ -206,7 +206,7 @@ fn passes_idle(machine: &Machine, row: &Row) -> bool
     each_passes(&IdleTest { row }, machine)
 }
 
-/// Does what runs go no later than the job, on one processor?
+/// Does the job that runs go no later than the job, on one processor?
 fn runs_before<O: Order>(
     order: &O,
     machine: &Machine,
@@ -230,7 +230,7 @@ fn runs_before<O: Order>(
     }
 }
 
-/// Priority, for one job: does what runs on its processor go no later?
+/// Priority, for one job: does the job that runs on its processor go no later?
 fn priority_passes<O: Order>(order: &O, machine: &Machine, row: &Row, j: JobId) -> bool
     requires fits { IsRowFor machine.now.list (row_seen row.now) }
     requires listed { j.0 < length machine.now.list.jobs }
@@ -256,7 +256,7 @@ impl<'a, O: Order> JobTest for PriorityTest<'a, O> {
     }
 }
 
-/// Priority: does what runs on each processor go first there?
+/// Priority: does the job that runs on each processor go first there?
 #[tactic(auto, unfolding(crate::specs::RowTests::passes_priority))]
 fn passes_priority<O: Order>(order: &O, machine: &Machine, row: &Row) -> bool
     requires fits { IsRowFor machine.now.list (row_seen row.now) }
@@ -265,7 +265,7 @@ fn passes_priority<O: Order>(order: &O, machine: &Machine, row: &Row) -> bool
     each_passes(&PriorityTest { order, row }, machine)
 }
 
-/// Grant under the order: does each holder request its resource, and is each request of an active job served?
+/// Grant under the order: does each holder request its resource, and is the request of each active job served?
 #[tactic(auto, unfolding(crate::specs::RowTests::passes_grant))]
 pub fn passes_grant<O: Order>(order: &O, machine: &Machine, row: &Row) -> bool
     requires fits { IsRowFor machine.now.list (row_seen row.now) }
@@ -274,7 +274,7 @@ pub fn passes_grant<O: Order>(order: &O, machine: &Machine, row: &Row) -> bool
     holders_pass(machine, row) && requests_pass(order, machine, row)
 }
 
-/// The tests of the rules, where grants and runs go by the order.
+/// The tests of the rules, if grants and runs go by the order.
 #[derive(Drop)]
 struct OrderedTests<'a, O> {
     order: &'a O,
@@ -297,7 +297,7 @@ impl<'a, O: Order> RuleTests for OrderedTests<'a, O> {
     }
 }
 
-/// Does the row keep all five rules under the order? Else the first that it breaks.
+/// Ok if the row keeps all five rules under the order. Else the first rule that it breaks.
 pub fn judge_shared<O: Order>(order: &O, machine: &Machine, row: &Row) -> Result<(), Rule>
     requires fits { IsRowFor machine.now.list (row_seen row.now) }
     ensures { (rows : ℕ → RowDef) → Shows machine.now rows → rows machine.now.tick ≡ row_seen row.now

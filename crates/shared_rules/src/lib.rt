@@ -1,6 +1,6 @@
-//! The rules that MPCP and FMLP+ share, over the order in which a protocol grants requests and runs holders: judging a
-//! row, and telling which ticks are blocked. What does not depend on that order, as walking through the active jobs, stands
-//! in public modules for the judges of other protocols.
+//! The rules that MPCP and FMLP+ share, over the order in which a protocol grants requests and runs holders: they judge a row, and say
+//! which ticks are blocked. What doesn't depend on that order, such as the walk through the active jobs, is in public modules, for the
+//! judges of other protocols.
 #![tactic(auto)]
 
 mod blocking;

@@ -9,7 +9,7 @@ ghost use Rattle.shared_rules.specs.RowTests.{first_failing};
 use phase_machine::Machine;
 use schedule_model::{Row, Rule};
 
-/// The tests of a protocol's rules, over a machine and the row that comes next.
+/// The tests of a protocol's rules, over a machine and the next row.
 pub trait RuleTests {
     /// What the tests need of the machine.
     ghost needs: { Self → MachineDef → Type 0 };
@@ -24,7 +24,7 @@ pub trait RuleTests {
         ensures { result ≡ passes self.now machine.now (row_seen row.now) rule };
 }
 
-/// The first rule whose test fails: they are tried in the order of `Rule`.
+/// The first rule whose test fails, in the order of `Rule`.
 pub fn first_failed<T: RuleTests>(tests: &T, machine: &Machine, row: &Row) -> Option<Rule>
     requires needs { T.needs tests.now machine.now }
     requires fits { IsRowFor machine.now.list (row_seen row.now) }

@@ -22,7 +22,7 @@ pub trait JobTest {
         ensures { result ≡ passes self.now machine.now j.0 };
 }
 
-/// Does the task's active job pass, where it has one?
+/// Does the task's active job pass, if it has one?
 fn current_passes<T: JobTest>(test: &T, machine: &Machine, x: TaskId) -> bool
     requires needs { T.needs test.now machine.now }
     requires task { x.0 < length machine.now.list.set.tasks }

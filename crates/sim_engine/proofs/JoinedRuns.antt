@@ -6,7 +6,7 @@ use Rattle.schedule_model.specs.RowDef.{RunDef, row_in, ticks_of}
 use Rattle.sim_engine.specs.Joined.{AreJoined}
 use Rattle.sim_engine.specs.Simulated.{EachLasts}
 
--- The first run stands at its ticks, and the later runs after them.
+-- The first run is at its ticks, and the later runs come after them.
 row_first : (run : RunDef) (runs : List RunDef) (t : ℕ) → t < run.ticks → row_in (run ∷ runs) t ≡ run.row
 row_first run runs t l = rw (lt-ltb t run.ticks l) refl
 

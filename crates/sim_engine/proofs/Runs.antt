@@ -28,7 +28,7 @@ pub added_before : (list : JobsDef) (runs : List RunDef) (run : RunDef) (t : ℕ
     → row_in runs t ≡ row_in (runs ++ run ∷ []) t
 added_before list runs run t l = sym ((runs_agree list runs (run ∷ [])).rows t l)
 
--- It stands at its ticks.
+-- It is at its ticks.
 pub added_here : (list : JobsDef) (runs : List RunDef) (run : RunDef) (t : ℕ) → ticks_of runs ≤ t
     → t < ticks_of runs + run.ticks → row_in (runs ++ run ∷ []) t ≡ run.row
 added_here list runs run t l h = run_added list runs run [] t l h

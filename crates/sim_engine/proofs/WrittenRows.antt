@@ -143,7 +143,7 @@ stretch_more chooses m n rows after last next row more some reads u list tick ta
 stretch_more chooses m n rows after last next row more some reads u list tick taken fits (inr other) =
     rw (other.ended, other.begun) (begin_anew chooses m n rows last row more some reads u list tick taken fits other.other)
 
--- What stands at the end, where the last run has ended too.
+-- The rows at the end, after the last run has ended too.
 pub simulated : (chooses : Trace → ℕ → Type 0) (m : MachineDef) (list : JobsDef) (n : ℕ) (rows after : RowsDef)
     (last : RunDef) → IsUnderWay chooses m rows last → m.list ≡ list → m.tick ≡ n
     → after ≡ with_run rows last → IsSimulated chooses list n after.runs

@@ -1,8 +1,8 @@
--- Runs of equal rows of which each lasts as long as it can.
+-- Runs of equal rows, each as long as it can be.
 use Rattle.std.specs.Prelude.{◌≢◌, List, [], ◌∷◌}
 use Rattle.schedule_model.specs.RowDef.{RunDef}
 
--- Has each run another row than the one before it?
+-- Has each run another row than the run before it?
 abbrev pub AreJoined : List RunDef → Type 0
 AreJoined [] = Unit {0}
 AreJoined (run ∷ []) = Unit {0}

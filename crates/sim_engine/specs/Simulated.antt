@@ -9,7 +9,7 @@ abbrev pub EachLasts : List RunDef → Type 0
 EachLasts [] = Unit {0}
 EachLasts (run ∷ runs) = (1 ≤ run.ticks) × EachLasts runs
 
--- Has each of n ticks the row that is chosen after those before it, in runs that each last as long as they can?
+-- Is it the schedule of n ticks in which each row is the chosen one after the rows before it, with each run as long as it can be?
 pub record IsSimulated (chooses : Trace → ℕ → Type 0) (jobs : JobsDef) (n : ℕ) (runs : List RunDef) : Type 0 where
   pub ticks : ticks_of runs ≡ n
   pub chosen : (t : ℕ) → t < n → chooses (trace_in jobs runs) t

@@ -1,4 +1,4 @@
--- How rows are written, each after the ones before it: a list of the runs that have ended, and the run that still goes on.
+-- How rows are written, one after the other: a list of the runs that have ended, and the run that may still go on.
 use Rattle.std.specs.Prelude.{◌≡◌, ◌≢◌, ℕ, ◌+◌, ◌≤◌, true, List, [], ◌∷◌, ◌++◌, length, ◌⊎◌}
 use Rattle.schedule_model.specs.JobDef.{JobsDef}
 use Rattle.schedule_model.specs.RowDef.{RowDef, RunDef, Trace, row_in, ticks_of}
@@ -9,7 +9,7 @@ use Rattle.sim_engine.specs.Joined.{AreJoined}
 use Rattle.sim_engine.specs.Simulated.{EachLasts}
 use Rattle.sim_engine.specs.Choosing.{AreChosenSoFar}
 
--- The list of these runs that is made for the jobs.
+-- The list of these runs, made for the jobs.
 abbrev pub rows_with : JobsDef → List RunDef → RowsDef
 rows_with list runs = record {
   processors = list.set.processors;
@@ -18,17 +18,17 @@ rows_with list runs = record {
   runs = runs;
 }
 
--- The runs with the one that still goes on.
+-- All runs: those that have ended, and the one that may still go on.
 abbrev pub all_runs : RowsDef → RunDef → List RunDef
 all_runs rows last = rows.runs ++ last ∷ []
 
--- The row is that of the run, which goes on for so many ticks.
+-- The row is that of the last run, which goes on for this many ticks.
 pub record GoesOn (rows : RowsDef) (last : RunDef) (row : RowDef) (more : ℕ) (after : RowsDef) (next : RunDef) : Type 0 where
   pub same : last.row ≡ row
   pub kept : after ≡ rows
   pub longer : next ≡ record { ticks = last.ticks + more; row = last.row }
 
--- The row is another, so that the run ends and one of this row begins, for so many ticks.
+-- The row is another one. So the last run ends, and a run of this row begins, for this many ticks.
 pub record BeginsAnew (rows : RowsDef) (last : RunDef) (row : RowDef) (more : ℕ) (after : RowsDef) (next : RunDef) : Type 0 where
   pub other : last.row ≢ row
   pub ended : after ≡ with_run rows last
@@ -37,8 +37,8 @@ pub record BeginsAnew (rows : RowsDef) (last : RunDef) (row : RowDef) (more : �
 abbrev pub AddsRows : RowsDef → RunDef → RowDef → ℕ → RowsDef → RunDef → Type 0
 AddsRows rows last row more after next = GoesOn rows last row more after next ⊎ BeginsAnew rows last row more after next
 
--- Is a schedule being written: have the runs so far the rows that the machine has taken, each the chosen one, and fits
--- each run the machine's jobs, last a tick or more and have another row than the one before it?
+-- Is a schedule being written? The runs so far have the rows that the machine has taken, each the chosen one. Each run fits the machine's
+-- jobs, lasts a tick or more, and has another row than the run before it.
 pub record IsUnderWay (chooses : Trace → ℕ → Type 0) (m : MachineDef) (rows : RowsDef) (last : RunDef) : Type 0 where
   pub chosen : AreChosenSoFar chooses (row_in (all_runs rows last)) m
   pub tick : m.tick ≡ ticks_of rows.runs + last.ticks

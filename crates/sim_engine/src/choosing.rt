@@ -12,8 +12,8 @@ use phase_machine::{Judge, Machine};
 use schedule_model::{Row, RowList, RowRun};
 use std::alloc::{AllocError, Global};
 
-/// Makes the lent row the next that the protocol chooses, and lets the machine take it through the steady stretch that it
-/// begins, as far as the stretch lies before tick `end`. How many ticks these were.
+/// Makes the lent row the next one that the protocol chooses. The machine takes it through the steady stretch that it begins, as far as the
+/// stretch is before tick `end`. Answers how many ticks these were.
 pub(crate) fn next_rows<P: Judge>(
     protocol: &P,
     machine: &mut Machine,
@@ -39,7 +39,7 @@ pub(crate) fn next_rows<P: Judge>(
     ticks
 }
 
-/// Chooses the row of the next tick, and writes it as often as it stays the chosen one for sure, before tick `end`.
+/// Chooses the row of the next tick, and writes it for as many ticks before `end` as it surely stays the chosen one.
 pub(crate) fn take_stretch<P: Judge>(
     alloc: Global,
     protocol: &P,

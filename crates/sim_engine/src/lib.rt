@@ -1,4 +1,4 @@
-//! Makes the schedule of jobs that a locking protocol chooses.
+//! Makes the schedule that a locking protocol chooses for a list of jobs.
 #![tactic(auto)]
 
 mod by_protocol;

@@ -6,7 +6,7 @@ ghost use Rattle.schedule_model.specs.Seen.{place_seen, row_seen};
 use schedule_model::{JobId, JobList, Row};
 use std::alloc::{AllocError, Global};
 
-/// So many places that name no job.
+/// This many places that name no job.
 fn no_jobs(alloc: Global, count: u32) -> Result<Vec<Option<JobId>>, AllocError>
     ensures { IfOk result (λ v. length v.items ≡ count) }
 {
@@ -27,14 +27,14 @@ pub(crate) fn idle_row(alloc: Global, jobs: &JobList) -> Result<Row, AllocError>
     Ok(Row { running, holders })
 }
 
-/// The same places once more.
+/// A copy of the places.
 fn copy_of_places(alloc: Global, places: &[Option<JobId>]) -> Result<Vec<Option<JobId>>, AllocError>
     ensures { IfOk result (λ v. v.items ≡ places.now) }
 {
     places.to_vec(alloc)
 }
 
-/// The same row once more.
+/// A copy of the row.
 pub(crate) fn copy_of(alloc: Global, row: &Row) -> Result<Row, AllocError>
     ensures { IfOk result (λ copy. row_seen copy ≡ row_seen row.now) }
 {

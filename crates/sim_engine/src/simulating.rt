@@ -13,9 +13,9 @@ use phase_machine::{Judge, Machine};
 use schedule_model::{JobList, RowList, RowRun};
 use std::alloc::{AllocError, Global};
 
-/// The schedule of so many ticks, from 1 to 10^9, in which each row is the one that the protocol chooses after the rows
-/// before it. Equal rows on end are one run. The list keeps the rules, so that none of its rows is the first to break one,
-/// and fits the jobs. There is no list for want of memory alone.
+/// The schedule of this many ticks, from 1 to 10^9, in which each row is the one that the protocol chooses after the rows before it. Equal
+/// rows one after the other are one run. The list keeps the rules, so none of its rows breaks one, and it fits the jobs. It fails only for
+/// want of memory.
 pub fn simulate_with<P: Judge>(
     alloc: Global,
     protocol: &P,

@@ -9,7 +9,7 @@ use schedule_model::{Row, RowList, RowRefusal, RowRun};
 use std::alloc::{AllocError, Global};
 use std::mem;
 
-/// Puts a run at the end of the list, which refuses it for want of memory alone.
+/// Puts a run at the end of the list, which refuses it only for want of memory.
 pub(crate) fn push_run(rows: &mut RowList, run: RowRun) -> Result<(), AllocError>
     requires sized { IsTrue (is_sized rows.old.processors rows.old.resources (run_seen run).row) }
     requires free { first_refusal rows.old (run_seen run) ≡ None }
@@ -22,8 +22,7 @@ pub(crate) fn push_run(rows: &mut RowList, run: RowRun) -> Result<(), AllocError
     }
 }
 
-/// Writes the row so many times after a run that still goes on: the run goes on where it has this row; else it ends, and a run
-/// of this row begins.
+/// Writes the row for this many ticks. If the last run has this row, it goes on. Else it ends, and a run of this row begins.
 pub(crate) fn add_rows(
     alloc: Global,
     rows: &mut RowList,

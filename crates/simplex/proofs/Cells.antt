@@ -15,7 +15,7 @@ row_read rows i row l is = sym (get_or_read rows i row l is no_row)
 pub row_same : (rows : List RowDef) (i : ℕ) (x : RowDef) → i < length rows → row_of rows i ≡ slice_index_or rows i x
 row_same rows i x l = get_or_default rows i no_row x l
 
--- what is left when a product that has a form is taken away
+-- what is left if a product that has a form is subtracted
 pub takes_less : (r : Result Fraction Wide) (a f y product : Fraction) → IsForm product → IsProduct f y product
     → Gives r (IsDifference a product) → TakesCell r a f y
 takes_less (Ok b) a f y product form is h =

@@ -23,7 +23,7 @@ rises-on : (e : Entry) (es : List Entry)
     → (i j : ℕ) → i < j → j < length es → (entry_at es i).variable < (entry_at es j).variable
 rises-on e es h i j l k = h (suc i) (suc j) (omega arith) (omega arith)
 
--- what stands in the list is listed
+-- each entry of the list is listed
 pub listed_entry : (es : List Entry) (k v : ℕ) → ((i j : ℕ) → i < j → j < length es → (entry_at es i).variable < (entry_at es j).variable)
     → k < length es → (entry_at es k).variable ≡ v → listed_at es v ≡ (entry_at es k).value
 listed_entry [] k v rise l is = absurd (omega arith)
@@ -32,12 +32,12 @@ listed_entry (e ∷ es) (suc k) v rise l is =
     let earlier : e.variable < (entry_at es k).variable = rise 0 (suc k) (omega arith) l in
     listed-on e es v (λ q. omega arith) ∙ listed_entry es k v (rises-on e es rise) (omega arith) is
 
--- and where none stands it is zero
+-- and if there is none, it is zero
 pub listed_none : (es : List Entry) (v : ℕ) → ((k : ℕ) → k < length es → (entry_at es k).variable ≢ v) → listed_at es v ≡ whole (pos 0)
 listed_none [] v away = refl
 listed_none (e ∷ es) v away = listed-on e es v (away 0 (omega arith)) ∙ listed_none es v (λ k l. away (suc k) (omega arith))
 
--- does one stand there?
+-- is there one?
 pub found_or_none : (es : List Entry) (v : ℕ)
     → ((k : ℕ) × (k < length es) × ((entry_at es k).variable ≡ v)) ⊎ ((k : ℕ) → k < length es → (entry_at es k).variable ≢ v)
 found_or_none [] v = inr (λ k l. absurd (omega arith))

@@ -1,4 +1,4 @@
--- What the steps of an exchange answer at one cell, and at a list of nonzero cells.
+-- What do the steps of an exchange answer at one cell, and at a list of nonzero cells?
 use Rattle.std.specs.Prelude.{◌≡◌, ◌≢◌, ◌⊎◌, ℕ, ◌<◌, List, [], ◌∷◌, ◌++◌, pos, Result, Ok, Err}
 use Rattle.std.specs.Global.{Global}
 use Rattle.std.specs.declared.vec.Vec.{Vec}
@@ -11,7 +11,7 @@ use Rattle.simplex.specs.declared.entries.Entry.{Entry}
 use Rattle.simplex.specs.declared.SolveStop.{SolveStop}
 use Rattle.simplex.specs.declared.SolveStop.TheVariants.{Memory, Wide as WideStop, Units}
 
--- What is left of a when f times y is taken away, or Wide exactly where the product or the difference has no form
+-- What is left of a if f times y is subtracted, or Wide exactly if the product or the difference has no form
 abbrev pub TakesCell : Result Fraction Wide → Fraction → Fraction → Fraction → Type 0
 TakesCell (Ok b) a f y = IsLess a f y b
 TakesCell (Err w) a f y = IsWideLess a f y
@@ -22,7 +22,7 @@ pub record AreDivided (entries : List Entry) (by : Fraction) (divided : List Ent
   pub below : (end : ℕ) → AreBelow end entries → AreBelow end divided
   pub quotient : (v : ℕ) → IsQuotient (listed_at entries v) by (listed_at divided v)
 
--- Each value divided, or Wide exactly where a quotient has no form.
+-- Each value divided, or Wide exactly if a quotient has no form.
 abbrev pub DividesAll : Result (Vec Entry Global) SolveStop → List Entry → Fraction → Type 0
 DividesAll (Ok divided) entries by = AreDivided entries by divided.items
 DividesAll (Err Memory) entries by = Unit {0}
@@ -30,18 +30,18 @@ DividesAll (Err WideStop) entries by =
     (v : ℕ) × ((end : ℕ) → AreBelow end entries → v < end) × HasNoForm (IsQuotient (listed_at entries v) by)
 DividesAll (Err Units) entries by = ⊥
 
--- Is `after` the list with one more cell behind the others, which gets no entry where it is zero?
+-- Is `after` the list with one more cell at its end? A zero cell gets no entry.
 abbrev pub IsPushed : List Entry → ℕ → Fraction → List Entry → Type 0
 IsPushed before v f after =
     ((f.num ≡ pos 0) × (after ≡ before)) ⊎ ((f.num ≢ pos 0) × (after ≡ before ++ record { variable = v; value = f } ∷ []))
 
--- Is `left` what is left of a list when f times another is taken away, at every variable?
+-- Is `left` what is left of a list if f times another is subtracted, at every variable?
 pub record AreLeft (end : ℕ) (entries : List Entry) (f : Fraction) (pivot left : List Entry) : Type 0 where
   pub sparse : AreSparse left
   pub below : AreBelow end left
   pub each : (v : ℕ) → IsLess (listed_at entries v) f (listed_at pivot v) (listed_at left v)
 
--- f times the pivot's cell taken from each cell, or Wide exactly where a product or a difference has no form.
+-- f times the pivot's cell subtracted from each cell, or Wide exactly if a product or a difference has no form.
 abbrev pub TakesAway : Result (Vec Entry Global) SolveStop → ℕ → List Entry → Fraction → List Entry → Type 0
 TakesAway (Ok left) end entries f pivot = AreLeft end entries f pivot left.items
 TakesAway (Err Memory) end entries f pivot = Unit {0}

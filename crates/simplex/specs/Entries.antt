@@ -4,7 +4,7 @@ use Rattle.std.specs.Prelude.{Some, None, Bool, true, false, pos, ◌≤ℤ◌, 
 use Rattle.fraction128.specs.Fraction.{Fraction, IsForm, whole}
 use Rattle.simplex.specs.declared.entries.Entry.{Entry}
 
--- Which value is listed at variable v? Zero where v isn't listed.
+-- The value at variable v, and zero if v isn't listed.
 abbrev pub listed_at : List Entry → ℕ → Fraction
 listed_at [] v = whole (pos 0)
 listed_at (e ∷ es) v = if e.variable == v then e.value else listed_at es v
@@ -34,12 +34,12 @@ abbrev pub IsAt : Bool → List Entry → ℕ → ℕ → Type 0
 IsAt true entries k v = (k < length entries) × ((entry_at entries k).variable ≡ v)
 IsAt false entries k v = k < length entries → (entry_at entries k).variable ≢ v
 
--- Is v the variable of the entry behind so many others, or `end` behind the last one?
+-- Is v the variable of the entry after this many others, or `end` after the last one?
 pub record IsBehind (entries : List Entry) (count end v : ℕ) : Type 0 where
   pub listed : count < length entries → v ≡ (entry_at entries count).variable
   pub past : length entries ≤ count → v ≡ end
 
--- The first variable whose listed value is above zero, or None where there is none.
+-- The first variable whose listed value is above zero, or None if there is none.
 abbrev pub IsFirstListed : Option ℕ → List Entry → Type 0
 IsFirstListed (Some e) entries =
     ((k : ℕ) × (k < length entries) × ((entry_at entries k).variable ≡ e))

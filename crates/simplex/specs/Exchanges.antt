@@ -1,4 +1,4 @@
--- What the parts of an exchange answer at all rows.
+-- What do the parts of an exchange answer at all rows?
 use Rattle.std.specs.Prelude.{◌≡◌, ◌≢◌, ◌⊎◌, ℕ, ◌+◌, ◌<◌, List, length, Result, Ok, Err}
 use Rattle.program_form.specs.Program.{ProgramDef, height}
 use Rattle.exchange_runs.specs.Table.{variables}
@@ -11,12 +11,12 @@ use Rattle.simplex.specs.RowSteps.{IsDividedRow, IsLeftRow}
 use Rattle.simplex.specs.declared.SolveStop.{SolveStop}
 use Rattle.simplex.specs.declared.SolveStop.TheVariants.{Memory, Wide, Units}
 
--- Has each row but r lost its cell at e times the pivot row?
+-- Has its cell at e times the pivot row been subtracted from each row but r?
 pub record AreTaken (before after : List RowDef) (e r : ℕ) (pivot : RowDef) : Type 0 where
   pub as_many : length after ≡ length before
   pub taken : (i : ℕ) → i < length before → i ≢ r → IsLeftRow (row_of before i) (cell_at (row_of before i) e) pivot (row_of after i)
 
--- The rows so, or Wide exactly where a product or a difference has no form.
+-- The rows after that, or Wide exactly if a product or a difference has no form.
 abbrev pub TakesAll : Result (Unit {0}) SolveStop → List RowDef → List RowDef → ℕ → ℕ → RowDef → Type 0
 TakesAll (Ok u) before after e r pivot = AreTaken before after e r pivot
 TakesAll (Err Memory) before after e r pivot = Unit {0}
@@ -24,14 +24,14 @@ TakesAll (Err Wide) before after e r pivot = (i : ℕ) × (v : ℕ) × (i < leng
     × IsWideLess (cell_at (row_of before i) v) (cell_at (row_of before i) e) (cell_at pivot v)
 TakesAll (Err Units) before after e r pivot = ⊥
 
--- Is row r divided by its cell at e, and has each other row lost its cell at e times the new row r?
+-- Is row r divided by its cell at e? And has its cell at e times the new row r been subtracted from each other row?
 pub record AreExchanged (before after : List RowDef) (e r : ℕ) : Type 0 where
   pub as_many : length after ≡ length before
   pub divided : IsDividedRow (row_of before r) (cell_at (row_of before r) e) (row_of after r)
   pub taken : (i : ℕ) → i < length before → i ≢ r
       → IsLeftRow (row_of before i) (cell_at (row_of before i) e) (row_of after r) (row_of after i)
 
--- The rows so, or Wide exactly where a quotient, a product or a difference has no form.
+-- The rows after that, or Wide exactly if a quotient, a product or a difference has no form.
 abbrev pub ExchangesIn : Result (Unit {0}) SolveStop → List RowDef → List RowDef → ℕ → ℕ → Type 0
 ExchangesIn (Ok u) before after e r = AreExchanged before after e r
 ExchangesIn (Err Memory) before after e r = Unit {0}
@@ -39,7 +39,7 @@ ExchangesIn (Err Wide) before after e r =
     (most : ℕ) (basis : List ℕ) → length before ≡ most + 1 → IsWideStep most (table_of before basis) e r
 ExchangesIn (Err Units) before after e r = ⊥
 
--- The next table, or Wide exactly where the exchange is.
+-- The next table, or Wide exactly if the exchange is wide.
 abbrev pub Steps : Result (Unit {0}) SolveStop → ProgramDef → ℕ → List RowDef → List ℕ → List RowDef → List ℕ → Type 0
 Steps (Ok u) p e rows basis rows' basis' =
     (HasSize p rows' basis') × ((r : ℕ) × IsExchange p (table_of rows basis) (table_of rows' basis') e r)

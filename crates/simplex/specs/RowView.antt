@@ -1,4 +1,4 @@
--- What the parts of a `SparseRow` are as a row, and what every `SparseRow` keeps.
+-- What contracts see of a `SparseRow` as a row, and what every `SparseRow` keeps.
 use Rattle.simplex.specs.Rows.{RowDef, IsSparseRow}
 use Rattle.simplex.specs.declared.row.SparseRow.TheInside.{Inside}
 

@@ -1,10 +1,10 @@
--- What contracts see of a row of a table. Everything else reads it by its places and its cells alone.
+-- What contracts see of a row of a table. All else reads it only by its places and its cells.
 use Rattle.std.specs.Prelude.{◌≡◌, ℕ, ◌+◌, ◌==◌, if◌then◌else◌, List, [], pos}
 use Rattle.fraction128.specs.Fraction.{Fraction, IsForm, whole}
 use Rattle.simplex.specs.declared.entries.Entry.{Entry}
 use Rattle.simplex.specs.Entries.{listed_at, AreSparse, AreBelow}
 
--- The nonzero cells in order of their variables, and beside them the limit, which stands at the place behind all variables.
+-- The nonzero cells in order of their variables, and the limit. The limit is at the place after all variables.
 pub record RowDef : Type 0 where
   pub entries : List Entry
   pub place : ℕ
@@ -14,15 +14,15 @@ pub record RowDef : Type 0 where
 abbrev pub places : RowDef → ℕ
 places row = row.place + 1
 
--- Which fraction stands at place v? Where none is listed it is zero, past the places too.
+-- The fraction at place v. It is zero if none is listed, and past the places too.
 abbrev pub cell_at : RowDef → ℕ → Fraction
 cell_at row v = if row.place == v then row.limit else listed_at row.entries v
 
--- Has the row a place for each of so many variables, and one for its limit?
+-- Has the row a place for each of this many variables, and one for its limit?
 abbrev pub Fits : ℕ → RowDef → Type 0
 Fits variables row = places row ≡ variables + 1
 
--- Do the variables rise up to the place of the limit, is no cell zero but the limit, and can a `Frac` hold each?
+-- Do the variables rise up to the place of the limit? Is no cell but the limit zero? And can a `Frac` hold each cell?
 pub record IsSparseRow (row : RowDef) : Type 0 where
   pub sparse : AreSparse row.entries
   pub below : AreBelow row.place row.entries

@@ -1,4 +1,4 @@
--- What `solve` answers.
+-- What does `solve` answer?
 use Rattle.std.specs.Prelude.{ℕ, List, Result, Ok, Err}
 use Rattle.program_form.specs.Program.{ProgramDef}
 use Rattle.program_form.specs.Certificate.{DualDef, dual_seen}
@@ -8,8 +8,8 @@ use Rattle.simplex.specs.declared.Solved.{Solved}
 use Rattle.simplex.specs.declared.SolveStop.{SolveStop}
 use Rattle.simplex.specs.declared.SolveStop.TheVariants.{Memory, Wide, Units}
 
--- The end of the run, Wide exactly where the run is wide within the units, Units exactly where it needs more. Only want of memory
--- is free.
+-- The end of the run. `Wide` exactly if the run is wide within the units. `Units` exactly if it needs more units. Only want of memory says
+-- nothing.
 abbrev pub Solves : Result Solved SolveStop → ProgramDef → ℕ → Type 0
 Solves (Ok s) p units = EndsWithin p units s.exchanges s.value s.primal.items (dual_seen s.dual)
 Solves (Err Memory) p units = Unit {0}
@@ -20,7 +20,7 @@ Solves (Err Units) p units = NeedsMoreThan p units
 abbrev pub Ends : ProgramDef → ℕ → Type 0
 Ends p units = (k : ℕ) × (value : Fraction) × (primal : List Fraction) × (d : DualDef) × EndsWithin p units k value primal d
 
--- Is it the only answer but for want of memory: does none of the others hold as well?
+-- Is it the only answer, except for want of memory? None of the others holds as well.
 abbrev pub IsOnlyAnswer : Result Solved SolveStop → ProgramDef → ℕ → Type 0
 IsOnlyAnswer (Ok s) p units = ¬ (IsWideWithin p units) × ¬ (NeedsMoreThan p units)
 IsOnlyAnswer (Err Memory) p units = Unit {0}

@@ -1,4 +1,4 @@
-//! Which variable enters the basis, and which row leaves it.
+//! Which variable enters the basis, and which row leaves it?
 
 ghost use Rattle.std.specs.Prelude.{◌≡◌, ℕ, ◌+◌, ◌<◌, ◌≤◌, List, length, slice_index, IfSome};
 ghost use Rattle.program_form.specs.Program.{height};
@@ -48,7 +48,7 @@ fn better(r: usize, least: Frac, i: usize, ratio: Frac, basis: &[usize]) -> (usi
     }
 }
 
-// The same, where there may be no row so far.
+// The same, if there may be no row so far.
 fn chosen(best: Option<(usize, Frac)>, i: usize, ratio: Frac, basis: &[usize]) -> (usize, Frac)
     requires within { i < length basis.now }
     requires earlier { IfSome best (λ b. b.0 < i) }
@@ -62,7 +62,7 @@ fn chosen(best: Option<(usize, Frac)>, i: usize, ratio: Frac, basis: &[usize]) -
     }
 }
 
-// The row that leaves where the variable e enters, with its ratio. The limits stand at `place`.
+// The row that leaves if the variable e enters, with its ratio. The limits are at `place`.
 pub(crate) fn leaving(
     rows: &[SparseRow],
     basis: &[usize],

@@ -1,4 +1,4 @@
-//! What is read off the last table.
+//! What is read from the last table.
 
 ghost use Rattle.std.specs.Prelude.{◌≡◌, ℕ, ◌<◌, ◌≤◌, pos, ◌≤ℤ◌, length, IfOk};
 ghost use Rattle.fraction128.specs.Fraction.{whole};
@@ -17,7 +17,7 @@ use fraction128::{Frac, Scaled, ScalingError, scale};
 use program_form::{Dual, SparseProgram};
 use std::alloc::{AllocError, Global};
 
-// The dual that is written for the objective row of a last table.
+// The dual of the objective row of a last table.
 fn dual_of(alloc: Global, program: &SparseProgram, row: &SparseRow) -> Result<Dual, SolveStop>
     requires fits { Fits (variables program.now) row.now }
     requires last { (v : ℕ) → v < variables program.now → (cell_at row.now v).num ≤ℤ pos 0 }
@@ -33,7 +33,7 @@ fn dual_of(alloc: Global, program: &SparseProgram, row: &SparseRow) -> Result<Du
     }
 }
 
-// So many zeros.
+// This many zeros.
 fn zeros(alloc: Global, count: usize) -> Result<Vec<Frac>, AllocError>
     ensures len { IfOk result (λ v. length v.items ≡ count) }
     ensures zero { IfOk result (λ v. (c : ℕ) → fraction_at v.items c ≡ whole (pos 0)) }

@@ -16,7 +16,7 @@ pub(crate) struct Entry {
     pub(crate) value: Frac,
 }
 
-// The variable of the entry behind so many others, or `end` behind the last one.
+// The variable of the entry after this many others, or `end` after the last one.
 fn variable_behind(entries: &[Entry], count: usize, end: usize) -> usize
     ensures { IsBehind entries.now count end result }
 {
@@ -34,7 +34,7 @@ fn is_at(entries: &[Entry], place: usize, v: usize) -> bool
     place < entries.len() && entries[place].variable == v
 }
 
-// The value listed at variable v, where so many entries stand at variables below it.
+// The value at variable v, if this many entries are at variables below it.
 fn value_behind(entries: &[Entry], count: usize, v: usize) -> Frac
     requires sparse { AreSparse entries.now }
     requires split { IsSplit entries.now count v }
@@ -48,7 +48,7 @@ fn value_behind(entries: &[Entry], count: usize, v: usize) -> Frac
     }
 }
 
-// How many entries stand at variables up to v, where so many stand at variables below it.
+// How many entries are at variables up to v, if this many are at variables below it.
 fn count_through(entries: &[Entry], count: usize, v: usize) -> usize
     requires sparse { AreSparse entries.now }
     requires split { IsSplit entries.now count v }
@@ -61,7 +61,7 @@ fn count_through(entries: &[Entry], count: usize, v: usize) -> usize
     }
 }
 
-// The value listed at variable v.
+// The value at variable v.
 pub(crate) fn value_at(entries: &[Entry], v: usize) -> Frac
     requires { AreSparse entries.now }
     ensures value { result ≡ listed_at entries.now v }
@@ -88,7 +88,7 @@ pub(crate) fn first_above(entries: &[Entry]) -> Option<usize>
     None
 }
 
-// Each value divided. A zero cell has no entry, and divided it stays zero.
+// Each value divided. A zero cell has no entry, and stays zero.
 pub(crate) fn divide_all(
     alloc: Global,
     entries: &[Entry],
@@ -108,7 +108,7 @@ pub(crate) fn divide_all(
     Ok(divided)
 }
 
-// What is left of a when f times y is taken away.
+// What is left of a if f times y is subtracted.
 pub(crate) fn taken(a: Frac, f: Frac, y: Frac) -> Result<Frac, Wide>
     requires { IsForm a }
     ensures { TakesCell result a f y }
@@ -130,8 +130,8 @@ fn push_cell(list: &mut Vec<Entry>, variable: usize, value: Frac) -> Result<(), 
     Ok(())
 }
 
-// What is left of each cell when f times the pivot's is taken away, at variables below `end`, in order. A cell that becomes zero gets
-// no entry.
+// What is left of each cell if f times the pivot's is subtracted, at variables below `end`, in order. A cell that becomes zero gets no
+// entry.
 pub(crate) fn take_away(
     alloc: Global,
     entries: &[Entry],
@@ -146,7 +146,7 @@ pub(crate) fn take_away(
     ensures { TakesAway result end entries.now f pivot.now }
 {
     let mut left = Vec::new(alloc);
-    // i entries of the row and j of the pivot stand at variables below v, the next one that either lists
+    // i entries of the row and j of the pivot are at variables below v, the next one in either list
     let mut i = 0;
     let mut j = 0;
     let mut v = variable_behind(entries, i, end).min(variable_behind(pivot, j, end));

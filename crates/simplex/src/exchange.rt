@@ -14,7 +14,7 @@ use fraction128::Wide;
 use program_form::SparseProgram;
 use std::alloc::Global;
 
-// Takes from each row but r its cell at e times the pivot row. Where that cell is zero the row stays.
+// Subtracts from each row but r its cell at e times the pivot row. If that cell is zero, the row stays.
 fn take_all(
     alloc: Global,
     rows: &mut [SparseRow],
@@ -35,7 +35,7 @@ fn take_all(
     Ok(())
 }
 
-// Divides row r by its cell at e, and takes it from each other row its cell there times.
+// Divides row r by its cell at e. Then subtracts it from each other row, times that row's cell at e.
 fn exchange(alloc: Global, rows: &mut [SparseRow], e: usize, r: usize) -> Result<(), SolveStop>
     requires row { r < length rows.old }
     requires even { (i : ℕ) → i < length rows.old → places (row_of rows.old i) ≡ places (row_of rows.old r) }
@@ -49,7 +49,7 @@ fn exchange(alloc: Global, rows: &mut [SparseRow], e: usize, r: usize) -> Result
     Ok(())
 }
 
-// The exchange of the run where the variable e enters.
+// The exchange of the run if the variable e enters.
 pub(crate) fn step(
     alloc: Global,
     program: &SparseProgram,

@@ -1,9 +1,10 @@
 //! The exact optimum of a blocking program, by exchanges of tables of fractions.
 //!
-//! A [`SparseProgram`] keeps a program by its nonzero coefficients, so that its limits can be renewed and it can be solved again.
-//! The run is tried over whole numbers (`whole_runs`). Where those don't fit, it is made over fractions here:
-//! `start` makes the first table, `choice` says which variable enters and which row leaves, `exchange` makes the next table, and
-//! `end` reads the answer off the last one. A row of a table is read by its places and cells alone.
+//! A [`SparseProgram`] keeps a program by its nonzero coefficients. So its limits can be renewed, and it can be solved again.
+//!
+//! The run is tried over whole numbers (`whole_runs`). If those don't fit, it is made over fractions here. `start` makes the first table.
+//! `choice` says which variable enters and which row leaves. `exchange` makes the next table. `end` reads the answer from the last one. A
+//! row of a table is read only by its places and cells.
 #![tactic(auto)]
 
 ghost use Rattle.std.specs.Prelude.{◌≡◌, slice_index, IfOk};
@@ -34,7 +35,7 @@ use exchange::step;
 pub use program_form::SparseProgram;
 use start::{first_basis, first_rows};
 
-/// The end of an exchange run: the optimum, the point that attains it, and a dual that shows that none passes it.
+/// The end of an exchange run: the optimum, a point that attains it, and a dual that shows that no point is worth more.
 #[derive(Debug, Drop)]
 pub struct Solved {
     /// The optimum.
@@ -53,10 +54,10 @@ pub enum SolveStop {
     /// There is no memory for the table.
     #[error("there is no memory for the table")]
     Memory,
-    /// The run is wide: a value of an exchange, or of the dual at the end, passes 2^63 - 1.
+    /// The run is wide: a value of an exchange, or of the dual at the end, is above 2^63 - 1 in size.
     #[error("a value of the exchange run passes 2^63 - 1")]
     Wide,
-    /// The run takes more units than it was given.
+    /// The run needs more units than it was given.
     #[error("the exchange run takes more units than it was given")]
     Units,
 }
@@ -93,8 +94,8 @@ impl From<Wide> for SolveStop {
 
 /// Solves a program by its exchange run. The run takes 1 unit, and 1 more for each exchange begun.
 ///
-/// `Wide` comes exactly where the run is wide within the units, and `Units` exactly where it needs more of them. No program is
-/// unbounded, so there is no such answer.
+/// `Wide` comes exactly if the run is wide within the units, and `Units` exactly if it needs more units. No program is unbounded, so there
+/// is no such answer.
 pub fn solve(alloc: Global, program: &Program, units: u64) -> Result<Solved, SolveStop>
     ensures run { Solves result program.now units }
     ensures only { IsOnlyAnswer result program.now units }
@@ -109,8 +110,8 @@ pub fn solve(alloc: Global, program: &Program, units: u64) -> Result<Solved, Sol
     solve_sparse(alloc, &sparse, units)
 }
 
-/// Solves a program that is kept by its nonzero coefficients, with the answer of [`solve`]. It reads the program alone, so threads may
-/// share one.
+/// Solves a program that is kept by its nonzero coefficients, with the answer of [`solve`]. It only reads the program, so threads may share
+/// one.
 pub fn solve_sparse(alloc: Global, program: &SparseProgram, units: u64) -> Result<Solved, SolveStop>
     ensures run { Solves result program.now units }
     ensures only { IsOnlyAnswer result program.now units }
@@ -124,12 +125,12 @@ pub fn solve_sparse(alloc: Global, program: &SparseProgram, units: u64) -> Resul
     run_either(alloc, program, units)
 }
 
-// The exchange run over whole numbers, or over fractions where a number of that one is too large.
+// The exchange run over whole numbers, or over fractions if a number of that run is too large.
 fn run_either(alloc: Global, program: &SparseProgram, units: u64) -> Result<Solved, SolveStop>
     ensures outcome { Solves result program.now units }
     ensures program { IsProgram program.now }
 {
-    // says that it is a program
+    // a proof knows that it is a program once it is read
     let _rows = program.rows();
     match run_whole(alloc, program, units) {
         Ok(

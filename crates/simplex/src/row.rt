@@ -14,7 +14,7 @@ use fraction128::Frac;
 use std::alloc::{AllocError, Global};
 use std::marker::Model;
 
-// A row: its nonzero cells in order of their variables, and its limit, whose place is behind all variables.
+// A row: its nonzero cells in order of their variables, and its limit. The limit's place is after all variables.
 #[derive(Drop)]
 pub(crate) struct SparseRow {
     entries: Vec<Entry>,
@@ -95,7 +95,7 @@ impl SparseRow {
         Ok(SparseRow::new(entries, self.place, limit))
     }
 
-    // What is left of the row when f times another is taken away.
+    // What is left of the row if f times another is subtracted.
     pub(crate) fn left(
         &self,
         alloc: Global,

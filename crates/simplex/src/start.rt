@@ -39,7 +39,7 @@ fn row_entries(alloc: Global, program: &SparseProgram, i: usize) -> Result<Vec<E
     Ok(entries)
 }
 
-// The costs that aren't zero, as cells of the objective row. It has no slack.
+// The nonzero costs, as cells of the objective row. It has no slack.
 fn cost_entries(alloc: Global, program: &SparseProgram) -> Result<Vec<Entry>, AllocError>
     ensures { IfOk result (λ v. AreFirstEntries program.now (height program.now) (variables program.now) v.items) }
 {
@@ -56,7 +56,7 @@ fn cost_entries(alloc: Global, program: &SparseProgram) -> Result<Vec<Entry>, Al
     Ok(entries)
 }
 
-// The nonzero numbers of row i of the first table: behind the columns each row but the objective has its own slack.
+// The nonzero numbers of row i of the first table. After the columns each row but the objective has its own slack.
 fn first_entries(alloc: Global, program: &SparseProgram, i: usize) -> Result<Vec<Entry>, AllocError>
     requires { i ≤ height program.now }
     ensures { IfOk result (λ v. AreFirstEntries program.now i (variables program.now) v.items) }

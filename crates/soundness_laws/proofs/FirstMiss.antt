@@ -1,6 +1,6 @@
--- Why no bound is missed, over what a protocol and its analysis give: the first job to miss its bound would have, in its
--- window, more ticks of its script, of interference and of blocking than its bound has, though until then every job has kept
--- its own.
+-- Why no bound is missed, from what a protocol and its analysis give. Take the first job that misses its bound. Until then every job has
+-- kept its own bound. So in the job's window the ticks of its script, of interference and of blocking are together at most its bound, and
+-- it can't miss it.
 use Rattle.std.proofs.Common.{◌≡◌, ℕ, zero, suc, ◌+◌, ◌-◌, ◌*◌, ◌<◌, ◌≤◌, Bool, List, length, refl, subst, arith, inl, inr}
 use Rattle.std.specs.Prelude.{slice_index}
 use Rattle.std.proofs.lemmas.Bool.{cases_lt, cases_Bool}
@@ -30,8 +30,8 @@ use Rattle.charge_laws.proofs.Interference.{interferer_some}
 use Rattle.charge_laws.proofs.Counting.{Interfering, interference_counted}
 use Rattle.soundness_laws.proofs.HigherTasks.{not_by_others, ticks_by_task}
 
--- Bounds that are enough: from 1 to the latest ones, each no less than its task's interfering cost, and at least what a job of the
--- task executes, its value and what is counted as interference, together.
+-- Bounds that are enough. They are from 1 to the latest ones, and each is no less than its task's interfering cost. What a job of the task
+-- executes, its value and what counts as interference are together at most the bound.
 pub record AreEnough (set : SetDef) (own cost : ℕ → ℕ) (bounds : List ℕ) (value : ℕ → ℕ) : Type 0 where
   pub from : (i : ℕ) → i < length set.tasks → 1 ≤ slice_index bounds i
   pub within : (i : ℕ) → i < length set.tasks → slice_index bounds i ≤ latest_bound (task_at set i)
@@ -57,7 +57,7 @@ bounds_are : (set : SetDef) (own cost : ℕ → ℕ) (bounds : List ℕ) (value 
     → AreBounds set (slice_index bounds)
 bounds_are set own cost bounds value enough = record { from = enough.from; latest = enough.within }
 
--- Where a window lies within the rows, its ticks of interference by task h are as few as are counted for it.
+-- If a window is within the rows, no more of its ticks are interference by task h than are counted for it.
 by_task : (interferes : Trace → ℕ → ℕ → Bool) (w : Trace) (n : ℕ) (own cost : ℕ → ℕ) (bounds : List ℕ) (value : ℕ → ℕ) (j h : ℕ)
     → Given interferes w n own cost bounds value → j < length w.jobs → bound_end w (slice_index bounds) j ≤ n
     → EndedBefore w (slice_index bounds) (bound_end w (slice_index bounds) j) → h < length w.set.tasks
@@ -95,7 +95,7 @@ by_task interferes w n own cost bounds value j h given l ends ended task = elim 
     cost = λ m y b k. omega (arith, interferer_some interferes w m j y l, given.interfering m y b k);
   }
 
--- So are its ticks of interference by all tasks.
+-- The same for its ticks of interference by all tasks.
 interference_most : (interferes : Trace → ℕ → ℕ → Bool) (w : Trace) (n : ℕ) (own cost : ℕ → ℕ) (bounds : List ℕ) (value : ℕ → ℕ) (j : ℕ)
     → Given interferes w n own cost bounds value → j < length w.jobs → bound_end w (slice_index bounds) j ≤ n
     → EndedBefore w (slice_index bounds) (bound_end w (slice_index bounds) j)
@@ -114,7 +114,7 @@ interference_most interferes w n own cost bounds value j given l ends ended =
     (λ h b. by_task interferes w n own cost bounds value j h given l ends ended (omega (arith, task))) in
     omega (arith, parts, each)
 
--- Where each job whose bound passes before e ends in time, each whose bound has passed at an earlier tick has.
+-- If each job whose bound passes before e ends in time, so does each whose bound has passed at an earlier tick.
 ended_by : (w : Trace) (bound : ℕ → ℕ) (e r : ℕ) → r < e → EndedBefore w bound e → EndedBy w bound r
 ended_by w bound e r l ended = λ k listed passed. ended k listed (omega arith)
 

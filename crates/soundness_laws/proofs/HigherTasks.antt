@@ -1,4 +1,4 @@
--- Ticks of interference, parted by the task that interferes: it is a higher one of the job's processor.
+-- Ticks of interference, divided by the task that interferes. It is a higher one of the job's processor.
 use Rattle.std.proofs.Common.{◌≡◌, ℕ, ◌<◌, ◌≤◌, ◌==◌, Bool, true, false, refl, subst, arith, inl, inr, Some}
 use Rattle.std.specs.Option.{option_map_or}
 use Rattle.std.proofs.lemmas.Bool.{cases_Bool, and_parts, and_from, both_ways, eq-eqb, eqb-true}
@@ -13,7 +13,7 @@ use Rattle.schedule_model.specs.ProtocolLaws.{HasHigherRunner, IsSoundRow}
 use Rattle.schedule_laws.proofs.KindsOfTicks.{HigherLocal, higher_local_is}
 use Rattle.charge_laws.specs.Interferers.{is_interference_of}
 
--- A tick that is interference is so by the task of what runs on the job's processor,
+-- A tick that is interference is interference by the task of the job that runs on the job's processor,
 by_runner : (interferes : Trace → ℕ → ℕ → Bool) (w : Trace) (t j r : ℕ) → interferes w t j ≡ true
     → running_on (w.row t) (processor_of w j) ≡ Some r → is_interference_of interferes w t j (task_of w r) ≡ true
 unfolding is_interference_of
@@ -22,7 +22,7 @@ by_runner interferes w t j r on runs =
     rw runs (eq-eqb (task_of w r) (task_of w r) refl) in
     and_from _ _ on named
 
--- and so by no task that isn't a higher one of that processor.
+-- and by no task that isn't a higher one of that processor.
 pub not_by_others : (interferes : Trace → ℕ → ℕ → Bool) (w : Trace) (t j h : ℕ) → IsSoundRow interferes w t
     → is_higher_local w.set (task_of w j) h ≡ false → is_interference_of interferes w t j h ≡ false
 unfolding is_interference_of

@@ -1,5 +1,5 @@
--- Programs over any columns and rows analyse a protocol whose blocked ticks lie in the columns and meet the rows: those of MPCP, FMLP+
--- and DPCP are instances.
+-- Programs over any columns and rows analyse a protocol if its blocked ticks are charged in the columns and meet the rows. Those of MPCP,
+-- FMLP+ and DPCP are instances.
 use Rattle.std.proofs.Common.{ℕ, ◌<◌, ◌≤◌, Bool, true, List, length, subst, sym, refl, arith, ◌≡◌, map}
 use Rattle.std.specs.Prelude.{slice_index}
 use Rattle.number_laws.specs.Tests.{count_below}
@@ -17,8 +17,8 @@ use Rattle.schedule_model.specs.Ranks.{mpcp, fmlp_plus}
 use Rattle.schedule_model.specs.Protocols.{shared_rule, dpcp_rule}
 use Rattle.schedule_model.specs.declared.rule.Rule.{Rule}
 use Rattle.program_sources.specs.Recurrence.{SourceDef, source_at}
-use Rattle.fragments.specs.ColumnDef.{ColumnDef}
-use Rattle.fragments.specs.Columns.{columns_of}
+use Rattle.blocking_columns.specs.ColumnDef.{ColumnDef}
+use Rattle.blocking_columns.specs.Columns.{columns_of}
 use Rattle.fragments.specs.Constraints.{ConstraintDef}
 use Rattle.program_laws.specs.Programs.{rows_of, program_with, interfering_cost, source_of, cost_of}
 use Rattle.charge_laws.specs.Charges.{shared_charge, dpcp_charge}
@@ -35,8 +35,8 @@ use Rattle.soundness_laws.specs.Analyses.{Analyses}
 use Rattle.program_form.specs.Points.{IsScaledPoint}
 use Rattle.charge_laws.specs.Fractions.{product_of_lengths, fractions_of}
 
--- What a protocol owes for its programs, on sets that suit it: no interfering cost is above the cost, a job interferes within it, the
--- columns are worth their requests' lengths, the fractions of a window are a point of the program, and each blocked tick is charged in
+-- What is asked of a protocol for its programs, on sets that suit it. No interfering cost is above the cost, and a job interferes within
+-- it. The columns are worth their requests' lengths. The fractions of a window are a point of the program. Each blocked tick is charged in
 -- one of the columns.
 pub record Owed (keeps : Rule → Trace → ℕ → Type 0) (interferes : Trace → ℕ → ℕ → Bool) (suits : SetDef → Type 0) (source : SetDef
     → SourceDef) (charges : Charges) (columns : SetDef → ℕ → List ColumnDef) : Type 0 where

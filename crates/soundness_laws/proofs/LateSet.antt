@@ -40,7 +40,7 @@ late_values = record { one_each = refl; each = each } where
   each (suc zero) l = refl
   each (suc (suc i)) l = absurd (omega arith)
 
--- With the jitter of 4 a bound of 7 passes the deadline of 10.
+-- With the jitter of 4 a bound of 7 is above the deadline of 10.
 pub too_late : IsValid (source_of protocol.FmlpPlus late_tasks) (bounds_alone (7 ∷ 9 ∷ [])) → ⊥
 too_late valid = let within : 7 ≤ 6 = (valid.proved 0 (leb-true _ _ refl)).within in omega arith
 

@@ -27,7 +27,7 @@ use Rattle.soundness_laws.specs.Sound.{IsLawfulSchedule, KeepsBounds, is_in_wind
 use Rattle.soundness_laws.specs.Analyses.{AreValues, Analyses}
 use Rattle.soundness_laws.proofs.FirstMiss.{AreEnough, Given, all_end_in_time}
 
--- Ticks before n that lie before e too, where each that passes p passes q.
+-- Ticks before n that are before e too, if each that passes p passes q.
 count_below-cut : (n e : ℕ) (p q : ℕ → Bool) → ((t : ℕ) → p t ≡ true → (t < e) × (q t ≡ true))
     → count_below n p ≤ count_below (min e n) q
 count_below-cut zero e p q h = omega arith
@@ -50,7 +50,7 @@ count_below-cut (suc n) e p q h = elim (cases_Bool (p n)) [
       )
 ]
 
--- A tick of a job's window lies between its release and its bound's end.
+-- A tick of a job's window is between its release and its bound's end.
 in_window : (r e t : ℕ) (b : Bool) → ((nat_le r t && nat_lt t e) && b) ≡ true → (r ≤ t) × (t < e) × (b ≡ true)
 in_window r e t b h =
     let parts : ((leb r t && ltb t e) ≡ true) × (b ≡ true) = and_parts _ _ h in
@@ -80,8 +80,8 @@ pub record HasDual (p : ProgramDef) (value : ℕ) : Type 0 where
   pub covers : Covers p den num
   pub worth : dual_value p den num ≤ value
 
--- The bounds are shown for jobs that execute no more ticks than this: they are enough with these values, and each value is at least
--- that of a dual of its task's program.
+-- The bounds are shown for jobs that execute no more ticks than this. They are enough with these values, and each value is at least that of
+-- a dual of its task's program.
 pub record AreShown (f : SourceDef) (own : ℕ → ℕ) (bounds : List ℕ) (value : ℕ → ℕ) : Type 0 where
   pub enough : AreEnough f.set own f.interfering bounds value
   pub duals : (i : ℕ) → i < tasks_of f → HasDual (f.program i bounds) (value i)
@@ -90,7 +90,7 @@ pub record AreShown (f : SourceDef) (own : ℕ → ℕ) (bounds : List ℕ) (val
 abbrev pub AreShort : (ℕ → ℕ) → Trace → Type 0
 AreShort own w = (j : ℕ) → j < length w.jobs → total_ticks (job_of w.jobs j).script ≤ own (task_of w j)
 
--- What the induction rests on.
+-- The premises of the induction.
 given_of : (keeps : Rule → Trace → ℕ → Type 0) (interferes : Trace → ℕ → ℕ → Bool) (f : SourceDef) (own : ℕ → ℕ) (bounds : List ℕ)
     (value : ℕ → ℕ) (w : Trace) (n : ℕ)
     → ((t j : ℕ) → IsOneOfThree interferes w t j)
@@ -156,7 +156,7 @@ valid_shown keeps interferes f c formed analyses valid = record {
   };
 }
 
--- What a valid certificate says is sound.
+-- A valid certificate is sound.
 pub sound_of : (keeps : Rule → Trace → ℕ → Type 0) (interferes : Trace → ℕ → ℕ → Bool) (f : SourceDef) (c : CertificateDef)
     (values : List ℕ)
     → ((w : Trace) (t j : ℕ) → w.set ≡ f.set → IsOneOfThree interferes w t j)

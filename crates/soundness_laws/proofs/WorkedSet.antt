@@ -38,7 +38,7 @@ pub two_accepted : IsAccepted two_tasks
 unfolding is_due size_refusals
 two_accepted = accepted_from_free two_tasks refl
 
--- A dual whose rows hold the cost of each column covers the program: a test of the columns.
+-- A dual covers the program if it passes this test of each column.
 covers_from : (p : ProgramDef) (den : ℕ) (num : ℕ → ℕ) → 0 < den
     → all_below (columns p) (λ c. nat_le (den * cost p c) (sum_below (height p) (λ r. num r * entry p r c))) ≡ true → Covers p den num
 covers_from p den num some h = record {
@@ -47,7 +47,7 @@ covers_from p den num some h = record {
       (all_below-each (columns p) (λ c. nat_le (den * cost p c) (sum_below (height p) (λ r. num r * entry p r c))) h c l);
 }
 
--- A bound is proved where these tests pass.
+-- A bound is proved if these tests pass.
 pub proved_from : (f : SourceDef) (c : CertificateDef) (i : ℕ) → nat_le (slice_index c.bounds i) (latest_bound (task_at f.set i)) ≡ true
     → length (dual_at c.duals i).num ≡ height (f.program i c.bounds) → 0 < (dual_at c.duals i).den
     → all_below (columns (f.program i c.bounds)) (λ k. nat_le ((dual_at c.duals i).den * cost (f.program i c.bounds) k)
@@ -62,7 +62,7 @@ proved_from f c i within numbers some covered enough = record {
   enough = leb-true _ _ enough;
 }
 
--- A certificate of the worked set is valid where each of its two bounds is proved.
+-- A certificate of the worked set is valid if each of its two bounds is proved.
 valid_from : (p : Protocol) (c : CertificateDef) → length c.bounds ≡ 2 → length c.duals ≡ 2
     → IsProvedBound (source_of p two_tasks) c 0 → IsProvedBound (source_of p two_tasks) c 1 → IsValid (source_of p two_tasks) c
 valid_from p c bounds duals first second = record { bound_each = bounds; dual_each = duals; proved = proved } where
@@ -98,11 +98,11 @@ two_values = record { one_each = refl; each = each } where
   each (suc zero) l = refl
   each (suc (suc i)) l = absurd (omega arith)
 
--- A job of the schedule requests no other resource than the first.
+-- A job of the schedule requests only the first resource.
 no_other : (local length more q : ℕ) → number_of_requests (then_request local 0 length ∷ local_only more ∷ []) (suc q) ≡ 0
 no_other local length more q = rw (eqb-zero-suc q) refl
 
--- Both jobs are lawful: the first asks for the resource for 1 tick, the second for 2.
+-- Both jobs are lawful: the first requests the resource for 1 tick, the second for 2.
 lawful_job : (j : ℕ) → j < 2 → IsLawfulJob two_tasks (job_of jobs_a.jobs j)
 lawful_job zero l = record {
   task = leb-true _ _ refl;

@@ -1,4 +1,4 @@
--- What makes the programs of a source an analysis of a protocol, and the numbers that a certificate proves.
+-- When are the programs of a source an analysis of a protocol, and which numbers does a certificate prove?
 use Rattle.std.specs.Prelude.{◌≡◌, ℕ, ◌<◌, ◌≤◌, Bool, List, length, slice_index}
 use Rattle.number_laws.specs.Tests.{count_below}
 use Rattle.program_form.specs.Certificate.{CertificateDef}
@@ -15,15 +15,15 @@ use Rattle.charge_laws.specs.Interferers.{interferes_with_some}
 use Rattle.charge_laws.specs.Windows.{bound_end, window_end, EndedWithin}
 use Rattle.soundness_laws.specs.Sound.{IsLawfulSchedule}
 
--- Are the values those of the certificate's duals, one for each task?
+-- Are these the values of the certificate's duals, one for each task?
 pub record AreValues (f : SourceDef) (c : CertificateDef) (values : List ℕ) : Type 0 where
   pub one_each : length values ≡ tasks_of f
   pub each : (i : ℕ) → i < tasks_of f → slice_index values i ≡ value_at f c i
 
--- Does the source analyse the protocol with these rules and this interference, on its own set? No job interferes with others
--- at more ticks than its task's interfering cost, which is at most the cost. And in a lawful schedule of n rows, where each job
--- whose release plus bound is less than a job's, and lies within the rows, was finished by its own release plus its bound, that job
--- is blocked in its window at no more ticks than the value of any dual that covers its program at these bounds.
+-- Does the source analyse the protocol with these rules and this interference, on its own set? First, no job interferes with others at more
+-- ticks than its task's interfering cost, which is at most the cost. Second, take a job in a lawful schedule of n rows. Let each job whose
+-- release plus bound is less than this job's, and lies within the rows, be finished by its own release plus its bound. Then this job is
+-- blocked in its window at no more ticks than the value of any dual that covers its program at these bounds.
 pub record Analyses (keeps : Rule → Trace → ℕ → Type 0) (interferes : Trace → ℕ → ℕ → Bool) (f : SourceDef) : Type 0 where
   pub most : (h : ℕ) → h < tasks_of f → f.interfering h ≤ (task_at f.set h).cost
   pub interfering : (w : Trace) (n y : ℕ) → IsLawfulSchedule keeps f.set w n → y < length w.jobs

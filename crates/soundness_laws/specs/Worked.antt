@@ -1,9 +1,9 @@
--- Worked sets with valid certificates. First two tasks on processors of their own, and one resource that both request.
+-- Worked sets with valid certificates. First come two tasks on processors of their own, which request one resource.
 use Rattle.std.specs.Prelude.{ℕ, ◌+◌, List, [], ◌∷◌, Some}
 use Rattle.sporadic_model.specs.SetDef.{SetDef, TaskDef}
 use Rattle.program_form.specs.Certificate.{DualDef, CertificateDef}
 
--- A task on processor k of period 10 and this cost, one request of which is for so many ticks. Its name is a digit.
+-- A task on processor k with the period 10 and this cost. It has one request, of this length. Its name is a digit.
 abbrev pub task_on : ℕ → ℕ → ℕ → TaskDef
 task_on k cost length = record {
   name = (48 + k) ∷ [];
@@ -31,8 +31,8 @@ whole_dual num = record { den = 1; num = num }
 abbrev pub certificate_of : List ℕ → List ℕ → List ℕ → CertificateDef
 certificate_of bounds first second = record { bounds = bounds; duals = whole_dual first ∷ whole_dual second ∷ [] }
 
--- Each job waits for at most one request of the other: for 2 ticks the first, for 1 the second. The programs of FMLP+ have four
--- rows, those of MPCP and DPCP three for the first task and two for the second.
+-- Each job waits for at most one request of the other: the first for 2 ticks, the second for 1. The programs of FMLP+ have four rows. Those
+-- of MPCP and DPCP have three for the first task and two for the second.
 abbrev pub two_bounds : CertificateDef
 two_bounds = certificate_of (5 ∷ 5 ∷ []) (2 ∷ 0 ∷ 0 ∷ 0 ∷ []) (1 ∷ 0 ∷ 0 ∷ 0 ∷ [])
 
@@ -43,12 +43,12 @@ two_bounds_of_fewer_rows = certificate_of (5 ∷ 5 ∷ []) (2 ∷ 0 ∷ 0 ∷ []
 abbrev pub greater_bounds : CertificateDef
 greater_bounds = certificate_of (6 ∷ 5 ∷ []) (0 ∷ 0 ∷ 2 ∷ 0 ∷ []) (0 ∷ 0 ∷ 1 ∷ 0 ∷ [])
 
--- The same bounds with the first dual of the least ones: at them two jobs of the second task count, so it is worth 4, and 3 + 4
--- passes 6.
+-- The same bounds, with the first dual of the least bounds. At these bounds two jobs of the second task count. So that dual is worth 4, and
+-- 3 + 4 is more than 6.
 abbrev pub too_small_bound : CertificateDef
 too_small_bound = certificate_of (6 ∷ 5 ∷ []) (2 ∷ 0 ∷ 0 ∷ 0 ∷ []) (0 ∷ 0 ∷ 1 ∷ 0 ∷ [])
 
--- Then two tasks on one processor that request nothing. Their names are digits, and the deadline is the period.
+-- Then come two tasks on one processor that request nothing. Their names are digits, and each deadline is the period.
 abbrev pub late_task : ℕ → ℕ → ℕ → ℕ → TaskDef
 late_task digit period cost jitter = record {
   name = digit ∷ [];
@@ -61,10 +61,10 @@ late_task digit period cost jitter = record {
   requests = [];
 }
 
--- Jobs of the first may be released 4 ticks after they arrive, so 6 ticks after the one before.
+-- A job of the first task may be released 4 ticks after it arrives, and so 6 ticks after the job before.
 abbrev pub late_tasks : SetDef
 late_tasks = record { processors = 1; resources = []; tasks = late_task 49 10 2 4 ∷ late_task 50 20 5 0 ∷ [] }
 
--- Bounds alone: their programs have no column, so no row.
+-- A certificate of bounds without multipliers: the tasks' programs have no column, so no row.
 abbrev pub bounds_alone : List ℕ → CertificateDef
 bounds_alone bounds = certificate_of bounds [] []

@@ -1,7 +1,7 @@
 //! Soundness of the analysis: what a valid certificate says of a task set holds of every lawful schedule of it.
 //!
-//! Each function here does nothing: its contract is a law. `specs/Sound.antt` says what soundness is, in the words of sets, jobs
-//! and rows alone; the lemmas stand in `proofs/`.
+//! Each function here does nothing: its contract is a law. `specs/Sound.antt` says what soundness is, of sets, jobs and rows alone. The
+//! lemmas are in `proofs/`.
 #![tactic(auto)]
 
 ghost use Rattle.std.specs.Prelude.{◌≡◌, ℕ, ◌<◌, ◌≤◌, Bool, true, [], ◌∷◌, List, length, slice_index, IfSome};
@@ -28,8 +28,8 @@ ghost use Rattle.soundness_laws.specs.Worked.{late_tasks, bounds_alone};
 
 use schedule_model::BlockingProtocol;
 
-/// Under every protocol: where a source of programs analyses it, the bounds and values of each certificate that is valid
-/// for the source are sound. The set is accepted and suits the protocol.
+/// Under every protocol: let a source of programs analyse it, and let the set be accepted and suit the protocol. Then the bounds and values
+/// of each certificate that is valid for the source are sound.
 pub fn analysed_protocols_are_sound<P: BlockingProtocol>()
     ensures { (p : P) (f : SourceDef) (c : CertificateDef) (values : List ℕ) → IsAccepted f.set → P.suits p f.set
         → Analyses (P.keeps p) (P.interferes p) f → IsValid f c → AreValues f c values
@@ -44,9 +44,9 @@ pub fn programs_analyse_their_protocols()
     ensures dpcp { (set : SetDef) → IsAccepted set → Analyses dpcp_rule is_dpcp_interference (source_of protocol.Dpcp set) }
 {}
 
-/// Of an accepted set, the bounds of a valid certificate and the values of its duals are sound: in every schedule that keeps
-/// the protocol's rules, of whatever lawful jobs, each job whose window lies within it ends within its bound, and no job is
-/// blocked in its window at more ticks than its dual's value.
+/// Take an accepted set. The bounds of a valid certificate and the values of its duals are sound. So take any schedule of lawful jobs that
+/// keeps the protocol's rules. Each job whose window lies within it ends within its bound, and no job is blocked in its window at more
+/// ticks than its dual's value.
 pub fn valid_certificates_are_sound()
     ensures mpcp { (set : SetDef) (c : CertificateDef) (values : List ℕ) → IsAccepted set → IsValid (source_of protocol.Mpcp set) c
         → AreValues (source_of protocol.Mpcp set) c values
@@ -71,9 +71,9 @@ pub fn sound_bounds_hold_of_listed_rows<P: BlockingProtocol>()
         → KeepsBounds (P.interferes p) (trace_in (record { set = set; jobs = jobs }) runs) (ticks_of runs) bounds values }
 {}
 
-/// What is measured of a schedule that keeps its bounds and values lies within them: each blocked tick of a job lies in its
-/// window, its response, or what it has taken so far, is at most the bound, and all its blocked ticks are at most the value;
-/// so are each task's greatest response and greatest blocking.
+/// What is measured of a schedule that keeps its bounds and values is within them. Each blocked tick of a job is in its window. Its
+/// response, or what it has taken so far, is at most the bound. All its blocked ticks are at most the value. So are each task's greatest
+/// response and greatest blocking.
 pub fn sound_schedules_measure_within()
     ensures inside { (interferes : Trace → ℕ → ℕ → Bool) (w : Trace) (n : ℕ) (bounds values : List ℕ) (t j : ℕ)
         → KeepsBounds interferes w n bounds values → j < length w.jobs → t < n → is_blocked interferes w t j ≡ true
@@ -90,8 +90,8 @@ pub fn sound_schedules_measure_within()
         → KeepsBounds interferes w n bounds values → (measures_of interferes w n x).blocking ≤ slice_index values x }
 {}
 
-/// A worked set of two tasks is accepted, and the certificate with the bounds 5 and 5 is valid for it under FMLP+, with the
-/// values 2 and 1. So these are sound; a bound or a value of the first task that is less by one is not.
+/// A worked set of two tasks is accepted, and the certificate with the bounds 5 and 5 is valid for it under FMLP+, with the values 2 and 1.
+/// So these are sound. If the first task's bound or value is less by one, they aren't.
 pub fn a_worked_certificate_is_sound()
     ensures accepted { IsAccepted two_tasks }
     ensures valid { IsValid (source_of protocol.FmlpPlus two_tasks) two_bounds }
@@ -101,8 +101,8 @@ pub fn a_worked_certificate_is_sound()
     ensures less_value { Sound (shared_rule fmlp_plus) is_shared_interference two_tasks (5 ∷ 5 ∷ []) (1 ∷ 1 ∷ []) → ⊥ }
 {}
 
-/// Of that set a certificate with the bounds 5 and 5 is valid under MPCP and under DPCP too, and one whose bounds are not the
-/// least is under FMLP+; but not with a dual whose value, with the cost, passes the bound.
+/// Take that set. A certificate with the bounds 5 and 5 is valid under MPCP and under DPCP too. One whose bounds are not the least is valid
+/// under FMLP+. One with a dual whose value, with the cost, is above the bound isn't.
 pub fn worked_certificates_are_valid()
     ensures mpcp { IsValid (source_of protocol.Mpcp two_tasks) two_bounds_of_fewer_rows }
     ensures dpcp { IsValid (source_of protocol.Dpcp two_tasks) two_bounds_of_fewer_rows }
@@ -110,10 +110,10 @@ pub fn worked_certificates_are_valid()
     ensures too_small { IsValid (source_of protocol.FmlpPlus two_tasks) too_small_bound → ⊥ }
 {}
 
-/// A worked set of two tasks, the first with a jitter of 4 ticks, is accepted, and the certificate with the bounds 2 and 9 is
-/// valid for it under FMLP+, so its bounds are sound. A second bound that is less by one is not: two jobs of the first task run
-/// within these ticks, since their releases are less than a period apart. A first bound of 7 is not valid, since with the jitter
-/// it passes the deadline of 10.
+/// A worked set of two tasks, the first with a jitter of 4 ticks, is accepted. The certificate with the bounds 2 and 9 is valid for it
+/// under FMLP+, so its bounds are sound. With a second bound that is less by one they aren't: two jobs of the first task run within these
+/// ticks, since their releases are less than a period apart. A first bound of 7 is not valid, since with the jitter it is above the
+/// deadline of 10.
 pub fn a_worked_certificate_with_jitter_is_sound()
     ensures accepted { IsAccepted late_tasks }
     ensures valid { IsValid (source_of protocol.FmlpPlus late_tasks) (bounds_alone (2 ∷ 9 ∷ [])) }

@@ -1,8 +1,9 @@
 pub mod SpinCharging
 pub mod OneSpin
-pub mod PlainRows
+pub mod OwnSpinning
 pub mod SpinningParts
 pub mod SpinningRow
+pub mod SpunRows
 pub mod SpinPlacement
 pub mod SpinPrograms
 pub mod SpinPoints

@@ -21,8 +21,8 @@ use Rattle.schedule_laws.proofs.ActiveJobs.{Requester, requester_is, requester_f
 use Rattle.schedule_laws.proofs.Rows.{runs_from, ready_is, ready_listed}
 use Rattle.schedule_laws.proofs.RuleUses.{requested_held}
 use Rattle.schedule_laws.proofs.KindsOfTicks.{Blocked, blocked_is}
-use Rattle.fragments.specs.declared.columns.Class.{Class}
-use Rattle.fragments.specs.declared.columns.Class.TheVariants.{Direct, Indirect, Preemption}
+use Rattle.blocking_columns.specs.declared.columns.Class.{Class}
+use Rattle.blocking_columns.specs.declared.columns.Class.TheVariants.{Direct, Indirect, Preemption}
 use Rattle.charge_laws.specs.Charges.{Charge, Executes}
 use Rattle.charge_laws.proofs.SharedCharging.{lower_runner, holder_executes}
 use Rattle.spin_rules.specs.SpinRules.{spins, has_spinner, KeepsIdle, spin_rule}

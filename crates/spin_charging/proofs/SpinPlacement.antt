@@ -16,9 +16,9 @@ use Rattle.schedule_model.specs.BlockedTicks.{is_shared_interference, is_blocked
 use Rattle.schedule_laws.proofs.ActiveJobs.{active_listed, one_active, Requester}
 use Rattle.schedule_laws.proofs.KindsOfTicks.{Blocked, blocked_is}
 use Rattle.schedule_laws.proofs.Segments.{open_listed, open_resource, open_user}
-use Rattle.fragments.specs.declared.columns.Class.{Class}
-use Rattle.fragments.specs.declared.columns.Class.TheVariants.{Direct, Indirect, Preemption}
-use Rattle.fragments.specs.Columns.{have_one_processor, AreRequests}
+use Rattle.blocking_columns.specs.declared.columns.Class.{Class}
+use Rattle.blocking_columns.specs.declared.columns.Class.TheVariants.{Direct, Indirect, Preemption}
+use Rattle.blocking_columns.specs.Columns.{have_one_processor, AreRequests}
 use Rattle.charge_laws.specs.Charges.{Executes}
 use Rattle.charge_laws.specs.ChargedTicks.{IsCharged}
 use Rattle.row_laws.proofs.Brings.{column_with}
@@ -31,7 +31,7 @@ use Rattle.spin_charging.specs.SpinCharges.{spin_charge}
 use Rattle.spin_charging.specs.SpinPrograms.{blocks_by_spinning, is_spin_column, spin_columns}
 use Rattle.spin_charging.proofs.SpinCharging.{SpunBy, SpinReason, SpinCharged, spin_charged, spin_executes}
 use Rattle.spin_charging.proofs.OneSpin.{holder_asks}
-use Rattle.spin_charging.proofs.PlainRows.{spun_resource}
+use Rattle.spin_charging.proofs.OwnSpinning.{spun_resource}
 
 -- The columns are requests by users of their resources.
 pub spin_requests : (set : SetDef) (i : ℕ) → AreRequests (is_spin_column set i) set

@@ -27,8 +27,8 @@ use Rattle.spin_rules.proofs.SpinFacts.{spin_runs_active}
 use Rattle.spin_charging.specs.SpinCharges.{spin_charge}
 use Rattle.spin_charging.specs.SpinPrograms.{is_spin_column, spin_columns, spin_rows}
 use Rattle.spin_charging.proofs.SpinCharging.{spin_charge_blocked, spin_executes}
-use Rattle.spin_charging.proofs.PlainRows.{lower_request_row_met, own_spinning_row_met}
-use Rattle.spin_charging.proofs.SpinningRow.{spinning_row_met}
+use Rattle.spin_charging.proofs.OwnSpinning.{own_spinning_row_met}
+use Rattle.spin_charging.proofs.SpunRows.{spinning_row_met, lower_request_row_met}
 use Rattle.spin_charging.proofs.SpinPlacement.{spin_requests}
 use Rattle.spin_charging.proofs.SpinPrograms.{spin_each}
 
@@ -37,7 +37,7 @@ pub spin_active : (w : Trace) (j : ℕ) → ChargesActive spin_charge w j
 spin_active w j t charge e = let b : Blocked is_shared_interference w t j =
     blocked_is is_shared_interference w t j (spin_charge_blocked w t j charge e) in b.active
 
-spin_window : (w : Trace) (bounds : List ℕ) (n j : ℕ) → IsFormed w.set → AreLawfulJobs (jobs_of w) → KeepsBefore spin_rule w n
+pub spin_window : (w : Trace) (bounds : List ℕ) (n j : ℕ) → IsFormed w.set → AreLawfulJobs (jobs_of w) → KeepsBefore spin_rule w n
     → j < length w.jobs → EndedBy w (slice_index bounds) (job_of w.jobs j).release → Window spin_charge w (slice_index bounds) n j
 spin_window w bounds n j formed lawful keeps listed ended = record {
   lawful = lawful;

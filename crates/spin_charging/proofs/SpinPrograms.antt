@@ -15,10 +15,10 @@ use Rattle.sporadic_model.specs.SetDef.{SetDef, task_at}
 use Rattle.sporadic_model.specs.Accepted.{IsAccepted, TaskNumbers}
 use Rattle.sporadic_model.proofs.Laws.{sizes_of_accepted}
 use Rattle.program_sources.specs.Bounds.{AtMost, AreWithinDeadlines}
-use Rattle.fragments.specs.Columns.{have_one_processor}
+use Rattle.blocking_columns.specs.Columns.{have_one_processor}
 use Rattle.fragments.specs.Constraints.{ConstraintDef, per_pair}
-use Rattle.fragments.specs.Windows.{requests_in}
-use Rattle.fragments.proofs.KnownColumns.{passing_known}
+use Rattle.blocking_columns.specs.Windows.{requests_in}
+use Rattle.blocking_columns.proofs.KnownColumns.{passing_known}
 use Rattle.direct_constraints.specs.Rows.{common_rows}
 use Rattle.program_laws.specs.Written.{IsSmallRow, Rises, HasJobsAtMost, KeepsJobs}
 use Rattle.program_laws.proofs.Lists.{sum_at_most}
@@ -50,13 +50,13 @@ spin_each P set i common lower all own =
     (All-cons P lower_request_row (spinning_rows set i) lower (spinning_each P set i all own))
 
 -- The requests of higher tasks rise with the jobs that can run, and are not many.
-higher_rise : (set : SetDef) (i q : ℕ) (r s : List ℕ) → i < length set.tasks → HasJobsAtMost set i r s
+pub higher_rise : (set : SetDef) (i q : ℕ) (r s : List ℕ) → i < length set.tasks → HasJobsAtMost set i r s
     → higher_requests set (slice_index r) i q ≤ higher_requests set (slice_index s) i q
 higher_rise set i q r s here h = sum_below-monotone i _ _ (λ x l.
     only_if-rises (have_one_processor set x i) (requests_in set (slice_index r) i x q) (requests_in set (slice_index s) i x q)
     (λ counts. requests_rise set r s i x q (h x (omega arith))))
 
-higher_small : (set : SetDef) (i q : ℕ) (r : List ℕ) → IsAccepted set → AreWithinDeadlines set r → i < length set.tasks
+pub higher_small : (set : SetDef) (i q : ℕ) (r : List ℕ) → IsAccepted set → AreWithinDeadlines set r → i < length set.tasks
     → higher_requests set (slice_index r) i q ≤ 128000000000000
 higher_small set i q r accepted within here =
     let sizes = sizes_of_accepted set accepted in

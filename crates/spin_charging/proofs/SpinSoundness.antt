@@ -37,6 +37,6 @@ spin_sound set c values accepted valid are =
     sound_of spin_rule is_shared_interference (spin_source set) c values (λ w t j same. shared_one_of_three w t j)
     (λ w t same kept. spin_sound_row w t kept) formed (spin_analyses set formed) valid are
 
--- What comes up at some bounds, no less comes up at greater ones.
+-- For each response time that is possible at some bounds, one that is no less is possible at greater bounds.
 pub spin_above : (set : SetDef) → ComesUpAbove (spin_source set)
 spin_above set = comes_up_above (spin_source set) (λ i r s here most. spin_rises set i r s here most)

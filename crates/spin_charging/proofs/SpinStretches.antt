@@ -12,7 +12,7 @@ use Rattle.schedule_model.specs.Activity.{task_of, processor_of, is_active_job_o
 use Rattle.schedule_model.specs.BlockedTicks.{is_shared_interference, is_blocked}
 use Rattle.schedule_model.specs.Protocols.{EachSetSuits}
 use Rattle.schedule_laws.proofs.Alike.{IsAlike, active_alike, running_alike, holder_alike, shared_blocked_alike}
-use Rattle.fragments.specs.declared.columns.Class.TheVariants.{Direct, Indirect}
+use Rattle.blocking_columns.specs.declared.columns.Class.TheVariants.{Direct, Indirect}
 use Rattle.charge_laws.specs.Charges.{Charge, charge_to}
 use Rattle.charge_laws.specs.Stretches.{StaysCharged}
 use Rattle.charge_laws.proofs.Stretches.{stays_where_alike}

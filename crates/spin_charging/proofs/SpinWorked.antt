@@ -5,7 +5,7 @@ use Rattle.schedule_model.specs.Phase.{phase_from, executed, phase_of}
 use Rattle.schedule_model.specs.Activity.{is_pending, is_next, is_active, is_active_job_of, active_job_of, is_active_local}
 use Rattle.schedule_model.specs.Activity.{is_ready_holder, is_ready}
 use Rattle.schedule_model.specs.BlockedTicks.{is_delayed, runs_higher, is_shared_interference, is_blocked}
-use Rattle.fragments.specs.declared.columns.Class.TheVariants.{Direct, Indirect, Preemption}
+use Rattle.blocking_columns.specs.declared.columns.Class.TheVariants.{Direct, Indirect, Preemption}
 use Rattle.charge_laws.proofs.ChargeExamples.{by}
 use Rattle.spin_rules.specs.SpinRules.{is_in_request, spins}
 use Rattle.spin_rules.proofs.SpinExamples.{set_spin, trace_spin}

@@ -1,7 +1,6 @@
 //! How blocked ticks are charged under spin locks, the columns and rows of the blocking programs, and why charged ticks meet each row.
 //!
-//! Each function here does nothing: its contract is a law, and the lemmas that prove it stand in `proofs/`, for the proofs of
-//! the crates above.
+//! Each function here does nothing: its contract is a law. The lemmas that prove it are in `proofs/`. Proofs of crates above use them too.
 #![tactic(auto)]
 
 ghost use Rattle.std.specs.Prelude.{◌≡◌, ℕ, ◌<◌, ◌≤◌, true, List, [], ◌∷◌, length, slice_index, Some};
@@ -36,14 +35,14 @@ ghost use Rattle.spin_rules.specs.SpinRules.{spin_rule};
 ghost use Rattle.spin_charging.specs.SpinCharges.{spin_charge};
 ghost use Rattle.spin_charging.specs.SpinPrograms.{spin_columns, spin_program, spin_source};
 
-/// In rows that keep the rules the holder of a resource was issued no later than any request of it.
+/// In rows that keep the rules the request of a resource's holder was issued no later than any request of that resource.
 pub fn holders_were_issued_first()
     ensures { (w : Trace) (n t q y j : ℕ) → AreLawfulJobs (jobs_of w) → KeepsBefore spin_rule w n → t < n
         → holder_in (w.row t) q ≡ Some y → is_requester w t q j ≡ true → issue_tick_of w t y ≤ issue_tick_of w t j }
 {}
 
-/// In a lawful schedule each blocked tick is charged to one request, which executes at that tick, and whose column is one of the blocked
-/// job's task. No other tick is charged.
+/// In a lawful schedule each blocked tick is charged to one request. The request executes at that tick, and its column is one of the
+/// blocked job's task. No other tick is charged.
 pub fn spin_locks_charge_blocked_ticks()
     ensures charged { (w : Trace) (n t j : ℕ) → AreLawfulJobs (jobs_of w) → KeepsBefore spin_rule w n → t < n
         → is_blocked is_shared_interference w t j ≡ true → IsCharged spin_charge (spin_columns w.set (task_of w j)) w t j }
@@ -51,14 +50,14 @@ pub fn spin_locks_charge_blocked_ticks()
         → is_blocked is_shared_interference w t j ≡ true }
 {}
 
-/// Each tick of a steady stretch is charged as its first.
+/// Each tick of a steady stretch is charged as its first tick is.
 pub fn spin_charges_stay_through_stretches()
     ensures { StaysCharged EachSetSuits spin_rule spin_charge }
 {}
 
-/// In a lawful schedule of an accepted set take a job, and let each job whose release plus bound is less than that job's, and lies
-/// within the rows, be finished by its own release plus its bound. Then the fractions of the job's window meet every row of its
-/// task's program at these bounds.
+/// Take a job in a lawful schedule of an accepted set. Let each job whose release plus bound is less than this job's, and lies within the
+/// rows, be finished by its own release plus its bound. Then the fractions of this job's window meet every row of its task's program at
+/// these bounds.
 pub fn spin_fractions_meet_every_row()
     ensures { (w : Trace) (bounds : List ℕ) (n j : ℕ) → IsAccepted w.set → AreLawfulJobs (jobs_of w) → KeepsBefore spin_rule w n
         → j < length w.jobs → EndedWithin w (slice_index bounds) (bound_end w (slice_index bounds) j) n
@@ -66,14 +65,15 @@ pub fn spin_fractions_meet_every_row()
         (fractions_of spin_charge w (slice_index bounds) n j (spin_columns w.set (task_of w j))) }
 {}
 
-/// In a lawful schedule a lawful job interferes with others at no more ticks than its task's cost. Its spin ticks are none of these.
+/// In a lawful schedule a lawful job interferes with others at no more ticks than its task's cost. Ticks at which it spins are not among
+/// these.
 pub fn spin_jobs_interfere_within_the_cost()
     ensures { (w : Trace) (n y : ℕ) → KeepsBefore spin_rule w n → IsLawfulJob w.set (job_of w.jobs y)
         → count_below n (λ t. interferes_with_some is_shared_interference w t y) ≤ (task_at w.set (task_of w y)).cost }
 {}
 
-/// The lists of a task of an accepted set, at bounds within the deadlines, are a program; each of its columns is covered; bounds stand
-/// in its limits alone, and no limit falls where bounds rise.
+/// For an accepted set, and at bounds within the deadlines, the lists of a task are a program. Each of its columns is covered. Only its
+/// limits depend on the bounds, and no limit falls when bounds rise.
 pub fn spin_programs_are_accepted()
     ensures program { (set : SetDef) (i : ℕ) (r : List ℕ) → IsAccepted set → i < length set.tasks → AreWithinDeadlines set r
         → IsProgram (spin_program set i r) }
@@ -83,25 +83,26 @@ pub fn spin_programs_are_accepted()
         → HasLimitsAtMost (spin_program set i r) (spin_program set i s) }
 {}
 
-/// Bounds stand in these limits only by how many jobs of each task can run within the bound of a job of the analysed one.
+/// The limits depend on the bounds only through the number of jobs of each task that can run within the bound of a job of the analysed
+/// task.
 pub fn spin_limits_follow_jobs()
     ensures { (set : SetDef) (i : ℕ) (r s : List ℕ) → i < length set.tasks → KeepsJobs set i r s
         → (spin_program set i r).limits ≡ (spin_program set i s).limits }
 {}
 
-/// A worked set of three tasks on three processors: the program of the first has three columns and eleven rows, three of requests, two
-/// of time, three of spinning and as many of its own.
+/// A worked set of three tasks on three processors. The program of the first task has three columns and eleven rows: three of requests, two
+/// of time, three of spinning, and three of its own spinning.
 pub fn three_tasks_make_eleven_rows()
     ensures { sizes (spin_program three_tasks 0 (4 ∷ 4 ∷ 3 ∷ [])) ≡ (3, 11) }
 {}
 
-/// The bounds of a valid certificate of an accepted set, and the values of its duals, hold in every lawful schedule.
+/// Take an accepted set. The bounds of a valid certificate, and the values of its duals, hold in every lawful schedule.
 pub fn valid_spin_certificates_are_sound()
     ensures { (set : SetDef) (c : CertificateDef) (values : List ℕ) → IsAccepted set → IsValid (spin_source set) c
         → AreValues (spin_source set) c values → Sound spin_rule is_shared_interference set c.bounds values }
 {}
 
-/// With each response time that comes up at some bounds one that is no less comes up at greater bounds.
+/// For each response time that is possible at some bounds, one that is no less is possible at greater bounds.
 pub fn spin_responses_rise()
     ensures { (set : SetDef) → ComesUpAbove (spin_source set) }
 {}

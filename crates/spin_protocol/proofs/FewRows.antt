@@ -5,9 +5,9 @@ use Rattle.number_laws.proofs.CountLaws.{flag-passes}
 use Rattle.program_form.specs.Program.{height, columns}
 use Rattle.sporadic_model.specs.SetDef.{SetDef, task_at}
 use Rattle.sporadic_model.specs.Accepted.{IsAccepted}
-use Rattle.fragments.specs.ColumnDef.{ColumnDef, is_class}
+use Rattle.blocking_columns.specs.ColumnDef.{ColumnDef, is_class}
 use Rattle.fragments.specs.Constraints.{ConstraintDef, per_pair, holds_some, rows_there}
-use Rattle.fragments.specs.declared.columns.Class.TheVariants as class
+use Rattle.blocking_columns.specs.declared.columns.Class.TheVariants as class
 use Rattle.direct_constraints.specs.Rows.{common_rows}
 use Rattle.program_laws.proofs.Lists.{filter_shorter}
 use Rattle.program_laws.proofs.FewRows.{common_there}

@@ -1,4 +1,4 @@
--- A resource is used beside a task where one of its users is there.
+-- A resource is used beside a task if one of its users is another task of the same processor.
 use Rattle.std.proofs.Common.{◌≡◌, ℕ, ◌==◌, ◌&&◌, not, Bool, List, map, length, ◌∙◌}
 use Rattle.std.proofs.Math.Bool.{and_comm}
 use Rattle.std.specs.List.{list_any}
@@ -6,8 +6,8 @@ use Rattle.number_laws.proofs.TestLaws.{any_below-agree}
 use Rattle.sporadic_model.specs.SetDef.{SetDef}
 use Rattle.sporadic_model.specs.Users.{is_user, users_of}
 use Rattle.sporadic_model.specs.declared.ids.TaskId.{TaskId}
-use Rattle.fragments.specs.Columns.{have_one_processor}
-use Rattle.fragments.proofs.KeptNumbers.{any_of_kept}
+use Rattle.blocking_columns.specs.Columns.{have_one_processor}
+use Rattle.blocking_columns.proofs.KeptNumbers.{any_of_kept}
 use Rattle.spin_charging.specs.SpinPrograms.{is_used_beside}
 
 pub used_beside : (set : SetDef) (i q : ℕ) (users : List TaskId) → map (λ z. z.0) users ≡ users_of set q

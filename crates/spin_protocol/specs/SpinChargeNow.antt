@@ -1,4 +1,4 @@
--- The charge of a blocked job under spin locks, by a machine's value and the row that comes next.
+-- The charge of a blocked job under spin locks, from a machine's state and the next row.
 use Rattle.std.specs.Prelude.{ℕ, ◌==◌, ◌&&◌, Bool, false, Option, None, Some, if◌then◌else◌, length}
 use Rattle.std.specs.Option.{option_map_or, option_and_then}
 use Rattle.number_laws.specs.Tests.{found_below}
@@ -8,12 +8,13 @@ use Rattle.schedule_model.specs.Phase.{Phase}
 use Rattle.schedule_model.specs.Phase.Phase.{Asking}
 use Rattle.phase_machine.specs.MachineDef.{MachineDef}
 use Rattle.phase_machine.specs.Now.{phase_now, current_now, processor_now}
-use Rattle.fragments.specs.declared.columns.Class.{Class}
-use Rattle.fragments.specs.declared.columns.Class.TheVariants.{Direct, Indirect, Preemption}
+use Rattle.blocking_columns.specs.declared.columns.Class.{Class}
+use Rattle.blocking_columns.specs.declared.columns.Class.TheVariants.{Direct, Indirect, Preemption}
 use Rattle.charge_laws.specs.Charges.{Charge, charge_to}
 use Rattle.spin_protocol.specs.SpinTests.{spins_now}
 
--- Does task x's active job spin? Is x one of processor k's tasks for which it does, and which job does there, from the highest task on?
+-- Does task x's active job spin? Is x a task of processor k for which it does? And which job spins there? The search begins with the
+-- highest task.
 abbrev pub current_spins : MachineDef → RowDef → ℕ → Bool
 current_spins m row x = option_map_or (spins_now m (holder_in row)) (current_now m x) false
 
@@ -23,8 +24,8 @@ is_spinning_task_now m row k x = ((task_at m.list.set x).processor == k) && curr
 unfoldable pub spinner_now : MachineDef → RowDef → ℕ → Option ℕ
 spinner_now m row k = option_and_then (current_now m) (found_below (length m.list.set.tasks) (is_spinning_task_now m row k))
 
--- The charge for job j where job s spins in this phase; where some job does, if one does; and where j's processor runs this job, or
--- nothing.
+-- The charge for job j: while job s spins in this phase; while a job spins on its processor, if one does; and while its processor runs this
+-- job, or nothing.
 abbrev pub class_of_spinner : ℕ → ℕ → Class
 class_of_spinner j s = if s == j then Direct else Indirect
 

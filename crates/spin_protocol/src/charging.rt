@@ -31,7 +31,7 @@ fn spins_in(machine: &Machine, row: &Row, s: JobId) -> bool
     spins(machine, &row.holders, s)
 }
 
-/// Does the task's active job spin, where it has one?
+/// Does the task's active job spin, if it has one?
 fn current_spins(machine: &Machine, row: &Row, x: TaskId) -> bool
     requires fits { IsRowFor machine.now.list (row_seen row.now) }
     requires task { x.0 < length machine.now.list.set.tasks }
@@ -52,7 +52,7 @@ fn is_spinning_task(machine: &Machine, row: &Row, processor: u32, x: TaskId) -> 
     machine.jobs().set().processor(x) == processor && current_spins(machine, row, x)
 }
 
-/// The job of the processor's tasks that spins, from the highest task on.
+/// The job of the processor's tasks that spins. The search begins with the highest task.
 #[tactic(auto, unfolding(crate::specs::SpinChargeNow::spinner_now))]
 fn spinner(machine: &Machine, row: &Row, processor: u32) -> Option<JobId>
     requires { IsRowFor machine.now.list (row_seen row.now) }
@@ -67,7 +67,7 @@ fn spinner(machine: &Machine, row: &Row, processor: u32) -> Option<JobId>
     None
 }
 
-/// Direct where the job spins itself, else indirect.
+/// Direct if the job spins itself, and else indirect.
 fn class_of_spinner(j: JobId, s: JobId) -> Class
     ensures { result ≡ class_of_spinner j.0 s.0 }
 {
@@ -78,7 +78,7 @@ fn class_of_spinner(j: JobId, s: JobId) -> Class
     }
 }
 
-/// The charge for a job where `s` spins beside it: the holder of what that one spins for.
+/// The charge for a job while `s` spins on its processor: the holder of the resource for which `s` spins.
 fn charge_by_spinner(machine: &Machine, row: &Row, j: JobId, s: JobId) -> Option<(JobId, Class)>
     requires fits { IsRowFor machine.now.list (row_seen row.now) }
     requires spinner { s.0 < length machine.now.list.jobs }
@@ -105,7 +105,7 @@ fn charge_of_spinning(machine: &Machine, row: &Row, j: JobId) -> Option<(JobId, 
     }
 }
 
-/// The charge of a blocked job: what runs on its processor, or what a job spins for there.
+/// The charge of a blocked job: what runs on its processor, or the request for which a job there spins.
 fn charge_beside(machine: &Machine, row: &Row, j: JobId) -> Option<(JobId, Class)>
     requires fits { IsRowFor machine.now.list (row_seen row.now) }
     requires listed { j.0 < length machine.now.list.jobs }

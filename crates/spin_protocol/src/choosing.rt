@@ -1,4 +1,4 @@
-//! The choice of a row: the holders first, then what runs.
+//! Chooses a row: first the holders, then what runs.
 
 ghost use Rattle.std.specs.Prelude.{◌≡◌, ℕ, length, map};
 ghost use Rattle.schedule_model.specs.RowDef.{RowDef};
@@ -25,7 +25,7 @@ use shared_choosing::choosing::grant_all;
 use shared_choosing::claims::{Claim, HolderClaim, fill_twice};
 use shared_choosing::row_choice::{RowChoice, choose_row};
 
-/// Local jobs claim their task's processor, where no job spins there.
+/// Local jobs claim their task's processor, unless a job spins there.
 #[derive(Drop)]
 struct CalmClaim<'a> {
     holders: &'a [Option<JobId>],
@@ -45,7 +45,7 @@ impl<'a> Claim for CalmClaim<'a> {
     }
 }
 
-/// Grants in the order of issue; then holders run, and where none does and no job spins, Local jobs.
+/// Requests are granted in the order of issue. Then holders run. On a processor without a holder and without a spinner Local jobs run.
 #[derive(Drop)]
 struct SpinChoice;
 

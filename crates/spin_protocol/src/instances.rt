@@ -120,7 +120,7 @@ impl ProgramSource for Spin {
         keeps_jobs(set, i, earlier, bounds)
     }
 
-    /// As under FMLP+: a higher job interferes for up to its task's cost.
+    /// As under FMLP+, a job of a higher task interferes for up to its task's cost.
     fn interference(&self, set: &TaskSet, i: TaskId, bounds: &[u64]) -> u64 {
         interference(set, Protocol::FmlpPlus, i, bounds)
     }

@@ -1,4 +1,4 @@
-//! The tests of the rules over a machine and the row that comes next.
+//! The tests of the rules over a machine and the next row.
 
 ghost use Rattle.std.specs.Prelude.{◌≡◌, ℕ, ◌<◌, length, map, IfSome, None};
 ghost use Rattle.schedule_model.specs.RowDef.{RowDef};
@@ -66,7 +66,7 @@ pub(crate) fn has_spinner(machine: &Machine, holders: &[Option<JobId>], processo
     !each_passes(&QuietTest { holders, processor }, machine)
 }
 
-/// Idle, for one job: where it is ready, does its processor run something, or does a job there spin?
+/// Idle, for one job: if it is ready, does its processor run something, or does a job there spin?
 fn idle_passes(machine: &Machine, row: &Row, j: JobId) -> bool
     requires fits { IsRowFor machine.now.list (row_seen row.now) }
     requires listed { j.0 < length machine.now.list.jobs }
@@ -93,7 +93,7 @@ impl<'a> JobTest for IdleTest<'a> {
     }
 }
 
-/// Idle: is no processor idle that has a ready job and no spinner?
+/// Idle: does each processor that has a ready job and no spinner run something?
 #[tactic(auto, unfolding(crate::specs::SpinTests::passes_idle))]
 fn passes_idle(machine: &Machine, row: &Row) -> bool
     requires fits { IsRowFor machine.now.list (row_seen row.now) }
@@ -143,7 +143,8 @@ impl<'a> JobTest for PriorityTest<'a> {
     }
 }
 
-/// Priority: where a job is in a request, does nothing else run on its processor; else, no lower job than a Local one?
+/// Priority: if a job is in a request, does nothing else run on its processor? If none is, does no job run there that is lower than an
+/// active Local job?
 #[tactic(auto, unfolding(crate::specs::SpinTests::passes_priority))]
 fn passes_priority(machine: &Machine, row: &Row) -> bool
     requires fits { IsRowFor machine.now.list (row_seen row.now) }
@@ -173,7 +174,7 @@ impl RuleTests for SpinTests {
     }
 }
 
-/// Does the row keep all five rules? Else the first that it breaks.
+/// Ok if the row keeps all five rules. Else the first rule that it breaks.
 pub(crate) fn judge_spin(machine: &Machine, row: &Row) -> Result<(), Rule>
     requires fits { IsRowFor machine.now.list (row_seen row.now) }
     ensures { (rows : ℕ → RowDef) → Shows machine.now rows → rows machine.now.tick ≡ row_seen row.now

@@ -1,14 +1,14 @@
-//! What the protocol's programs are made of: their columns and rows.
+//! The parts of the protocol's programs: their columns and rows.
 
-ghost use Rattle.std.specs.Prelude.{◌≡◌, ℕ, ◌<◌, ◌≤◌, ◌+◌, ◌&&◌, ◌==◌, not, length, map, IfOk, OnOk};
+ghost use Rattle.std.specs.Prelude.{◌≡◌, ℕ, ◌<◌, ◌≤◌, ◌+◌, ◌&&◌, ◌==◌, not, length, map, [], ◌∷◌, IfOk, OnOk};
 ghost use Rattle.schedule_model.specs.Protocols.{EachSetSuits};
 ghost use Rattle.program_sources.specs.Bounds.{AreWithinDeadlines};
-ghost use Rattle.fragments.specs.ColumnDef.{column_seen, AreKnown};
-ghost use Rattle.fragments.specs.Stretches.{AreInOrder};
-ghost use Rattle.fragments.specs.Columns.{have_one_processor};
+ghost use Rattle.blocking_columns.specs.ColumnDef.{column_seen, AreKnown};
+ghost use Rattle.blocking_columns.specs.Stretches.{AreInOrder};
+ghost use Rattle.blocking_columns.specs.Columns.{have_one_processor};
 ghost use Rattle.fragments.specs.Constraints.{per_pair};
 ghost use Rattle.spin_charging.specs.SpinPrograms.{is_used_beside, blocks_by_spinning, is_spin_column};
-ghost use Rattle.spin_charging.specs.SpinPrograms.{spin_columns, spinning_rows, spin_rows};
+ghost use Rattle.spin_charging.specs.SpinPrograms.{spin_columns, lower_request_row, own_spinning_row, spinning_rows, spin_rows};
 ghost use Rattle.spin_charging.proofs.SpinPrograms.{spin_is_program};
 ghost use Rattle.spin_protocol.specs.SpinRows.{row_of_kind};
 ghost use Rattle.spin_protocol.specs.Used.{AreUsedBeside};
@@ -48,7 +48,7 @@ fn is_used_beside(set: &TaskSet, i: TaskId, q: ResourceId) -> bool
     false
 }
 
-/// By resource, whether another task of `i`'s processor uses it.
+/// For each resource, whether another task of `i`'s processor uses it.
 fn used_beside(alloc: Global, set: &TaskSet, i: TaskId) -> Result<Vec<bool>, AllocError>
     requires { i.0 < length set.now.tasks }
     ensures { IfOk result (λ v. AreUsedBeside set.now i.0 v.items) }
@@ -77,14 +77,14 @@ fn blocks_by_spinning(set: &TaskSet, i: TaskId, column: Fragment, used: &[bool])
     }
 }
 
-/// The test of a task's columns, which has by resource whether another task of its processor uses it.
+/// The test of a task's columns. It has a table that says of each resource whether another task of its processor uses it.
 #[derive(Drop)]
 struct SpinColumns {
     used: Vec<bool>,
 }
 
 impl ColumnTest for SpinColumns {
-    ghost use Rattle.fragments.specs.Requested.{columns_are_requests};
+    ghost use Rattle.blocking_columns.specs.Requested.{columns_are_requests};
     ghost use Rattle.spin_charging.specs.SpinPrograms.{blocks_by_spinning};
 
     ghost passes = { λ k set i. is_spin_column set i };
@@ -98,7 +98,7 @@ impl ColumnTest for SpinColumns {
     }
 }
 
-/// Adds the rows of this kind of each processor behind those that the taker has.
+/// Adds the rows of this kind, for each processor, behind those that the taker has.
 fn add_spinning_rows<T: RowTaker>(
     alloc: Global,
     taker: &mut T,
@@ -120,6 +120,43 @@ fn add_spinning_rows<T: RowTaker>(
     add_per_number(alloc, taker, &rows, set, processors, i, bounds, columns)
 }
 
+/// Adds the rows of own spinning behind those that the taker has: each request of a resource by the analysed task spins for at most one
+/// request of each processor.
+pub fn add_own_spinning<T: RowTaker>(
+    alloc: Global,
+    taker: &mut T,
+    set: &TaskSet,
+    i: TaskId,
+    bounds: &[u64],
+    columns: &[Fragment],
+) -> Result<(), AllocError>
+    requires task { i.0 < length set.now.tasks }
+    requires within { AreWithinDeadlines set.now bounds.now }
+    requires known { AreKnown (length set.now.tasks) (length set.now.resources) columns.now }
+    ensures { OnOk result (T.takes taker.old (map column_seen columns.now)
+        (per_pair set.now.processors (length set.now.resources) (λ k q. own_spinning_row set.now i.0 (k + 1) q)) bounds.now taker.new) }
+{
+    add_spinning_rows(alloc, taker, set, Spinning::Own, i, bounds, columns)
+}
+
+/// Adds the row of lower requests behind those that the taker has: one request of the lower tasks of the analysed task's processor
+/// blocks by preemption.
+pub fn add_lower_requests<T: RowTaker>(
+    alloc: Global,
+    taker: &mut T,
+    set: &TaskSet,
+    i: TaskId,
+    bounds: &[u64],
+    columns: &[Fragment],
+) -> Result<(), AllocError>
+    requires task { i.0 < length set.now.tasks }
+    requires within { AreWithinDeadlines set.now bounds.now }
+    requires known { AreKnown (length set.now.tasks) (length set.now.resources) columns.now }
+    ensures { OnOk result (T.takes taker.old (map column_seen columns.now) (lower_request_row ∷ []) bounds.now taker.new) }
+{
+    add_row(alloc, taker, &LowerRequestRow, set, i, bounds, columns)
+}
+
 /// Adds the rows of spinning and of own spinning behind those that the taker has.
 fn add_all_spinning_rows<T: RowTaker>(
     alloc: Global,
@@ -135,7 +172,7 @@ fn add_all_spinning_rows<T: RowTaker>(
     ensures { OnOk result (T.takes taker.old (map column_seen columns.now) (spinning_rows set.now i.0) bounds.now taker.new) }
 {
     add_spinning_rows(alloc, taker, set, Spinning::All, i, bounds, columns)?;
-    add_spinning_rows(alloc, taker, set, Spinning::Own, i, bounds, columns)?;
+    add_own_spinning(alloc, taker, set, i, bounds, columns)?;
     Ok(())
 }
 
@@ -155,9 +192,24 @@ fn add_rows<T: RowTaker>(
     ensures { OnOk result (T.takes taker.old (map column_seen columns.now) (spin_rows set.now i.0) bounds.now taker.new) }
 {
     add_common(alloc, taker, set, i, bounds, columns)?;
-    add_row(alloc, taker, &LowerRequestRow, set, i, bounds, columns)?;
+    add_lower_requests(alloc, taker, set, i, bounds, columns)?;
     add_all_spinning_rows(alloc, taker, set, i, bounds, columns)?;
     Ok(())
+}
+
+/// The columns of task `i`'s program. It refuses for want of memory alone.
+pub fn spin_fragments(alloc: Global, set: &TaskSet, i: TaskId) -> Result<Vec<Fragment>, AllocError>
+    requires { i.0 < length set.now.tasks }
+    ensures columns { IfOk result (λ v. map column_seen v.items ≡ spin_columns set.now i.0) }
+    ensures known { IfOk result (λ v. AreKnown (length set.now.tasks) (length set.now.resources) v.items) }
+    ensures order { IfOk result (λ v. AreInOrder v.items) }
+{
+    let test = SpinColumns {
+        used: used_beside(alloc, set, i)?,
+    };
+    let columns = fragments_where(alloc, &test, set, i)?;
+    passing_stand_in_order(set, &test, i, &columns);
+    Ok(columns)
 }
 
 impl ProgramParts for Spin {
@@ -175,11 +227,7 @@ impl ProgramParts for Spin {
         i: TaskId,
         bounds: &[u64],
     ) -> Result<Vec<Fragment>, AllocError> {
-        let test = SpinColumns {
-            used: used_beside(alloc, set, i)?,
-        };
-        let columns = fragments_where(alloc, &test, set, i)?;
-        passing_stand_in_order(set, &test, i, &columns);
+        let columns = spin_fragments(alloc, set, i)?;
         add_rows(alloc, taker, set, i, bounds, &columns)?;
         Ok(columns)
     }

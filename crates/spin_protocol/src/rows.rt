@@ -1,11 +1,11 @@
-//! The rows that spin locks have of their own, as far as they are computed.
+//! The code of the rows that only spin locks have.
 
 ghost use Rattle.std.specs.Prelude.{◌≡◌, ℕ, ◌<◌, ◌≤◌, ◌*◌, ◌&&◌, ◌+◌, [], ◌∷◌, length, slice_index};
 ghost use Rattle.number_laws.specs.Sums.{flag};
 ghost use Rattle.sporadic_model.specs.Users.{count_of, is_user};
 ghost use Rattle.program_sources.specs.Bounds.{AreWithinDeadlines};
-ghost use Rattle.fragments.specs.ColumnDef.{column_seen};
-ghost use Rattle.fragments.specs.Columns.{is_lower_local};
+ghost use Rattle.blocking_columns.specs.ColumnDef.{column_seen};
+ghost use Rattle.blocking_columns.specs.Columns.{is_lower_local};
 ghost use Rattle.fragments.specs.Constraints.{per};
 ghost use Rattle.spin_charging.specs.SpinPrograms.{lower_request_row, is_from, is_used_below, higher_requests};
 ghost use Rattle.spin_protocol.specs.SpinRows.{row_of_kind};
@@ -20,7 +20,7 @@ use std::alloc::{AllocError, Global};
 /// How many requests of lower tasks block a job by preemption: the one that was open at its release.
 const LOWER_REQUESTS: u64 = 1;
 
-/// So many requests of lower tasks block by preemption.
+/// At most this many requests of lower tasks block by preemption.
 #[derive(Drop)]
 pub(crate) struct LowerRequestRow;
 
@@ -42,8 +42,8 @@ impl Constraint for LowerRequestRow {
     }
 }
 
-/// Is it a column of requests of the resource from the processor?
-fn is_from(set: &TaskSet, processor: u32, resource: ResourceId, column: Fragment) -> bool
+/// Is it a column of requests of the resource by a task of the processor?
+pub fn is_from(set: &TaskSet, processor: u32, resource: ResourceId, column: Fragment) -> bool
     requires { column.task.0 < length set.now.tasks }
     ensures { result ≡ is_from set.now processor resource.0 (column_seen column) }
 {
@@ -62,7 +62,7 @@ fn is_lower_user(set: &TaskSet, i: TaskId, q: ResourceId, x: TaskId) -> bool
 }
 
 /// Does a lower task of `i`'s processor use the resource?
-fn is_used_below(set: &TaskSet, i: TaskId, q: ResourceId) -> bool
+pub fn is_used_below(set: &TaskSet, i: TaskId, q: ResourceId) -> bool
     requires task { i.0 < length set.now.tasks }
     requires resource { q.0 < length set.now.resources }
     ensures { result ≡ is_used_below set.now i.0 q.0 }
@@ -75,7 +75,7 @@ fn is_used_below(set: &TaskSet, i: TaskId, q: ResourceId) -> bool
     false
 }
 
-/// One where the test passes, else none.
+/// 1 if the test passes, and else 0.
 fn one_if(test: bool) -> u64
     ensures { result ≡ flag test }
 {
@@ -83,7 +83,7 @@ fn one_if(test: bool) -> u64
 }
 
 /// How many requests of the resource can the higher tasks of `i`'s processor make while a job of `i` runs?
-fn higher_requests(set: &TaskSet, i: TaskId, q: ResourceId, bounds: &[u64]) -> u64
+pub fn higher_requests(set: &TaskSet, i: TaskId, q: ResourceId, bounds: &[u64]) -> u64
     requires task { i.0 < length set.now.tasks }
     requires resource { q.0 < length set.now.resources }
     requires within { AreWithinDeadlines set.now bounds.now }
@@ -101,9 +101,9 @@ fn higher_requests(set: &TaskSet, i: TaskId, q: ResourceId, bounds: &[u64]) -> u
     total
 }
 
-/// How many requests of the resource from `i`'s processor can spin while a job of `i` runs? Its own, those of higher tasks, and one of
-/// a lower task.
-fn spinning_requests(set: &TaskSet, i: TaskId, q: ResourceId, bounds: &[u64]) -> u64
+/// How many requests of the resource from `i`'s processor can spin while a job of `i` runs? Three kinds count: its own, those of higher
+/// tasks, and one of a lower task.
+pub fn spinning_requests(set: &TaskSet, i: TaskId, q: ResourceId, bounds: &[u64]) -> u64
     requires task { i.0 < length set.now.tasks }
     requires resource { q.0 < length set.now.resources }
     requires within { AreWithinDeadlines set.now bounds.now }
@@ -125,7 +125,7 @@ pub(crate) enum Spinning {
     Own,
 }
 
-/// Of a processor, counted from 1, and a resource: each of these requests of it spins for at most one from there.
+/// Of a processor, counted from 1, and a resource: each of these requests of it spins for at most one request from that processor.
 #[derive(Drop)]
 struct SpinningRow {
     spinning: Spinning,
@@ -158,7 +158,7 @@ impl Constraint for SpinningRow {
     }
 }
 
-/// The rows of a processor, counted from 1, for each resource.
+/// The rows of a processor, counted from 1, one for each resource.
 #[derive(Drop)]
 struct SpinningFrom {
     spinning: Spinning,

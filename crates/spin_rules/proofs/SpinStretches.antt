@@ -1,5 +1,5 @@
--- A lawful row stays as lawful through a steady stretch: no holder is new after its first tick, and who is ready, in a request
--- and spins is the same.
+-- A lawful row stays lawful through a steady stretch. No holder is new after the first tick, and the same jobs are ready, in a request, and
+-- spin.
 use Rattle.std.proofs.Common.{◌≡◌, ℕ, ◌+◌, ◌==◌, ◌&&◌, length, refl, sym, ap, ◌∙◌, subst, arith, inl, inr}
 use Rattle.std.proofs.lemmas.Bool.{cases_lt}
 use Rattle.number_laws.proofs.TestLaws.{any_below-agree}

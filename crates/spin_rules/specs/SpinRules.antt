@@ -1,5 +1,5 @@
--- The five rules of a row under spin locks: a job that waits for a resource keeps its processor busy, and a job in a request
--- isn't preempted. Run, Keep and Grant are rules of SharedRules; grants go in the order of issue.
+-- The five rules of a row under spin locks. A job that waits for a resource keeps its processor busy, and a job in a request isn't
+-- preempted. Run, Keep and Grant are rules of SharedRules. Requests are granted in the order of issue.
 use Rattle.std.specs.Prelude.{◌≡◌, ℕ, ◌==◌, ◌&&◌, not, Bool, true, false, length, None, Some}
 use Rattle.number_laws.specs.Tests.{any_below}
 use Rattle.schedule_model.specs.RowDef.{Trace, running_on, holder_in}
@@ -17,11 +17,11 @@ use Rattle.schedule_model.specs.declared.rule.Rule.{Rule}
 unfoldable pub is_in_request : Trace → ℕ → ℕ → Bool
 is_in_request w t j = is_active w t j && not (is_local (phase_of w t j))
 
--- Does job j spin at tick t: is it in a request, and not in this row the holder of the resource?
+-- Does job j spin at tick t: is it in a request, without holding the resource in this row?
 unfoldable pub spins : Trace → ℕ → ℕ → Bool
 spins w t j = is_in_request w t j && not (holds_by (holder_in (w.row t)) j (phase_of w t j))
 
--- Does a job of processor k's tasks spin at tick t?
+-- Does a job of the tasks of processor k spin at tick t?
 unfoldable pub has_spinner : Trace → ℕ → ℕ → Bool
 has_spinner w t k = any_below (length w.jobs) (λ i. (processor_of w i == k) && spins w t i)
 
@@ -29,8 +29,8 @@ has_spinner w t k = any_below (length w.jobs) (λ i. (processor_of w i == k) && 
 abbrev pub KeepsIdle : Trace → ℕ → Type 0
 KeepsIdle w t = (k : ℕ) → running_on (w.row t) k ≡ None → has_spinner w t k ≡ false → EachJobOf w k (λ i. is_ready w t i ≡ false)
 
--- Priority: where a job of a processor's tasks is in a request, that processor runs no other job; else no active Local job
--- there is of a higher task than the one that runs.
+-- Priority: if a job of a processor's tasks is in a request, the processor runs no other job. If none is, no active Local job there is of a
+-- higher task than the running one.
 pub record KeepsPriority (w : Trace) (t : ℕ) : Type 0 where
   pub requests : (k r : ℕ) → running_on (w.row t) k ≡ Some r → EachJobOf w k (λ i. is_in_request w t i ≡ true → r ≡ i)
   pub locals : (k r : ℕ) → running_on (w.row t) k ≡ Some r → EachJobOf w k (λ i. is_in_request w t i ≡ false) → NoLocalIsHigher w t k r
@@ -39,8 +39,8 @@ pub record KeepsPriority (w : Trace) (t : ℕ) : Type 0 where
 abbrev pub spin_rule : Rule → Trace → ℕ → Type 0
 spin_rule r = five_rules KeepsRun (KeepsGrant fmlp_plus) KeepsIdle KeepsPriority r
 
--- The row that is chosen where the rules leave several: of the requesters of a resource whose requests were issued at one
--- tick, the one of the highest task becomes the holder. All else is settled by the rules.
+-- Where the rules leave several rows, this one is chosen. Among the requesters of a resource whose requests were issued at one tick, the
+-- one of the highest task becomes the holder. The rules settle all else.
 pub record IsSpinChoice (w : Trace) (t : ℕ) : Type 0 where
   pub sized : IsSized w.set (w.row t)
   pub keeps : KeepsRow spin_rule w t

@@ -1,8 +1,7 @@
-//! The rules of non-preemptive spin locks with queues in the order of issue, and what follows from them. A job that waits
-//! for a resource spins: its processor runs nothing. A job in a request isn't preempted.
+//! The rules of non-preemptive spin locks with queues in the order of issue, and what follows from them. A job that waits for a resource
+//! spins: its processor runs nothing. A job in a request isn't preempted.
 //!
-//! Each function here does nothing: its contract is a law, and the lemmas that prove it stand in `proofs/`, for the proofs of
-//! the crates above.
+//! Each function here does nothing: its contract is a law. The lemmas that prove it are in `proofs/`. Proofs of crates above use them too.
 #![tactic(auto)]
 
 ghost use Rattle.std.specs.Prelude.{◌≡◌, ℕ, ◌<◌, ◌≤◌, true, Some};
@@ -26,8 +25,8 @@ pub fn spin_locks_keep_their_laws()
     ensures chosen_keeps { (w : Trace) (t : ℕ) → IsSpinChoice w t → KeepsRow spin_rule w t }
 {}
 
-/// Whether a row keeps the rules, is the chosen one, and which ticks are interference, depends on the rows up to it alone; and a
-/// lawful row stays as lawful through a steady stretch.
+/// Three things depend only on the rows up to a row: whether it keeps the rules, whether it is the chosen one, and which ticks are
+/// interference. A lawful row stays lawful through a steady stretch.
 pub fn spin_rules_read_the_rows_so_far()
     ensures rules { RulesReadUpTo spin_rule }
     ensures choice { ChoiceReadsUpTo IsSpinChoice }
@@ -40,7 +39,7 @@ pub fn spin_choices_are_unique()
     ensures { (v w : Trace) (t : ℕ) → AgreeBefore v w t → IsSpinChoice v t → IsSpinChoice w t → v.row t ≡ w.row t }
 {}
 
-/// After rows that keep the rules a processor has at most one job in a request.
+/// After rows that keep the rules each processor has at most one job in a request.
 pub fn a_processor_has_one_job_in_a_request()
     ensures { (w : Trace) (n t i j : ℕ) → AreLawfulJobs (jobs_of w) → KeepsBefore spin_rule w n → t ≤ n
         → is_in_request w t i ≡ true → is_in_request w t j ≡ true → processor_of w i ≡ processor_of w j → i ≡ j }
@@ -52,7 +51,7 @@ pub fn holders_run()
         → holder_in (w.row t) q ≡ Some j → running_on (w.row t) (processor_of w j) ≡ Some j }
 {}
 
-/// In a row that keeps the rules no lower job of its processor runs a local tick while a job is active.
+/// Take an active job in a row that keeps the rules. No job of a lower task of its processor runs a local tick.
 pub fn lower_jobs_run_no_local_tick()
     ensures { (w : Trace) (t j y : ℕ) → KeepsRow spin_rule w t → is_active w t j ≡ true → task_of w j < task_of w y
         → processor_of w y ≡ processor_of w j → phase_of w t y ≡ Local → runs_in (w.row t) y ≡ true → ⊥ }

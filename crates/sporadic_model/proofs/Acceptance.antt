@@ -54,7 +54,7 @@ holds : (b : Bool) → IsTrue b → not b ≡ false
 holds true h = refl
 holds false h = cc
 
--- Where no earlier element has the name, none is found.
+-- If no earlier element has the name, none is found.
 none_alike : {A : Type 0} (name : A → List ℕ) (xs : List A) (j : ℕ) (d : A)
     → ((i : ℕ) → i < j → name (slice_index_or xs i d) ≢ name (slice_index_or xs j d))
     → list_any (λ e. bytes_eq (name e) (name (slice_index_or xs j d))) (take j xs) ≡ false

@@ -11,7 +11,7 @@ use Rattle.std.proofs.lemmas.List.FromFn.{map-range_with_len_more}
 use Rattle.sporadic_model.specs.Users.{numbers}
 use Rattle.sporadic_model.proofs.Mapped.{element-map}
 
--- What two tests find together is what the one finds among those that pass the other.
+-- What two tests find together is what one finds among the elements that pass the other.
 pub find_filter : {A : Type 0} (p r : A → Bool) (xs : List A) → find (λ x. p x && r x) xs ≡ find r (filter p xs)
 find_filter p r [] = refl
 find_filter p r (x ∷ xs) =
@@ -42,7 +42,7 @@ pub one_more : {A : Type 0} (id : A → ℕ) (xs : List A) (a : A) (rest : List 
 one_more id [] a rest = refl
 one_more id (x ∷ xs) a rest = ap (λ l. id x ∷ l) (one_more id xs a rest)
 
--- A list that lists what passes so far, and a number more: it is listed too where it passes.
+-- A list of what passes so far, and one more number, which is listed if it passes.
 pub listed_more : {A : Type 0} (id : A → ℕ) (p : ℕ → Bool) (x n : ℕ) (xs ys : List A) (a : A) (whole : List ℕ) → x < n → id a ≡ x
     → ys ≡ xs ++ a ∷ [] → p x ≡ true → map id xs ++ filter p (range_with_len x (n - x)) ≡ whole
     → map id ys ++ filter p (range_with_len (x + 1) (n - (x + 1))) ≡ whole
@@ -63,7 +63,7 @@ pub listed_all : {A : Type 0} (id : A → ℕ) (p : ℕ → Bool) (x n : ℕ) (x
 listed_all id p x n xs whole h e = let none : n - x ≡ 0 = omega arith in
     sym (append-nil (map id xs)) ∙ ap (λ k. map id xs ++ filter p (range_with_len x k)) (sym none) ∙ e
 
--- An element more is kept.
+-- One more element is kept.
 pub kept_more : {A B : Type 0} (id : A → B) (f : ℕ → B) (x : ℕ) (xs : List A) (a : A)
     → map id xs ≡ map f (range_with_len 0 x) → id a ≡ f x → map id (xs ++ a ∷ []) ≡ map f (range_with_len 0 (x + 1))
 kept_more id f x xs a kept here =
@@ -93,3 +93,21 @@ pub kept_at : {A B : Type 0} (id : A → B) (f : ℕ → B) (xs : List A) (n x :
 kept_at id f xs n x d kept h =
     sym (element-map id xs x d (f x) (omega (arith, kept_long id f xs n kept)))
     ∙ ap (λ l. slice_index_or l x (f x)) kept ∙ get_or-map-range_with_len f 0 n x x (f x) h (omega arith)
+
+-- What lists of ids, kept for each of some numbers, have at number x: those below m that pass the test.
+pub record HasIds {A V : Type 0} (items : V → List A) (id : A → ℕ) (p : ℕ → Bool) (m x : ℕ) (rows : List V) : Type 0 where
+  pub within : x < length rows
+  pub ids : map id (slice_index_or (map items rows) x []) ≡ filter p (numbers m)
+  pub below : All (λ a. id a < m) (slice_index_or (map items rows) x [])
+
+pub has_ids : {A V : Type 0} (items : V → List A) (id : A → ℕ) (p : ℕ → ℕ → Bool) (m n x : ℕ) (rows : List V)
+    → map (map id) (map items rows) ≡ map (λ k. filter (p k) (numbers m)) (numbers n) → x < n → HasIds items id (p x) m x rows
+has_ids items id p m n x rows kept h =
+    let long : length (map items rows) ≡ n = kept_long (map id) (λ k. filter (p k) (numbers m)) (map items rows) n kept in
+    let ids : map id (slice_index_or (map items rows) x []) ≡ filter (p x) (numbers m) =
+    kept_at (map id) (λ k. filter (p k) (numbers m)) (map items rows) n x [] kept h in
+    record {
+      within = omega (arith, long, length-map rows items);
+      ids = ids;
+      below = below_of_ids id (p x) m (slice_index_or (map items rows) x []) ids;
+    }

@@ -1,4 +1,4 @@
--- The first of the numbers from x to below n at which a test of something made of the number passes.
+-- The first of the numbers from x to below n for which what is made of the number passes a test.
 use Rattle.std.proofs.Common.{◌≡◌, ℕ, suc, ◌+◌, ◌-◌, ◌<◌, ◌≤◌, Bool, true, false, List, [], ◌∷◌, ◌++◌, map, refl, arith}
 use Rattle.std.proofs.Common.{Option, Some, None, cond, subst, zero, length, ◌⊎◌, inl, inr}
 use Rattle.std.specs.List.{find, range_with_len, flat_map, slice_index_or}
@@ -30,11 +30,11 @@ find_in_later p g x n h t = let e : n - x ≡ suc (n - (x + 1)) = omega arith in
 pub find_in_over : {R : Type 0} (p : R → Bool) (g : ℕ → List R) (x n : ℕ) → n ≤ x → find p (flat_map g (range_with_len x (n - x))) ≡ None
 find_in_over p g x n h = let e : n - x ≡ 0 = omega arith in rw e refl
 
--- The first of two lists together is the first of the one, and where that has none, of the other.
+-- The first of two lists together is the first of the one. If that has none, it is the first of the other.
 pub find_joined : {R : Type 0} (p : R → Bool) (xs ys : List R) → find p (xs ++ ys) ≡ option_or (find p xs) (find p ys)
 find_joined p xs ys = find-append p xs ys
 
--- Where a joined list has no element that passes, neither part has one.
+-- If a joined list has no element that passes, neither part has one.
 pub record NoneOfBoth {R : Type 0} (p : R → Bool) (xs ys : List R) : Type 0 where
   pub front : find p xs ≡ None
   pub back : find p ys ≡ None
@@ -70,7 +70,7 @@ none_in_at p g a (suc n) zero j e h none =
 none_in_at p g a (suc n) (suc k) j e h none =
     none_in_at p g (a + 1) n k j (omega arith) (omega arith) (none_of_both p (g a) (flat_map g (range_with_len (a + 1) n)) none).back
 
--- Where no element passes, each one fails.
+-- If no element passes, each one fails.
 pub each_fails : {R : Type 0} (p : R → Bool) (xs : List R) (k : ℕ) (d : R) → k < length xs → find p xs ≡ None
     → p (slice_index_or xs k d) ≡ false
 each_fails p [] k d h none = absurd (omega arith)
@@ -128,11 +128,11 @@ find_alike p r a zero h = refl
 find_alike p r a (suc n) h =
     rw (h a (omega arith) (omega arith), find_alike p r (a + 1) n (λ x from to. h x (omega arith) (omega arith))) refl
 
--- Where no element of two lists passes, none of the joined list does.
+-- If no element of two lists passes, none of the joined list does.
 pub none_joined : {R : Type 0} (p : R → Bool) (xs ys : List R) → find p xs ≡ None → find p ys ≡ None → find p (xs ++ ys) ≡ None
 none_joined p xs ys front back = rw (find-append p xs ys, front, back) refl
 
--- Where what is made of no number of a range passes, none is found.
+-- If what is made of no number of a range passes, none is found.
 pub none_mapped : {R : Type 0} (p : R → Bool) (f : ℕ → R) (a n : ℕ) → ((k : ℕ) → a ≤ k → k < a + n → p (f k) ≡ false)
     → find p (map f (range_with_len a n)) ≡ None
 none_mapped p f a zero h = refl

@@ -1,7 +1,7 @@
--- What a set keeps beside its parts, in the words of the field.
+-- What the tables of a set say, in terms of its definitions.
 use Rattle.std.proofs.Common.{◌≡◌, ℕ, ◌+◌, ◌<◌, ◌≤◌, not, ◌==◌, List, [], length, map, ap, subst, sym, ◌∙◌, refl, arith}
-use Rattle.std.proofs.Common.{Option, Some, None, nat_lt, IfSome, IfNone, Result, Ok, Err, IfOk, IfErr}
-use Rattle.std.specs.List.{slice_index_or, find}
+use Rattle.std.proofs.Common.{Bool, Option, Some, None, nat_lt, IfSome, IfNone, Result, Ok, Err, IfOk, IfErr}
+use Rattle.std.specs.List.{slice_index_or, find, filter}
 use Rattle.std.specs.Option.{option_map, option_or}
 use Rattle.std.specs.Str.{bytes_eq}
 use Rattle.std.proofs.lemmas.List.{length-map}
@@ -15,7 +15,7 @@ use Rattle.sporadic_model.specs.Refusals.{Judged}
 use Rattle.sporadic_model.specs.declared.refusal.ModelRefusal.{ModelRefusal}
 use Rattle.sporadic_model.specs.declared.refusal.ModelRefusal.TheVariants as refusal
 use Rattle.sporadic_model.proofs.Mapped.{element-map}
-use Rattle.sporadic_model.proofs.Filtered.{find_filter, kept_long, kept_at}
+use Rattle.sporadic_model.proofs.Filtered.{find_filter, kept_long, kept_at, HasIds, has_ids}
 use Rattle.sporadic_model.proofs.Laws.{numbers_of_accepted, entry_of_accepted, highest_user, no_user, boost_of_found}
 use Rattle.sporadic_model.proofs.Laws.{no_user_found, boost_is_task}
 
@@ -61,7 +61,7 @@ demand_ranges set x q accepted h =
     demand_of_entry set x (entry_of set x q) (numbers_of_accepted set x accepted h)
     (λ e found. entry_of_accepted set x (λ d. bytes_eq d.resource (resource_at set q).name) e accepted h found)
 
--- What is kept as the ceiling of a resource is its highest user, and nothing where it has none.
+-- The ceiling that is kept for a resource is its highest user, or none if it has no user.
 pub ceiling_highest : (set : SetDef) (q : ℕ) (kept : Option TaskId) → option_map (λ x. x.0) kept ≡ ceiling_of set q
     → IfSome kept (λ x. IsHighestUser set q x.0)
 ceiling_highest set q None e = tt
@@ -72,7 +72,7 @@ pub ceiling_none : (set : SetDef) (q : ℕ) (kept : Option TaskId) → option_ma
 ceiling_none set q None e = no_user set q (sym e)
 ceiling_none set q (Some x) e = tt
 
--- What the first of the users that isn't on processor k is, and else the first of all, is the ceiling as k sees it.
+-- The first of the users that isn't on processor k, or if there is none the first of all, is the ceiling as k sees it.
 pub ceiling_seen : (set : SetDef) (q k : ℕ) (users : List TaskId) (found : Option TaskId) → map (λ x. x.0) users ≡ users_of set q
     → option_map (λ x. x.0) found ≡ find (λ x. not ((task_at set x).processor == k)) (map (λ x. x.0) users)
     → option_or (option_map (λ x. x.0) found) (ceiling_of set q) ≡ remote_ceiling_of set q k
@@ -80,7 +80,7 @@ ceiling_seen set q k users found listed first =
     ap (λ o. option_or o (ceiling_of set q)) (first ∙ ap (find (λ x. not ((task_at set x).processor == k))) listed
     ∙ sym (find_filter (is_user set q) (λ x. not ((task_at set x).processor == k)) (numbers (length set.tasks))))
 
--- What is kept as the ceiling that a processor sees is the boost of a resource there, and nothing where it has no user.
+-- What is kept as the ceiling that a processor sees is the boost of a resource there, or none if it has no user.
 pub boost_highest : (set : SetDef) (q k : ℕ) (kept : Option TaskId) → option_map (λ x. x.0) kept ≡ remote_ceiling_of set q k
     → IfSome kept (λ x. IsBoost set q k x.0)
 boost_highest set q k None e = tt
@@ -96,6 +96,16 @@ pub boost_none : (set : SetDef) (q k : ℕ) (kept : Option TaskId) → option_ma
     → IfNone kept (HasNoUser set q)
 boost_none set q k None e = no_user_found set q (find (is_remote_user set q k) (numbers (length set.tasks))) (sym e)
 boost_none set q k (Some x) e = tt
+
+-- What a set keeps in lists of ids, one for each of `long set` numbers, says at number x which of `most set` numbers pass its test. The
+-- set and the lists are those that a contract sees.
+pub ids_kept : {A V : Type 0} (items : V → List A) (id : A → ℕ) (test : SetDef → ℕ → ℕ → Bool) (most long : SetDef → ℕ) (x : ℕ)
+    (kept set : SetDef) (held rows : List V) → kept ≡ set → rows ≡ held
+    → map (map id) (map items held) ≡ map (λ k. filter (test kept k) (numbers (most kept))) (numbers (long kept)) → x < long set
+    → HasIds items id (test set x) (most set) x rows
+ids_kept items id test most long x kept set held rows same moved are h =
+    has_ids items id (test set) (most set) (long set) x rows (ap (λ l. map (map id) (map items l)) moved
+    ∙ subst (λ s. map (map id) (map items held) ≡ map (λ k. filter (test s k) (numbers (most s))) (numbers (long s))) same are) h
 
 -- The row kept for processor k has an entry for each resource.
 pub boosts_row : (set : SetDef) (rows : List (List (Option TaskId))) (k : ℕ) → AreBoosts set rows → k ≤ set.processors
@@ -116,7 +126,7 @@ boost_kept set rows k q kept h i =
     kept_at (option_map (λ (x : TaskId). x.0)) (λ r. remote_ceiling_of set r k) (slice_index_or rows k []) (length set.resources) q None
     (boosts_row set rows k kept h) i
 
--- Accepted parts are judged rightly by the set that keeps them, and by want of memory.
+-- The set that keeps accepted parts judges them rightly, and so does want of memory.
 pub judged : (parts : SetDef) (answer : Result SetDef ModelRefusal) → IsAccepted parts
     → IfOk answer (λ set. set ≡ parts) → IfErr answer (λ r. r ≡ refusal.Memory) → Judged answer parts
 judged parts (Ok set) accepted same none = (accepted, same)

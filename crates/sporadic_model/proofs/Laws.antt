@@ -1,4 +1,4 @@
--- What follows from a set's being accepted, in the words of the field.
+-- What follows if a set is accepted.
 use Rattle.std.proofs.Common.{◌≡◌, ◌≢◌, ℕ, ◌+◌, ◌<◌, ◌≤◌, ◌↔◌, Bool, true, false, cond, not, List, [], ◌∷◌, length, arith, Option}
 use Rattle.std.proofs.Common.{Some, None, suc, subst, nat_lt, ◌&&◌, ◌==◌, ◌⊎◌, inl, inr, sym, IfSome, refl, ap, ◌∙◌}
 use Rattle.std.specs.List.{find, slice_index_or}
@@ -23,7 +23,7 @@ found_or false x e o h = inr h
 pub zero_of : (n : ℕ) → nat_lt 0 n ≡ false → n ≡ 0
 zero_of n h = grind (arith, nat_tests)
 
--- The element found is one of some number.
+-- An element that is found is at some place.
 pub found_at : {A : Type 0} (p : A → Bool) (xs : List A) (d e : A) → find p xs ≡ Some e
     → (k : ℕ) × (k < length xs) × (slice_index_or xs k d ≡ e)
 found_at p [] d e h = absurd (cc)
@@ -92,7 +92,7 @@ limits_of_accepted set h = let sizes : SetSizes set = sizes_of_accepted set h in
       counts = λ x j l m. let n : RequestNumbers set x j = requests_of_accepted set x j h l m in n.count_to;
     }
 
--- And only such a set is accepted.
+-- Only such a set is accepted.
 pub accepted_of_formed : (set : SetDef) → IsFormed set → IsWithinLimits set → IsAccepted set
 unfolding IsAccepted
 accepted_of_formed set formed limits = record {
@@ -132,7 +132,7 @@ accepted_of_formed set formed limits = record {
 pub cost_of_formed : (set : SetDef) (x : ℕ) → IsFormed set → x < length set.tasks → 1 ≤ (task_at set x).cost
 cost_of_formed set x formed l = let n : TaskOrder set x = formed.numbers x l in omega (arith, n.local_from, n.local_to)
 
--- A bound is at most the latest one exactly where bound and jitter together are at most the deadline.
+-- A bound is at most the latest one exactly if bound and jitter together are at most the deadline.
 pub latest_meets : (set : SetDef) (x bound : ℕ) → IsAccepted set → x < length set.tasks
     → (bound ≤ latest_bound (task_at set x)) ↔ (bound + (task_at set x).jitter ≤ (task_at set x).deadline)
 latest_meets set x bound h i =
@@ -154,7 +154,7 @@ length_of_formed set x p e formed i found =
     let n : EntryOrder set x (request_at set x place.0) = formed.requests x place.0 i place.1 in
     subst (λ r. 1 ≤ r.length) place.2 n.length_from
 
--- The ceiling of a resource is its highest user, and where it has none, no task uses it.
+-- The ceiling of a resource is its highest user. If there is no ceiling, no task uses it.
 pub highest_user : (set : SetDef) (q x : ℕ) → ceiling_of set q ≡ Some x → IsHighestUser set q x
 highest_user set q x e =
     let first = first_of_range (is_user set q) 0 (length set.tasks) x e in
@@ -175,7 +175,7 @@ pub numbers_of_found : {B : Type 0} (set : SetDef) (x : ℕ) (p : RequestDef →
 numbers_of_found set x p seen None h i e = tt
 numbers_of_found set x p seen (Some b) h i e = entry_of_accepted set x p (seen b) h i (sym e)
 
--- The task, the resource, found by its name has it.
+-- The task that is found by a name has this name, and so has the resource.
 pub named_task : (set : SetDef) (name : List ℕ) (x : ℕ) → task_with_name set name ≡ Some x
     → (x < length set.tasks) × ((task_at set x).name ≡ name)
 named_task set name x e =
@@ -203,7 +203,7 @@ remote_true n p k h = (grind (arith, nat_tests), λ same. remote_same n p k same
 pub remote_false : (n p k : ℕ) → (nat_lt 0 n && not (p == k)) ≡ false → p ≢ k → n ≡ 0
 remote_false n p k h apart = grind (arith, nat_tests)
 
--- The same of the users that aren't on processor k.
+-- The same for the users that aren't on processor k.
 pub highest_remote_user : (set : SetDef) (q k x : ℕ)
     → find (is_remote_user set q k) (numbers (length set.tasks)) ≡ Some x → IsHighestRemoteUser set q k x
 highest_remote_user set q k x e =
@@ -221,7 +221,8 @@ no_remote_user set q k e = λ x h apart.
     let none = none_in_range (is_remote_user set q k) 0 (length set.tasks) e x (omega arith) (omega arith) in
     remote_false (count_of set x q) (task_at set x).processor k none apart
 
--- What is found of the remote users, and else of all users, is the boost, and where it is nothing, no task uses the resource.
+-- The first of the remote users, or if there is none the first of all users, is the boost. If there is none of either, no task uses the
+-- resource.
 pub boost_of_found : (set : SetDef) (q k x : ℕ) (o : Option ℕ) → find (is_remote_user set q k) (numbers (length set.tasks)) ≡ o
     → option_or o (ceiling_of set q) ≡ Some x → IsBoost set q k x
 boost_of_found set q k x None found e = inr (no_remote_user set q k found, highest_user set q x e)
@@ -234,7 +235,7 @@ no_user_found set q (Some y) e = absurd (cc)
 pub boost_is_task : (set : SetDef) (q k x : ℕ) → IsBoost set q k x → x < length set.tasks
 boost_is_task set q k x boost = elim boost [ inl remote ↦ remote.task | inr all ↦ all.1.task ]
 
--- No task is on a processor above the set's, so what that processor sees is the ceiling itself.
+-- No task is on a processor above the set's. So the ceiling that such a processor sees is the plain one.
 pub remote_beyond : (n p k : ℕ) → p < k → (nat_lt 0 n && not (p == k)) ≡ nat_lt 0 n
 remote_beyond n p k h = grind (arith, nat_tests)
 

@@ -1,4 +1,4 @@
--- A list as contracts see it, `map f xs`, beside the list of the parts.
+-- A list as contracts see it, `map f xs`, and the list of the parts.
 use Rattle.std.proofs.Common.{◌≡◌, ℕ, zero, suc, ◌+◌, ◌<◌, cond, Option, Some, None, true, false, not, Bool, List, []}
 use Rattle.std.proofs.Common.{◌∷◌, map, length, refl, ap, arith, ◌||◌}
 use Rattle.std.specs.List.{list_any, position_or_len, position, find, slice_index_or}

@@ -1,4 +1,4 @@
--- Where no refusal of a task set is due, all stands in its range; and where all does, none is due.
+-- If no refusal of a task set is due, all of it is in its range. And if all of it is, none is due.
 use Rattle.std.proofs.Common.{◌≡◌, ◌≢◌, ℕ, ◌+◌, ◌-◌, ◌<◌, ◌≤◌, Bool, true, false, not, List, [], ◌∷◌, map, length, take, refl}
 use Rattle.std.proofs.Common.{arith, Some, None, suc, nat_lt, ◌&&◌, ◌==◌, lit<, IsTrue, inl, inr}
 use Rattle.std.specs.List.{find, slice_index_or, list_any}
@@ -65,7 +65,7 @@ between least most n h = record { from = grind (arith, nat_tests); to = grind (a
 pub length_between : (n most : ℕ) → not (nat_lt 0 n && nat_lt n most) ≡ false → (1 ≤ n) × (n < most)
 length_between n most h = (grind (arith, nat_tests), grind (arith, nat_tests))
 
--- Where the cost is within the deadline, a jitter that isn't above what is left fits beside it.
+-- If the cost is within the deadline, a jitter that isn't above the rest fits together with it.
 pub jitter_fits : (deadline cost jitter : ℕ) → cost ≤ deadline → nat_lt (deadline - cost) jitter ≡ false → cost + jitter ≤ deadline
 jitter_fits deadline cost jitter h none = grind (arith, nat_tests)
 
@@ -133,7 +133,7 @@ sizes_of_free set h =
       requests_to = ltb-false MOST_REQUESTS (request_count set) (fails 4 (lit< tt));
     }
 
--- The home of a resource of an set for which no refusal is due, where it has one, is a processor of the set.
+-- Take a set for which no refusal is due. If a resource has a home, it is a processor of the set.
 pub home_of_free : (set : SetDef) (q k : ℕ) → first_refusal set ≡ None → q < length set.resources
     → (resource_at set q).home ≡ Some k → IsBetween 1 set.processors k
 unfolding is_due
@@ -141,7 +141,7 @@ home_of_free set q k h i e =
     let fact = not_at_resource set (λ y. refusal.Home (record { 0 = y })) q i (none_due set h).homes in
     between 1 set.processors k (rw e at fact)
 
--- An element whose name no earlier one has differs in name from each earlier one.
+-- If no earlier element has the name of an element, it differs in name from each earlier one.
 pub differs : {A : Type 0} (name : A → List ℕ) (xs : List A) (i j : ℕ) (d : A) → i < j → j < length xs
     → list_any (λ e. bytes_eq (name e) (name (slice_index_or xs j d))) (take j xs) ≡ false
     → name (slice_index_or xs i d) ≢ name (slice_index_or xs j d)
@@ -153,7 +153,7 @@ differs {A} name xs i j d h k none same =
     let there : list_any test (take j xs) ≡ true = list_any_at test (take j xs) i d within passes in
     cc
 
--- Where some element passes, one of some number does.
+-- If some element passes, it is at some place.
 pub passing : {A : Type 0} (p : A → Bool) (xs : List A) (d : A) → list_any p xs ≡ true
     → (k : ℕ) × (k < length xs) × (p (slice_index_or xs k d) ≡ true)
 passing p [] d h = absurd (cc)
@@ -167,7 +167,7 @@ pub truth : (b : Bool) → not b ≡ false → IsTrue b
 truth true h = refl
 truth false h = cc
 
--- Every resource and task of an set for which no refusal is due is named, and no two alike.
+-- Take a set for which no refusal is due. Every resource and task is named, and no two in the same way.
 pub names_of_free : (set : SetDef) → first_refusal set ≡ None → AreNamed set
 unfolding is_due
 names_of_free set h =
@@ -185,7 +185,7 @@ names_of_free set h =
           (not_at_task set (λ z. refusal.TwiceName (place.Task z)) y k c.back);
     }
 
--- Each entry of an set for which no refusal is due names a resource of the set, and no two of a task the same one.
+-- Take a set for which no refusal is due. Each entry names a resource of the set, and no two of a task name the same one.
 pub entries_of_free : (set : SetDef) (x : ℕ) → first_refusal set ≡ None → x < length set.tasks → AreEntries set x
 unfolding is_due
 entries_of_free set x h i =
@@ -203,7 +203,7 @@ entries_of_free set x h i =
           (not_at_request set (λ y o. refusal.TwiceRequest (place.Request y o)) x l i m b.front);
     }
 
--- Each given home of an set for which no refusal is due is one of its processors.
+-- Take a set for which no refusal is due. Each home that is given is one of its processors.
 pub homes_of_free : (set : SetDef) → first_refusal set ≡ None → AreHomes set
 homes_of_free set h = record {
   homes_from = λ q k i e. (home_of_free set q k h i e).from;

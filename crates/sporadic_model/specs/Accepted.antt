@@ -1,5 +1,5 @@
--- Which task sets are accepted: each name, number, entry and home stands in its range. Which are well formed, and what an accepted set
--- keeps beside that: upper limits. And what follows of the users of their resources.
+-- Which task sets are accepted: those whose names, numbers, entries and homes are all in their ranges. Which sets are well formed, and
+-- which upper limits an accepted set keeps besides. And what it means to be the highest user of a resource.
 use Rattle.std.specs.Prelude.{◌≡◌, ◌≢◌, ℕ, ◌+◌, ◌<◌, ◌≤◌, ◌^◌, length, Some, IsTrue, ◌⊎◌}
 use Rattle.sporadic_model.specs.SetDef.{SetDef, RequestDef, task_at, resource_at, request_at, request_count}
 use Rattle.sporadic_model.specs.Names.{is_name}
@@ -16,9 +16,8 @@ pub record SetSizes (set : SetDef) : Type 0 where
   pub resources_to : length set.resources ≤ MOST_RESOURCES
   pub requests_to : request_count set ≤ MOST_REQUESTS
 
--- The numbers of task x are in their ranges: it runs on a processor of the set, and its local limit,
--- cost, deadline and period stand in this order, from 1 tick to 10^9. A job that is released as late as
--- the jitter lets it be has time for its cost before its deadline.
+-- The numbers of task x are in their ranges. Its processor is one of the set. Its local limit, cost, deadline and period never fall in this
+-- order, and are from 1 tick to 10^9. A job that is released as late as the jitter allows has time for its cost before its deadline.
 pub record TaskNumbers (set : SetDef) (x : ℕ) : Type 0 where
   pub processor_from : 1 ≤ (task_at set x).processor
   pub processor_to : (task_at set x).processor ≤ set.processors
@@ -42,26 +41,25 @@ pub record EntryNumbers (set : SetDef) (x : ℕ) (entry : RequestDef) : Type 0 w
 abbrev pub RequestNumbers : SetDef → ℕ → ℕ → Type 0
 RequestNumbers set x j = EntryNumbers set x (request_at set x j)
 
--- Every resource and every task of the set has a name of the right form, no two resources the same
--- one, and no two tasks.
+-- Every resource and every task of the set has a name of the right form. No two resources have the same name, and no two tasks.
 pub record AreNamed (set : SetDef) : Type 0 where
   pub resource_names : (q : ℕ) → q < length set.resources → IsTrue (is_name (resource_at set q).name)
   pub task_names : (x : ℕ) → x < length set.tasks → IsTrue (is_name (task_at set x).name)
   pub resources_apart : (p q : ℕ) → p < q → q < length set.resources → (resource_at set p).name ≢ (resource_at set q).name
   pub tasks_apart : (x y : ℕ) → x < y → y < length set.tasks → (task_at set x).name ≢ (task_at set y).name
 
--- Each entry of task x names a resource of the set, and no two of its entries the same one.
+-- Each entry of task x names a resource of the set, and no two of its entries name the same one.
 pub record AreEntries (set : SetDef) (x : ℕ) : Type 0 where
   pub known : (j : ℕ) → j < length (task_at set x).requests
       → (q : ℕ) × (q < length set.resources) × ((resource_at set q).name ≡ (request_at set x j).resource)
   pub apart : (i j : ℕ) → i < j → j < length (task_at set x).requests → (request_at set x i).resource ≢ (request_at set x j).resource
 
--- A given home is a processor of the set.
+-- Each home that is given is a processor of the set.
 pub record AreHomes (set : SetDef) : Type 0 where
   pub homes_from : (q k : ℕ) → q < length set.resources → (resource_at set q).home ≡ Some k → 1 ≤ k
   pub homes_to : (q k : ℕ) → q < length set.resources → (resource_at set q).home ≡ Some k → k ≤ set.processors
 
--- The sizes, names, numbers, entries and homes of the set all stand in their ranges.
+-- The sizes, names, numbers, entries and homes of the set are all in their ranges.
 pub record KeepsRanges (set : SetDef) : Type 0 where
   pub sizes : SetSizes set
   pub names : AreNamed set
@@ -70,12 +68,12 @@ pub record KeepsRanges (set : SetDef) : Type 0 where
   pub requests : (x j : ℕ) → x < length set.tasks → j < length (task_at set x).requests → RequestNumbers set x j
   pub homes : AreHomes set
 
--- Is the set accepted? It is where all of it stands in its range.
+-- Is the set accepted? It is if all of it is in its range.
 unfoldable pub IsAccepted : SetDef → Type 0
 IsAccepted set = KeepsRanges set
 
--- The numbers of task x stand in their order, however great they are: a local limit and a cost of at least 1 tick, and cost and
--- jitter together, deadline and period.
+-- The numbers of task x are in order, however great they are. The local limit is at least 1 tick and at most the cost. Cost and jitter
+-- together are at most the deadline, and the deadline is at most the period.
 pub record TaskOrder (set : SetDef) (x : ℕ) : Type 0 where
   pub processor_from : 1 ≤ (task_at set x).processor
   pub processor_to : (task_at set x).processor ≤ set.processors
@@ -84,14 +82,14 @@ pub record TaskOrder (set : SetDef) (x : ℕ) : Type 0 where
   pub jitter_to : (task_at set x).cost + (task_at set x).jitter ≤ (task_at set x).deadline
   pub deadline_to : (task_at set x).deadline ≤ (task_at set x).period
 
--- So do those of an entry of task x: at least 1 request, and a length of at least 1 tick that is below the task's cost.
+-- The numbers of an entry of task x are in order too: at least 1 request, and a length of at least 1 tick that is below the task's cost.
 pub record EntryOrder (set : SetDef) (x : ℕ) (entry : RequestDef) : Type 0 where
   pub count_from : 1 ≤ entry.count
   pub length_from : 1 ≤ entry.length
   pub length_to : entry.length < (task_at set x).cost
 
--- Is the set well formed? It has a processor and a task, its names are of the right form and apart, its entries name its resources,
--- its homes are processors of it, and its numbers stand in their order. No number of ticks has an upper limit of its own here.
+-- Is the set well formed? It has a processor and a task. Its names are of the right form, and no two are the same. Its entries name its
+-- resources, its homes are processors of it, and its numbers are in order. No number has an upper limit of its own here.
 pub record IsFormed (set : SetDef) : Type 0 where
   pub processors : 1 ≤ set.processors
   pub tasks : 1 ≤ length set.tasks
@@ -101,7 +99,7 @@ pub record IsFormed (set : SetDef) : Type 0 where
   pub requests : (x j : ℕ) → x < length set.tasks → j < length (task_at set x).requests → EntryOrder set x (request_at set x j)
   pub homes : AreHomes set
 
--- Are the sizes of the set, its periods and the counts of its entries at most the greatest that are accepted?
+-- Are the sizes of the set, its periods and the counts of its entries within the upper limits?
 pub record IsWithinLimits (set : SetDef) : Type 0 where
   pub processors : set.processors ≤ MOST_PROCESSORS
   pub tasks : length set.tasks ≤ MOST_TASKS
@@ -116,7 +114,7 @@ pub record FitsIds (set : SetDef) : Type 0 where
   pub tasks : length set.tasks < 2 ^ 32
   pub entries : (x : ℕ) → x < length set.tasks → length (task_at set x).requests < 2 ^ 32
 
--- Task x is the highest user of resource q: a user, and no higher task is one.
+-- Task x is the highest user of resource q: it is a user, and no higher task is one.
 pub record IsHighestUser (set : SetDef) (q x : ℕ) : Type 0 where
   pub task : x < length set.tasks
   pub user : 0 < count_of set x q
@@ -133,11 +131,10 @@ pub record IsHighestRemoteUser (set : SetDef) (q k x : ℕ) : Type 0 where
 abbrev pub HasNoUser : SetDef → ℕ → Type 0
 HasNoUser set q = (x : ℕ) → x < length set.tasks → count_of set x q ≡ 0
 
--- No task that isn't on processor k uses resource q.
+-- Each user of resource q is on processor k.
 abbrev pub HasNoRemoteUser : SetDef → ℕ → ℕ → Type 0
 HasNoRemoteUser set q k = (x : ℕ) → x < length set.tasks → (task_at set x).processor ≢ k → count_of set x q ≡ 0
 
--- Task x is the highest user of resource q that isn't on processor k, and where there is none, the
--- highest user.
+-- Task x is the highest user of resource q that isn't on processor k. If there is no such user, it is the highest user.
 abbrev pub IsBoost : SetDef → ℕ → ℕ → ℕ → Type 0
 IsBoost set q k x = IsHighestRemoteUser set q k x ⊎ (HasNoRemoteUser set q k × IsHighestUser set q x)

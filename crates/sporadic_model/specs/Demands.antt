@@ -1,5 +1,5 @@
--- What a set keeps so that it need not search: what each task may ask of each resource, which resources each task uses,
--- which tasks use each resource, and which ceiling of a resource each processor sees.
+-- The tables that a set keeps so that it need not search: what each task may ask of each resource, which resources each task uses, which
+-- tasks use each resource, and which ceiling of a resource each processor sees.
 use Rattle.std.specs.Prelude.{◌≡◌, ℕ, ◌+◌, ◌<◌, ◌≤◌, List, [], length, map, slice_index_or, Option, None, find}
 use Rattle.std.specs.Option.{option_map, option_map_or}
 use Rattle.std.specs.Str.{bytes_eq}
@@ -10,7 +10,7 @@ use Rattle.sporadic_model.specs.declared.ids.TaskId.{TaskId}
 use Rattle.sporadic_model.specs.declared.ids.ResourceId.{ResourceId}
 use Rattle.sporadic_model.specs.declared.demands.Demand.{Demand}
 
--- What an entry asks for; nothing where there is none.
+-- What an entry asks for: no request and no tick if there is none.
 abbrev pub demand_by : Option RequestDef → Demand
 demand_by entry = record { count = option_map_or (λ e. e.count) entry 0; length = option_map_or (λ e. e.length) entry 0 }
 
@@ -22,7 +22,7 @@ no_demand = demand_by None
 abbrev pub demand_for : TaskDef → ResourceDef → Demand
 demand_for task resource = demand_by (find (λ e. bytes_eq e.resource resource.name) task.requests)
 
--- What may each task ask of each resource: one row per task, and in it one demand per resource?
+-- What each task may ask of each resource: one row for each task, and in it one demand for each resource.
 abbrev pub demands_in : SetDef → List (List Demand)
 demands_in set = map (λ task. map (demand_for task) set.resources) set.tasks
 
@@ -38,7 +38,7 @@ AreUsers set rows = map (map (λ (x : TaskId). x.0)) rows ≡ map (users_of set)
 abbrev pub boosts_on : SetDef → ℕ → List (Option ℕ)
 boosts_on set k = map (λ q. remote_ceiling_of set q k) (numbers (length set.resources))
 
--- Are these the ceilings as the processors see them, from processor 0, which has no task, to the last?
+-- Are these the ceilings as the processors see them, one row for each processor and one for 0? No task is on processor 0.
 abbrev pub AreBoosts : SetDef → List (List (Option TaskId)) → Type 0
 AreBoosts set rows = map (map (option_map (λ (x : TaskId). x.0))) rows ≡ map (boosts_on set) (numbers (set.processors + 1))
 
@@ -48,6 +48,6 @@ pub record IsDemand (set : SetDef) (x : ℕ) (demand : Demand) : Type 0 where
   pub length_to : demand.length < (task_at set x).cost
   pub length_from : 0 < demand.count → 1 ≤ demand.length
 
--- The demand of task x, of the resource q, among rows of demands.
+-- The demand of task x for resource q, among rows of demands.
 abbrev pub demand_in : List (List Demand) → ℕ → ℕ → Demand
 demand_in rows x q = slice_index_or (slice_index_or rows x []) q no_demand

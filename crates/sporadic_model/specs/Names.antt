@@ -5,7 +5,7 @@ use Rattle.std.specs.Int.{is_in_range}
 use Rattle.std.specs.Char.{is_ascii_alphanumeric}
 use Rattle.sporadic_model.specs.declared.limits.TheConstants.{MOST_NAME}
 
--- May the byte stand in a name: is it a letter, a digit, or one of _ . - ?
+-- May the byte be in a name: is it a letter, a digit, or one of _ . - ?
 abbrev pub is_name_byte : ℕ → Bool
 is_name_byte b = is_ascii_alphanumeric b || b == 95 || b == 46 || b == 45
 

@@ -28,8 +28,8 @@ has_resource_named resources name = list_any (λ r. bytes_eq r.name name) resour
 abbrev pub has_entry_for : List RequestDef → List ℕ → Bool
 has_entry_for entries name = list_any (λ e. bytes_eq e.resource name) entries
 
--- Is the refusal due: does the set have the fault that it names, at the place that it names? One that
--- names a place of another kind, and want of memory, never is.
+-- Is the refusal due: has the set the fault that it names, at the place that it names? A refusal that names a place of another kind is
+-- never due, and want of memory isn't either.
 unfoldable pub is_due : SetDef → ModelRefusal → Bool
 is_due set refusal.NoTask = length set.tasks == 0
 is_due set (refusal.Size size.Processors) = not (is_in_range 1 MOST_PROCESSORS set.processors)
@@ -54,7 +54,7 @@ is_due set (refusal.Home q) = option_map_or (λ k. not (is_in_range 1 set.proces
 is_due set (refusal.Jitter x) = nat_lt ((task_at set x.0).deadline - (task_at set x.0).cost) (task_at set x.0).jitter
 is_due set _ = false
 
--- One refusal at each resource, at each task, and at each request entry, task by task.
+-- The refusals of one kind, in the order of their places: one for each resource, for each task, or for each request entry, task by task.
 abbrev pub at_resources : SetDef → (ℕ → ModelRefusal) → List ModelRefusal
 at_resources set refusal_at = map refusal_at (numbers (length set.resources))
 
@@ -104,8 +104,8 @@ refusals_in_order set =
 abbrev pub first_refusal : SetDef → Option ModelRefusal
 first_refusal set = find (is_due set) (refusals_in_order set)
 
--- What the answer on a task set says of its parts: accepted as they are, or the first refusal that is
--- due. Only want of memory says nothing of them.
+-- What the answer says of the parts of a task set: they are accepted as they are, or it is the first refusal that is due. Only want of
+-- memory says nothing of them.
 abbrev pub Judged : Result SetDef ModelRefusal → SetDef → Type 0
 Judged (Ok set) parts = IsAccepted parts × (set ≡ parts)
 Judged (Err refusal.Memory) parts = Unit {0}

@@ -1,4 +1,4 @@
--- What a contract sees of the parts of a task set: the record of their numbers, lists and bytes.
+-- What a contract sees of the parts of a task set: a record of their numbers, lists and bytes.
 use Rattle.std.specs.Prelude.{map, string_bytes}
 use Rattle.sporadic_model.specs.SetDef.{RequestDef, TaskDef, ResourceDef, SetDef}
 use Rattle.sporadic_model.specs.declared.parts.RequestPart.{RequestPart}

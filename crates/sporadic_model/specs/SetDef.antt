@@ -1,9 +1,9 @@
--- A sporadic task set as mathematics sees it: plain numbers and lists, and a name as the list of its bytes.
--- Tasks stand from the highest base priority to the lowest; positions count from 0, processors from 1.
+-- A sporadic task set as mathematics sees it: plain numbers and lists. A name is the list of its bytes. Tasks are listed from the highest
+-- base priority to the lowest. Positions count from 0, and processors from 1.
 use Rattle.std.specs.Prelude.{ℕ, ◌+◌, ◌-◌, ◌==◌, ◌&&◌, Bool, nat_lt, List, [], Option, None, length, slice_index_or, sum_by}
 use Rattle.std.specs.Int.{div_ceil}
 
--- An entry of a task: which resource it requests, how often a job may, and for how many ticks at most.
+-- An entry of a task: the resource that it requests, the most requests of one job, and the most ticks of one request.
 pub record RequestDef : Type 0 where
   pub resource : List ℕ
   pub count : ℕ
@@ -20,7 +20,7 @@ pub record TaskDef : Type 0 where
   pub jitter : ℕ
   pub requests : List RequestDef
 
--- A resource: its name, and the processor at which its requests run where the protocol asks for one.
+-- A resource: its name, and its home, which is the processor that runs its requests under a protocol that needs one.
 pub record ResourceDef : Type 0 where
   pub name : List ℕ
   pub home : Option ℕ
@@ -31,8 +31,7 @@ pub record SetDef : Type 0 where
   pub resources : List ResourceDef
   pub tasks : List TaskDef
 
--- What a look-up past the end gives: a task of zeros, a resource without a name, an entry without a resource and
--- without requests.
+-- What a look-up past the end gives: a task of zeros, a resource without a name, or an entry without a resource and without requests.
 abbrev pub no_task : TaskDef
 no_task = record { name = []; processor = 0; period = 0; deadline = 0; cost = 0; local = 0; jitter = 0; requests = [] }
 
@@ -58,8 +57,8 @@ request_at set x j = slice_index_or (task_at set x).requests j no_request
 abbrev pub request_count : SetDef → ℕ
 request_count set = sum_by (λ t. length t.requests) set.tasks
 
--- The greatest response time with which each job of the task meets its deadline. The deadline counts from a job's
--- arrival and the response time from its release, which comes at most the jitter later.
+-- The latest response-time bound with which each job of the task meets its deadline. The deadline counts from a job's arrival, and the
+-- bound from its release, which is at most the jitter later.
 abbrev pub latest_bound : TaskDef → ℕ
 latest_bound t = t.deadline - t.jitter
 
@@ -67,6 +66,6 @@ latest_bound t = t.deadline - t.jitter
 abbrev pub is_higher_local : SetDef → ℕ → ℕ → Bool
 is_higher_local set i h = nat_lt h i && ((task_at set h).processor == (task_at set i).processor)
 
--- How many jobs of a task with this bound and period can run in a window of this length.
+-- How many jobs of a task with this bound and this period can run in a window of this length?
 abbrev pub jobs_within : ℕ → ℕ → ℕ → ℕ
 jobs_within window bound period = div_ceil (window + bound) period

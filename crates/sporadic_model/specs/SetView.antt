@@ -1,4 +1,4 @@
--- What a contract sees of a task set: the record of its parts. They are accepted, and what the set keeps beside them is theirs.
+-- What a contract sees of a task set: the record of its parts. They are accepted, and the tables that the set keeps agree with them.
 use Rattle.std.specs.Prelude.{◌≡◌, map}
 use Rattle.sporadic_model.specs.SetDef.{SetDef}
 use Rattle.sporadic_model.specs.Seen.{parts_seen}

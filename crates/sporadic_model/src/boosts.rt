@@ -1,4 +1,4 @@
-//! How each processor sees the ceilings of the resources: found once, and read by position.
+//! The ceiling of each resource as each processor sees it. The table is made once, and read by position.
 
 ghost use Rattle.std.specs.Prelude.{◌≡◌, ◌<◌, ◌==◌, [], length, map, not, slice_index_or, option_map, IfOk, None, find};
 ghost use Rattle.std.specs.List.{All};
@@ -11,7 +11,7 @@ ghost use Rattle.sporadic_model.specs.Demands.{AreUsers, AreBoosts, boosts_on};
 use crate::ids::TaskId;
 use crate::lookup::task_part;
 use crate::parts::Parts;
-use crate::users::users_at;
+use crate::users::row_at;
 use std::alloc::{AllocError, Global};
 
 /// Is task `x` on another processor than `k`?
@@ -41,7 +41,7 @@ fn boost_of(parts: &Parts, users: &[Vec<TaskId>], k: usize, q: usize) -> Option<
     requires resource { q < length (parts_seen parts.now).resources }
     ensures { option_map (λ x. x.0) result ≡ remote_ceiling_of (parts_seen parts.now) q k }
 {
-    let of_resource = users_at(users, q);
+    let of_resource = row_at(users, q);
     match first_beyond(parts, of_resource, k as u64) {
         Some(x) => Some(x),
         None => of_resource.first().copied(),
@@ -65,8 +65,8 @@ fn boosts_of_processor(
     Ok(row)
 }
 
-/// The ceiling of each resource as each processor sees it, processor by processor from 0. Processors count from 1;
-/// with a row for 0 each row's position is its processor.
+/// The ceiling of each resource as each processor sees it: one row for each processor, and one for 0. Processors are numbered from 1, so a
+/// row's position is its processor's number.
 pub(crate) fn boosts_of_processors(
     alloc: Global,
     parts: &Parts,

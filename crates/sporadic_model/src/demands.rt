@@ -6,8 +6,8 @@ use crate::lookup::entry_for;
 use crate::parts::{Parts, ResourcePart, TaskPart};
 use std::alloc::{AllocError, Global};
 
-/// What a task may ask of a resource: how often a job requests it, and for how many ticks at most. Both
-/// are 0 where the task has no entry for it.
+/// What a job of a task may ask of a resource: the most requests, and the most ticks of one request. Both are 0 if the task has no entry
+/// for it.
 #[derive(Clone, Copy)]
 pub(crate) struct Demand {
     pub(crate) count: u64,

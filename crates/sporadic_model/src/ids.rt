@@ -1,4 +1,4 @@
-/// A task, by its position in the set, counted from 0. A task before another one is of higher base priority.
+/// A task, by its position in the set, counted from 0. A lower position is a higher base priority.
 #[derive(Clone, Copy, Debug, PartialEq, Eq, PartialOrd, Ord)]
 pub struct TaskId(pub u32);
 

@@ -3,8 +3,8 @@ ghost use Rattle.sporadic_model.specs.SetDef.{jobs_within};
 
 use crate::limits::MOST_TICKS;
 
-/// How many jobs of a task with this bound and this period can run in a window of this many ticks:
-/// the least number whose periods cover the window and the bound together.
+/// How many jobs of a task with this bound and this period can run in a window of this many ticks. It is the least number of periods that
+/// covers the window and the bound together.
 pub fn jobs_in(window: u64, bound: u64, period: u64) -> u64
     requires window { window ≤ MOST_TICKS }
     requires bound { bound ≤ MOST_TICKS }

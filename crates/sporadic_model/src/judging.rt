@@ -281,7 +281,7 @@ fn first_of_requests(parts: &Parts) -> Option<ModelRefusal>
         .or_else(|| first_at_requests(parts, RequestFault::Length))
 }
 
-/// The first refusal that is due, in the order in which they are tried.
+/// The first refusal that is due, in the order of trying.
 #[tactic(auto, using(crate::proofs::Finding::find_joined))]
 pub(crate) fn first_refusal(parts: &Parts) -> Option<ModelRefusal>
     ensures { result ≡ first_due (parts_seen parts.now) }

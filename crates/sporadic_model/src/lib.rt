@@ -1,5 +1,5 @@
-//! Task sets of the sporadic model: what a set is made of, which sets are accepted, and what an
-//! accepted set answers. Tasks stand from the highest base priority to the lowest.
+//! Task sets of the sporadic model: the parts of a set, which sets are accepted, and what you can ask of an accepted set. Tasks are listed
+//! from the highest base priority to the lowest.
 #![tactic(auto)]
 
 mod boosts;

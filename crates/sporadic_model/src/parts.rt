@@ -1,7 +1,7 @@
-/// What a task set is made of, before anything is known of it.
+/// The parts of a task set, not yet checked.
 #[derive(Debug, Drop)]
 pub struct Parts {
-    /// How many processors there are; they are numbered from 1.
+    /// How many processors there are. They are numbered from 1.
     pub processors: u64,
     /// The resources that its tasks share.
     pub resources: Vec<ResourcePart>,
@@ -14,7 +14,7 @@ pub struct Parts {
 pub struct ResourcePart {
     /// The resource's name, which no other resource of the set has.
     pub name: String,
-    /// The processor that serves its requests, where a protocol asks for one.
+    /// The processor that runs its requests, under a protocol that needs one. Processors are numbered from 1.
     pub home: Option<u64>,
 }
 

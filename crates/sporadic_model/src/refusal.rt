@@ -30,8 +30,8 @@ pub enum SizeOf {
     Requests,
 }
 
-/// Why a task set is not accepted. The refusals are tried in the order in which they stand here,
-/// each over the whole set, and each names the first place at which it is due.
+/// Why a task set is not accepted. The refusals are tried in the order in which they are listed here, each over the whole set. A refusal
+/// names the first place at which it is due.
 #[derive(Clone, Copy, Debug, PartialEq, Eq, Error)]
 pub enum ModelRefusal {
     /// There is no task.
@@ -44,7 +44,7 @@ pub enum ModelRefusal {
     /// A resource's or a task's name is not 1 to 32 bytes of `[A-Za-z0-9_.-]`.
     #[error("a name is not 1 to 32 bytes of A-Z, a-z, 0-9, _, . and -")]
     Name(Place),
-    /// An earlier resource has the resource's name, or an earlier task the task's.
+    /// An earlier resource has the resource's name, or an earlier task has the task's.
     #[error("a name is given twice")]
     TwiceName(Place),
     /// The task's processor is 0 or above the number of processors.

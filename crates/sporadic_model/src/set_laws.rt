@@ -9,18 +9,18 @@ use crate::limits::{
     MOST_COUNT, MOST_NAME, MOST_PROCESSORS, MOST_REQUESTS, MOST_RESOURCES, MOST_TASKS, MOST_TICKS,
 };
 
-/// No refusal of a task set is due exactly where all of it stands in its range.
+/// No refusal of a task set is due if and only if all its sizes, names, numbers, entries and homes are in their ranges.
 pub fn refusals_are_exact()
     ensures { (set : SetDef) → (first_refusal set ≡ None) ↔ IsAccepted set }
 {}
 
-/// A set is accepted exactly where it is well formed and within the upper limits.
+/// A set is accepted exactly if it is well formed and within the upper limits.
 pub fn accepted_sets_are_formed_and_within_limits()
     ensures { (set : SetDef) → IsAccepted set ↔ (IsFormed set × IsWithinLimits set) }
 {}
 
-/// A response-time bound of an accepted set's task is at most the latest one exactly where bound and
-/// jitter together are at most the deadline.
+/// Take a task of an accepted set. A response-time bound of it is at most the latest bound exactly if bound and jitter together are at most
+/// the deadline.
 pub fn latest_bounds_meet_deadlines()
     ensures { (set : SetDef) (x bound : ℕ) → IsAccepted set → x < length set.tasks
         → (bound ≤ latest_bound (task_at set x)) ↔ (bound + (task_at set x).jitter ≤ (task_at set x).deadline) }

@@ -18,19 +18,19 @@ use crate::limits::{MOST_COUNT, MOST_PROCESSORS, MOST_RESOURCES, MOST_TASKS, MOS
 use crate::lookup::{place_of_resource, place_of_task, resource_part, task_part};
 use crate::parts::{Parts, ResourcePart, TaskPart};
 use crate::refusal::ModelRefusal;
-use crate::users::{used_at, used_by_tasks, users_at, users_of_resources};
+use crate::users::{row_at, used_by_tasks, users_of_resources};
 use std::alloc::Global;
 use std::marker::Model;
 
-/// An accepted task set. Its tasks stand from the highest base priority to the lowest.
+/// An accepted task set. Its tasks are listed from the highest base priority to the lowest.
 ///
-/// It resolves the requests of its tasks once, when it is made, so that no look-up by number searches names.
+/// The names in requests are resolved once, when the set is made. So no look-up by number searches names.
 #[derive(Drop)]
 pub struct TaskSet {
     parts: Parts,
     // What each task may ask of each resource: a row per task, and in it a demand per resource.
     demands: Vec<Vec<Demand>>,
-    // The resources that each task uses, in order.
+    // The resources that each task uses, in the order of the resources.
     used: Vec<Vec<ResourceId>>,
     // The tasks that use each resource, from the highest to the lowest.
     users: Vec<Vec<TaskId>>,
@@ -51,23 +51,23 @@ impl Model for TaskSet {
 }
 
 impl TaskSet {
-    /// Accepts the parts, or names the first refusal that is due. The refusals are tried in the order
-    /// in which they stand in [`ModelRefusal`], each over the whole set, and each names the first place
-    /// in the order of resources, then tasks, then a task's request entries. The set keeps the parts as
-    /// they are. Only what is accepted takes memory: for what each task may ask of each resource, for the
-    /// resources that each task uses, for the tasks that use each resource, and for the ceiling of each
-    /// resource as each processor sees it; where that is refused, the answer is `Memory`.
+    /// Accepts the parts, or names the first refusal that is due. The refusals are tried in the order of [`ModelRefusal`], each over the
+    /// whole set. Each names the first place: resources come before tasks, and a task's request entries are in their order. The set keeps
+    /// the parts as they are.
+    ///
+    /// Only an accepted set takes memory, for its tables: what each task may ask of each resource, which resources each task uses, which
+    /// tasks use each resource, and the ceilings as each processor sees them. Want of memory is answered with `Memory`.
     pub fn new(alloc: Global, parts: Parts) -> Result<TaskSet, ModelRefusal>
         ensures { Judged result (parts_seen parts) }
     {
         match first_refusal(&parts) {
             Some(refusal) => Err(refusal),
-            None => TaskSet::resolved(alloc, parts),
+            None => TaskSet::with_tables(alloc, parts),
         }
     }
 
-    /// The set of accepted parts, with the requests of its tasks resolved.
-    fn resolved(alloc: Global, parts: Parts) -> Result<TaskSet, ModelRefusal>
+    /// The set of accepted parts, with the tables of what its tasks request and use.
+    fn with_tables(alloc: Global, parts: Parts) -> Result<TaskSet, ModelRefusal>
         requires { IsAccepted (parts_seen parts) }
         ensures ok { IfOk result (λ set. set ≡ parts_seen parts) }
         ensures err { IfErr result (λ refusal. refusal ≡ ModelRefusal.Memory) }
@@ -215,9 +215,8 @@ impl TaskSet {
         self.task(x).jitter
     }
 
-    /// The greatest number of ticks from a job's release to its end with which each job meets its
-    /// deadline: the deadline less the jitter, at least the cost. A response-time bound counts from the
-    /// release, so this is what it is held against.
+    /// The latest response-time bound with which each job of the task meets its deadline, in ticks from the job's release to its end: the
+    /// deadline less the jitter. It is at least the cost.
     pub fn latest_bound(&self, x: TaskId) -> u64
         requires { x.0 < length self.now.tasks }
         ensures value { result ≡ latest_bound (task_at self.now x.0) }
@@ -240,7 +239,7 @@ impl TaskSet {
         demand_at(&self.demands, x.0 as usize, q.0 as usize)
     }
 
-    /// How often a job of the task may request the resource: at most 1000, and 0 without an entry.
+    /// How many requests of the resource a job of the task may make: at most 1000, and 0 without an entry.
     pub fn count(&self, x: TaskId, q: ResourceId) -> u64
         requires task { x.0 < length self.now.tasks }
         requires resource { q.0 < length self.now.resources }
@@ -250,8 +249,7 @@ impl TaskSet {
         self.demand(x, q).count
     }
 
-    /// For how many ticks one request of the resource by the task may last: below the task's cost, and
-    /// 0 without an entry.
+    /// The most ticks that one request of the resource by the task may last: below the task's cost, and 0 without an entry.
     pub fn length(&self, x: TaskId, q: ResourceId) -> u64
         requires task { x.0 < length self.now.tasks }
         requires resource { q.0 < length self.now.resources }
@@ -269,7 +267,7 @@ impl TaskSet {
         ensures value { map (λ q. q.0) result.now ≡ used_by self.now x.0 }
         ensures within { All (λ q. q.0 < length self.now.resources) result.now }
     {
-        used_at(&self.used, x.0 as usize)
+        row_at(&self.used, x.0 as usize)
     }
 
     /// The tasks whose jobs may request the resource, from the highest to the lowest.
@@ -278,10 +276,10 @@ impl TaskSet {
         ensures value { map (λ x. x.0) result.now ≡ users_of self.now q.0 }
         ensures within { All (λ x. x.0 < length self.now.tasks) result.now }
     {
-        users_at(&self.users, q.0 as usize)
+        row_at(&self.users, q.0 as usize)
     }
 
-    /// The processor at which the resource's requests run, where one was given.
+    /// The resource's home, the processor that runs its requests under a protocol that needs one. None if the set gives no home.
     pub fn home(&self, q: ResourceId) -> Option<u32>
         requires { q.0 < length self.now.resources }
         ensures value { result ≡ (resource_at self.now q.0).home }
@@ -294,7 +292,7 @@ impl TaskSet {
         }
     }
 
-    /// The highest task that uses the resource; none exactly where no task does.
+    /// The highest task that uses the resource; none exactly if no task does.
     pub fn ceiling(&self, q: ResourceId) -> Option<TaskId>
         requires { q.0 < length self.now.resources }
         ensures value { option_map (λ x. x.0) result ≡ ceiling_of self.now q.0 }
@@ -305,7 +303,7 @@ impl TaskSet {
         self.users(q).first().copied()
     }
 
-    /// The ceiling of the resource as processor `k` sees it, where the set has it or it is 0.
+    /// The ceiling of the resource as processor `k` sees it. `k` is a processor of the set, or 0.
     fn kept_boost(&self, q: ResourceId, k: u32) -> Option<TaskId>
         requires resource { q.0 < length self.now.resources }
         requires processor { k ≤ self.now.processors }
@@ -314,9 +312,8 @@ impl TaskSet {
         boost_at(&self.boosts, k as usize, q.0 as usize)
     }
 
-    /// The ceiling at which a job on processor `k` that holds the resource runs: the highest task that
-    /// uses the resource and isn't on `k`, and where all of its users are on `k`, the highest of them.
-    /// None exactly where no task uses the resource.
+    /// The ceiling at which a job on processor `k` that holds the resource runs. It is the highest task that uses the resource and isn't on
+    /// `k`. If all of its users are on `k`, it is the highest of them. None exactly if no task uses the resource.
     pub fn boost(&self, q: ResourceId, k: u32) -> Option<TaskId>
         requires { q.0 < length self.now.resources }
         ensures value { option_map (λ x. x.0) result ≡ remote_ceiling_of self.now q.0 k }
@@ -331,7 +328,7 @@ impl TaskSet {
         self.kept_boost(q, k)
     }
 
-    /// The task of this name; none exactly where no task has it.
+    /// The task of this name; none exactly if no task has it.
     pub fn task_named(&self, name: &[u8]) -> Option<TaskId>
         ensures value { option_map (λ x. x.0) result ≡ task_with_name self.now name.now }
         ensures within { IfSome result (λ x. x.0 < length self.now.tasks) }
@@ -343,7 +340,7 @@ impl TaskSet {
         }
     }
 
-    /// The resource of this name; none exactly where no resource has it.
+    /// The resource of this name; none exactly if no resource has it.
     pub fn resource_named(&self, name: &[u8]) -> Option<ResourceId>
         ensures value { option_map (λ q. q.0) result ≡ resource_with_name self.now name.now }
         ensures within { IfSome result (λ q. q.0 < length self.now.resources) }
@@ -355,7 +352,7 @@ impl TaskSet {
         }
     }
 
-    /// Every task set keeps the limits and the rules of the model. This says so, and does nothing.
+    /// Every task set keeps the limits and the rules of the model. This call says so in a proof, and does nothing.
     pub fn keeps_the_model(&self)
         ensures accepted { IsAccepted self.now }
         ensures sizes { SetSizes self.now }

@@ -96,18 +96,10 @@ pub(crate) fn users_of_resources(
     Ok(rows)
 }
 
-/// Row `x` of the resources that each task uses.
-pub(crate) fn used_at(used: &[Vec<ResourceId>], x: usize) -> &[ResourceId]
-    requires { x < length used.now }
-    ensures { result.now ≡ slice_index_or (map (λ row. row.items) used.now) x [] }
+/// The row at the place.
+pub(crate) fn row_at<T>(rows: &[Vec<T>], place: usize) -> &[T]
+    requires { place < length rows.now }
+    ensures { result.now ≡ slice_index_or (map (λ row. row.items) rows.now) place [] }
 {
-    &used[x]
-}
-
-/// Row `q` of the tasks that use each resource.
-pub(crate) fn users_at(users: &[Vec<TaskId>], q: usize) -> &[TaskId]
-    requires { q < length users.now }
-    ensures { result.now ≡ slice_index_or (map (λ row. row.items) users.now) q [] }
-{
-    &users[q]
+    &rows[place]
 }

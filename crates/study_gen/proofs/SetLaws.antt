@@ -23,7 +23,7 @@ use Rattle.study_gen.proofs.EachLaws.{Each, each_at, each_all, each_append}
 use Rattle.study_gen.proofs.OrderLaws.{put, in_place_is_put, each_put, length-put, AreApart, apart-put, apart_pairs}
 use Rattle.study_gen.proofs.OrderLaws.{IsRising, IsAmong, ordered_more}
 
--- A number that is picked stands between its ends.
+-- A number that is picked is between its ends.
 pub picked_from : (s least most : ℕ) → least ≤ picked s least most
 picked_from s least most = omega arith
 

@@ -18,12 +18,12 @@ IsShown p set = (bounds : List ℕ) × (duals : List DualDef) × EndsIn (rounds_
 abbrev pub IsStopped : Protocol → SetDef → Type 0
 IsStopped p set = ((i : ℕ) × EndsIn (rounds_of (source_of p set)) 1000000 (Wide i)) ⊎ (EndsIn (rounds_of (source_of p set)) 1000000 Allowance)
 
--- Do just c of the numbers below n have the property?
+-- Do exactly c of the numbers below n have the property?
 abbrev pub Counts : (ℕ → Type 0) → ℕ → ℕ → Type 0
 Counts P zero c = c ≡ 0
 Counts P (suc n) c = (P n × (b : ℕ) × (Counts P n b) × (c ≡ b + 1)) ⊎ ((P n → ⊥) × Counts P n c)
 
--- The state behind n sets that are made one after another.
+-- The state after n sets that are made one after another.
 abbrev pub behind_sets : ℕ → ℕ → ℕ
 behind_sets s zero = s
 behind_sets s (suc n) = behind_set (behind_sets s n)
@@ -37,15 +37,15 @@ abbrev pub step_begins : ℕ → ℕ → ℕ → ℕ
 step_begins seed sets zero = seed
 step_begins seed sets (suc i) = behind_sets (step_begins seed sets i) sets
 
--- Are just c of the step's sets schedulable under the protocol?
+-- Are exactly c of the step's sets schedulable under the protocol?
 abbrev pub CountsShown : Protocol → ℕ → ℕ → ℕ → ℕ → Type 0
 CountsShown p step s sets c = Counts (λ k. IsShown p (set_of_step step s k)) sets c
 
--- Did the analyses of just c of them stop?
+-- Did exactly c of their analyses stop?
 abbrev pub CountsStopped : Protocol → ℕ → ℕ → ℕ → ℕ → Type 0
 CountsStopped p step s sets c = Counts (λ k. IsStopped p (set_of_step step s k)) sets c
 
--- Did so many analyses of the first i steps stop, of all protocols together?
+-- Did exactly this many analyses of the first i steps stop, of all protocols together?
 abbrev pub StoppedBefore : ℕ → ℕ → ℕ → ℕ → Type 0
 StoppedBefore seed sets zero c = c ≡ 0
 StoppedBefore seed sets (suc i) c = (before : ℕ) × (a : ℕ) × (b : ℕ) × (d : ℕ) × (StoppedBefore seed sets i before)

@@ -5,7 +5,7 @@ use Rattle.std.specs.Prelude.{ℕ, ◌+◌, ◌-◌, ◌*◌, ◌/◌, ◌%◌, 
 abbrev pub next_state : ℕ → ℕ
 next_state s = (6364136223846793005 * s + 1442695040888963407) % 2 ^ 64
 
--- Which number is drawn at a state? The next state but for its low 33 bits.
+-- The number that is drawn at a state: the next state without its low 33 bits.
 abbrev pub drawn : ℕ → ℕ
 drawn s = next_state s / 2 ^ 33
 

@@ -1,4 +1,4 @@
--- The task sets of a study, as functions of the generator's state and of the step, which says how great loads are.
+-- The task sets of a study, as functions of the generator's state and of the step. A greater step makes greater loads.
 use Rattle.std.specs.Prelude.{ℕ, zero, suc, ◌+◌, ◌*◌, ◌/◌, ◌%◌, ◌==◌, Bool, nat_lt, if◌then◌else◌, List, [], ◌∷◌, ◌++◌}
 use Rattle.std.specs.Prelude.{take, drop, codes, decimal, slice_index, Some}
 use Rattle.std.specs.List.{filter, flat_map, position_or_len}
@@ -14,11 +14,11 @@ abbrev pub resources : List ResourceDef
 resources = record { name = codes "r1"; home = Some 1 } ∷ record { name = codes "r2"; home = Some 2 }
     ∷ record { name = codes "r3"; home = Some 3 } ∷ []
 
--- Has a task an entry for the resource whose draws begin at this state? One in four.
+-- Has a task an entry for the resource whose draws begin at this state? One in four has.
 abbrev pub is_asked : ℕ → Bool
 is_asked s = picked s 0 3 == 0
 
--- The entry for a resource of this name: a count and a length in ticks are drawn where there is one.
+-- The entry for a resource of this name, if there is one: a count, and a length in ticks.
 abbrev pub entry_at : List ℕ → ℕ → List RequestDef
 entry_at name s = if is_asked s
     then record {
@@ -28,7 +28,7 @@ entry_at name s = if is_asked s
     } ∷ []
     else []
 
--- The state behind the draws of a resource.
+-- The state after the draws of a resource.
 abbrev pub behind_entry : ℕ → ℕ
 behind_entry s = if is_asked s then next_state (next_state (next_state s)) else next_state s
 
@@ -55,11 +55,11 @@ task_drawn step j s = record {
   requests = entries_at (next_state (next_state s));
 }
 
--- The state behind the draws of a task.
+-- The state after the draws of a task.
 abbrev pub behind_task : ℕ → ℕ
 behind_task s = behind_entry (behind_entry (behind_entry (next_state (next_state s))))
 
--- The state behind the draws of the first j tasks of a set.
+-- The state after the draws of the first j tasks of a set.
 abbrev pub behind_tasks : ℕ → ℕ → ℕ
 behind_tasks s zero = s
 behind_tasks s (suc j) = behind_task (behind_tasks s j)
@@ -69,11 +69,11 @@ abbrev pub tasks_drawn : ℕ → ℕ → ℕ → List TaskDef
 tasks_drawn step s zero = []
 tasks_drawn step s (suc j) = tasks_drawn step s j ++ task_drawn step j (behind_tasks s j) ∷ []
 
--- Tasks in the order of their periods. Tasks of one period stay in their order.
+-- Tasks in the order of their periods. Tasks of one period keep their order.
 abbrev pub in_period_order : List TaskDef → List TaskDef
 in_period_order tasks = flat_map (λ p. filter (λ t. t.period == p) tasks) periods
 
--- Tasks with one more, before the first of a longer period.
+-- Tasks with one more, which is put before the first of a longer period.
 abbrev pub with_task_in_place : List TaskDef → TaskDef → List TaskDef
 with_task_in_place tasks t =
     take (position_or_len (λ x. nat_lt t.period x.period) tasks) tasks ++ t
@@ -83,6 +83,6 @@ with_task_in_place tasks t =
 abbrev pub set_made : ℕ → ℕ → SetDef
 set_made step s = record { processors = 4; resources = resources; tasks = in_period_order (tasks_drawn step s 8) }
 
--- The state behind it.
+-- The state after that set.
 abbrev pub behind_set : ℕ → ℕ
 behind_set s = behind_tasks s 8

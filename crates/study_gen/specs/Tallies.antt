@@ -10,7 +10,7 @@ use Rattle.study_gen.specs.declared.counting.Outcome.TheVariants as outcome
 use Rattle.study_gen.specs.declared.counting.Tally.{Tally}
 use Rattle.study_gen.specs.declared.counting.StepTally.{StepTally}
 
--- Does the analysis of the set under the protocol end so?
+-- Does the analysis of the set under the protocol end in this way?
 abbrev pub IsOutcome : Outcome → Protocol → SetDef → Type 0
 IsOutcome outcome.Shown p set = IsShown p set × (IsStopped p set → ⊥)
 IsOutcome outcome.NotShown p set = (IsShown p set → ⊥) × (IsStopped p set → ⊥)
@@ -26,7 +26,7 @@ tally_with t outcome.Stopped = record { shown = t.shown; stopped = t.stopped + 1
 abbrev pub Adds : Tally → Tally → Protocol → SetDef → Type 0
 Adds before after p set = (o : Outcome) × (IsOutcome o p set) × (after ≡ tally_with before o)
 
--- Have the tallies of a step grown by this set, and has the state gone on behind it?
+-- Have the tallies of a step grown by this set, and is the state now the one after it?
 pub record AddsSet (before after : StepTally) (set : SetDef) : Type 0 where
   pub mpcp : Adds before.mpcp after.mpcp protocol.Mpcp set
   pub fmlp : Adds before.fmlp after.fmlp protocol.FmlpPlus set
@@ -40,7 +40,7 @@ pub record IsTally (p : Protocol) (step s n : ℕ) (t : Tally) : Type 0 where
   pub shown_most : t.shown ≤ n
   pub stopped_most : t.stopped ≤ n
 
--- And are these the tallies of all three, and the state behind the sets?
+-- Are these the tallies of all three protocols, and the state after the sets?
 pub record IsStepTally (step s n : ℕ) (t : StepTally) : Type 0 where
   pub mpcp : IsTally protocol.Mpcp step s n t.mpcp
   pub fmlp : IsTally protocol.FmlpPlus step s n t.fmlp

@@ -20,9 +20,9 @@ const STEPS: u32 = 8;
 /// What a study has counted.
 #[derive(Debug, Drop)]
 pub struct StudyCounts {
-    /// For each step how many of its sets are schedulable under MPCP, FMLP+ and DPCP.
+    /// For each step: how many of its sets are schedulable under MPCP, FMLP+ and DPCP.
     pub counts: Vec<[u64; 3]>,
-    /// How many analyses stopped, at a program that is too wide or for want of units.
+    /// How many analyses stopped, since a program was too wide or the units ran out.
     pub stopped: u64,
 }
 
@@ -34,14 +34,14 @@ pub enum Outcome {
     Stopped,
 }
 
-/// How many analyses under one protocol ended so.
+/// How many analyses under one protocol ended in each way.
 #[derive(Clone, Copy, Debug)]
 pub struct Tally {
     pub shown: u64,
     pub stopped: u64,
 }
 
-/// What the sets of a step gave, and the state behind them.
+/// The counts of the sets of a step, and the state after them.
 #[derive(Clone, Copy, Debug)]
 pub struct StepTally {
     pub mpcp: Tally,
@@ -93,7 +93,7 @@ fn with_outcome(tally: Tally, outcome: Outcome) -> Tally
     }
 }
 
-/// Takes an analysis of the set into the tally of its protocol.
+/// Analyses the set, and adds the outcome to the tally of the protocol.
 fn tally_set<R: Threads + Sync>(
     rt: &R,
     alloc: Global,
@@ -110,7 +110,7 @@ fn tally_set<R: Threads + Sync>(
     Ok(with_outcome(tally, outcome))
 }
 
-/// The set of parts that are accepted. So they are refused for want of memory alone.
+/// The set of parts that are accepted. So it fails only for want of memory.
 fn set_of(alloc: Global, parts: Parts) -> Result<TaskSet, AllocError>
     requires { IsAccepted (parts_seen parts) }
     ensures { IfOk result (λ set. set ≡ parts_seen parts) }
@@ -146,7 +146,7 @@ fn study_set<R: Threads + Sync>(
     })
 }
 
-/// Makes and analyses the sets of a step, which begin at this state.
+/// Makes and analyses the sets of a step, from this state on.
 fn study_step<R: Threads + Sync>(
     rt: &R,
     alloc: Global,
@@ -170,10 +170,10 @@ fn study_step<R: Threads + Sync>(
     Ok(tally)
 }
 
-/// Counts for steps 1 to 8 how many of so many generated sets are schedulable under each protocol.
+/// Counts, for steps 1 to 8, how many of this many generated sets are schedulable under each protocol.
 ///
-/// `sets` is from 1 to 1000. The sets of all steps are made one after another from the seed on, and each is analysed under
-/// MPCP, FMLP+ and DPCP with 1,000,000 units.
+/// `sets` is from 1 to 1000. The sets of all steps are made one after another, beginning with the seed. Each is analysed under MPCP, FMLP+
+/// and DPCP with 1,000,000 units.
 pub fn study<R: Threads + Sync>(
     rt: &R,
     alloc: Global,

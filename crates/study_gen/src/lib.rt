@@ -1,4 +1,4 @@
-//! Task sets that are made from a number, and a study over them: how many are schedulable under each protocol.
+//! Task sets that are generated from a number, and a study of them: how many are schedulable under each protocol?
 //!
 //! The same number gives the same sets and the same counts on every machine.
 #![tactic(auto)]

@@ -40,7 +40,7 @@ fn make_resources(alloc: Global) -> Result<Vec<ResourcePart>, AllocError>
     Ok(list)
 }
 
-/// Draws whether a task has an entry for the resource of this name, and which.
+/// Draws whether a task has an entry for the resource of this name, and the entry.
 fn draw_entry(
     alloc: Global,
     generator: &mut Generator,
@@ -120,7 +120,7 @@ fn first_longer(tasks: &[TaskPart], period: u64) -> Option<usize>
     tasks.iter().position(|t| t.period > period)
 }
 
-/// The place of the first task of a longer period, or the end.
+/// The position of the first task of a longer period, or the end.
 fn place_of(tasks: &[TaskPart], period: u64) -> usize
     ensures value { result ≡ position_or_len (λ t. nat_lt period t.period) (map task_seen tasks.now) }
     ensures within { result ≤ length tasks.now }
@@ -128,7 +128,7 @@ fn place_of(tasks: &[TaskPart], period: u64) -> usize
     first_longer(tasks, period).unwrap_or(tasks.len())
 }
 
-/// Takes a task in before the first of a longer period.
+/// Puts the task before the first one of a longer period.
 fn put_in_place(tasks: &mut Vec<TaskPart>, task: TaskPart) -> Result<(), AllocError>
     ensures { OnOk result (map task_seen tasks.new.items ≡ with_task_in_place (map task_seen tasks.old.items) (task_seen task)) }
 {
@@ -137,11 +137,11 @@ fn put_in_place(tasks: &mut Vec<TaskPart>, task: TaskPart) -> Result<(), AllocEr
     Ok(())
 }
 
-/// Makes the parts of a set of this step, from 1 to 8, with numbers that are drawn from the generator's state on, and gives the
-/// state behind them.
+/// Makes the parts of a set of this step, from 1 to 8. The numbers are drawn from the generator's state on. Answers the state after them
+/// too.
 ///
-/// The set has eight tasks on four processors, in the order of their periods, and three resources with homes. A task's load is
-/// from 25 to 75 thousandths for each number of the step; a task in four requests a resource, once or twice, for 1 to 100 ticks.
+/// The set has eight tasks on four processors, in the order of their periods, and three resources with homes. A task's load is from 25 to
+/// 75 thousandths, times the step. One task in four requests a resource, once or twice, for 1 to 100 ticks.
 /// [`sporadic_model::TaskSet::new`] accepts every such set.
 pub fn make_set(alloc: Global, state: u64, step: u32) -> Result<(Parts, u64), AllocError>
     requires from { 1 ≤ step }

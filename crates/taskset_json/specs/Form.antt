@@ -21,7 +21,7 @@ must name of = record { name = name; kind = of; required = true }
 abbrev pub may : List ℕ → Kind → MemberDef
 may name of = record { name = name; kind = of; required = false }
 
--- The members of the set, of a resource, of a task and of a task's request entry. No other may be given.
+-- The members of the set, of a resource, of a task and of a task's request entry. There may be no others.
 abbrev pub set_form : List MemberDef
 set_form =
     must (codes "processors") kind.Whole
@@ -61,7 +61,7 @@ is_of_kind kind.Whole d = is_some (whole d)
 is_of_kind kind.List d = is_some (as_array d)
 is_of_kind kind.Object d = is_some (as_object d)
 
--- Does the value give the member as it must be: of its kind, or not at all where it may be absent?
+-- Has the value the member as it must be: of its kind, or missing, if it may be absent?
 abbrev pub gives : Data → MemberDef → Bool
 gives d m = option_map_or (is_of_kind m.kind) (get m.name d) (not m.required)
 
@@ -69,17 +69,16 @@ gives d m = option_map_or (is_of_kind m.kind) (get m.name d) (not m.required)
 abbrev pub is_listed : List MemberDef → List ℕ → Bool
 is_listed form name = list_any (λ m. bytes_eq m.name name) form
 
--- Is the value an object of the form: with no other members, and each as it must be?
+-- Is the value an object of the form: is each of its members one of the form, and is each as it must be?
 abbrev pub is_object_of : List MemberDef → Data → Bool
 is_object_of form d = option_map_or (λ ms. list_all (is_listed form) (names_of ms)) (as_object d) false && list_all (gives d) form
 
--- Has the value the form of a task: is it an object of a task's members, and is each of its request entries one of an
--- entry's?
+-- Has the value the form of a task: is it an object of a task's form, and is each of its request entries one of an entry's form?
 abbrev pub has_task_form : Data → Bool
 has_task_form d = is_object_of task_form d && list_all (is_object_of request_form) (list_at (codes "requests") d)
 
--- Has the value the form of a task set: is it an object of a set's members, is each of its resources one of a
--- resource's, and has each of its tasks the form of a task?
+-- Has the value the form of a task set? It is an object of a set's form, each of its resources is one of a resource's form, and each of its
+-- tasks has the form of a task.
 abbrev pub has_set_form : Data → Bool
 has_set_form d =
     is_object_of set_form d

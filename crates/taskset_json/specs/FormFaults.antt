@@ -1,4 +1,4 @@
--- At which place does a value break the form of a task set first?
+-- At which place does a value first break the form of a task set?
 use Rattle.std.specs.Prelude.{ℕ, ◌+◌, not, Bool, List, [], ◌∷◌, ◌++◌, map, codes, Option, option_map, find}
 use Rattle.std.specs.List.{flat_map}
 use Rattle.serde_json.specs.Data.{Data}
@@ -24,7 +24,7 @@ resource_object (q, d) = record { place = place.Resource q; form = resource_form
 abbrev pub request_object : ℕ → ℕ × Data → ObjectDef
 request_object x (j, d) = record { place = place.Request x j; form = request_form; value = d }
 
--- A task, followed at once by its request entries.
+-- A task, and after it its request entries.
 abbrev pub task_objects : ℕ × Data → List ObjectDef
 task_objects (x, d) =
     record { place = place.Task x; form = task_form; value = d }
@@ -37,14 +37,14 @@ objects_in_order d =
     ∷ (map resource_object (counted_from 0 (list_at (codes "resources") d))
     ++ flat_map task_objects (counted_from 0 (list_at (codes "tasks") d)))
 
--- Has the object another form than it must have?
+-- Has the object not the form that it must have?
 abbrev pub is_misshapen : ObjectDef → Bool
 is_misshapen o = not (is_object_of o.form o.value)
 
--- The place of the first object of another form.
+-- The place of the first object that hasn't its form.
 abbrev pub first_of : List ObjectDef → Option Place
 first_of objects = option_map (λ o. o.place) (find is_misshapen objects)
 
--- Where does the value break the form first?
+-- Where does the value first break the form?
 abbrev pub first_misshapen : Data → Option Place
 first_misshapen d = first_of (objects_in_order d)

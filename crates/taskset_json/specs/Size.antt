@@ -1,4 +1,4 @@
--- How many values are in a value, itself among them. It bounds the length of each list in it.
+-- How many values does a value contain, itself included? It bounds the length of each list in it.
 use Rattle.std.specs.Prelude.{ℕ, suc, ◌+◌, List, [], ◌∷◌}
 use Rattle.serde_json.specs.Data.{Data, null, boolean, number, string, array, object, Items, no_items, item, Members, no_members, member}
 

@@ -1,6 +1,6 @@
--- The task set that a value of the form writes. An absent deadline is the period, an absent local limit
--- the cost, an absent jitter 0; absent requests and resources are none. A number that the form asks for is
--- there, so the 0 that would stand for it is not used.
+-- The task set of a value of the form. If there is no deadline, it is the period. If there is no local limit, it is the cost. If there is
+-- no jitter, it is 0. If requests or resources are missing, there are none. All numbers that the form requires are there, so the 0 for a
+-- missing number is never used.
 use Rattle.std.specs.Prelude.{ℕ, map, codes}
 use Rattle.serde_json.specs.Data.{Data}
 use Rattle.sporadic_model.specs.SetDef.{RequestDef, TaskDef, ResourceDef, SetDef}

@@ -16,7 +16,7 @@ use serde_json::{Map, Value};
 pub enum Kind {
     /// A string.
     Text,
-    /// A number that `as_u64` answers.
+    /// A whole number below 2^64, one that `as_u64` gives.
     Whole,
     /// An array.
     List,
@@ -68,7 +68,7 @@ fn is_of_kind(value: &Value, kind: Kind) -> bool
     }
 }
 
-/// Does the value give the member as it must be?
+/// Has the value the member as it must be?
 fn gives(value: &Value, member: &Member) -> bool
     ensures { result ≡ gives (view value.now) (member_seen member.now) }
 {
@@ -78,7 +78,7 @@ fn gives(value: &Value, member: &Member) -> bool
     }
 }
 
-/// Does the value give each member as it must be?
+/// Has the value each member as it must be?
 fn gives_all(value: &Value, form: &[Member]) -> bool
     ensures { result ≡ list_all (λ m. gives (view value.now) (member_seen m)) form.now }
 {
@@ -98,7 +98,7 @@ fn lists_all(form: &[Member], members: &Map<String, Value>) -> bool
     members.keys().all(|name| is_listed(form, name.as_str()))
 }
 
-/// Is the value an object with no members but those of the form?
+/// Is the value an object whose members are all of the form?
 fn has_listed_only(value: &Value, form: &[Member]) -> bool
     ensures { result ≡ option_map_or (λ ms. list_all (is_listed (map member_seen form.now)) (names_of ms))
         (as_object (view value.now)) false }
@@ -108,14 +108,14 @@ fn has_listed_only(value: &Value, form: &[Member]) -> bool
         .is_some_and(|members| lists_all(form, members))
 }
 
-/// Is the value an object of the form: with no other members, and each as it must be?
+/// Is the value an object of the form: is each of its members one of the form, and is each as it must be?
 pub fn is_object_of(value: &Value, form: &[Member]) -> bool
     ensures { result ≡ is_object_of (map member_seen form.now) (view value.now) }
 {
     has_listed_only(value, form) && gives_all(value, form)
 }
 
-/// Is the value a set, as far as its own members go?
+/// Is the value a set, as far as its own members say?
 pub(crate) fn is_set(value: &Value) -> bool
     ensures { result ≡ is_object_of set_form (view value.now) }
 {
@@ -127,7 +127,7 @@ pub(crate) fn is_set(value: &Value) -> bool
     is_object_of(value, &form)
 }
 
-/// Is the value a resource, as far as its own members go?
+/// Is the value a resource, as far as its own members say?
 pub(crate) fn is_resource(value: &Value) -> bool
     ensures { result ≡ is_object_of resource_form (view value.now) }
 {
@@ -135,7 +135,7 @@ pub(crate) fn is_resource(value: &Value) -> bool
     is_object_of(value, &form)
 }
 
-/// Is the value a task, as far as its own members go?
+/// Is the value a task, as far as its own members say?
 pub(crate) fn is_task(value: &Value) -> bool
     ensures { result ≡ is_object_of task_form (view value.now) }
 {
@@ -152,7 +152,7 @@ pub(crate) fn is_task(value: &Value) -> bool
     is_object_of(value, &form)
 }
 
-/// Is the value a request entry, as far as its own members go?
+/// Is the value a request entry, as far as its own members say?
 pub(crate) fn is_request(value: &Value) -> bool
     ensures { result ≡ is_object_of request_form (view value.now) }
 {

@@ -5,7 +5,7 @@ ghost use Rattle.serde_json.specs.Data.{Data};
 ghost use Rattle.taskset_json.specs.Form.{has_set_form};
 ghost use Rattle.taskset_json.specs.FormFaults.{first_misshapen};
 
-/// A value has the form of a task set exactly where there is no place at which it breaks it.
+/// A value has the form of a task set exactly if no place breaks it.
 pub fn form_faults_are_exact()
     ensures { (d : Data) → (first_misshapen d ≡ None) ↔ (has_set_form d ≡ true) }
 {}

@@ -19,8 +19,8 @@ fn first_homeless(set: &TaskSet) -> Option<ResourceId>
     None
 }
 
-/// Has each resource the home that the protocol asks for? Only DPCP asks for homes. Takes no memory, and
-/// refuses as [`SetRefusal::NoHome`] alone, with the first resource that has none.
+/// Has each resource the home that the protocol asks for? Only DPCP asks for homes. The only refusal is [`SetRefusal::NoHome`], with the
+/// first resource that has none. It takes no memory.
 pub fn home_check(set: &TaskSet, protocol: Protocol) -> Result<(), SetRefusal>
     ensures homes { JudgesHomes result set.now protocol }
     ensures suits { OnOk result (HasHomesFor protocol set.now) }

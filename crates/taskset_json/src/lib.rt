@@ -1,5 +1,5 @@
-//! Task sets in JSON: reading one with the place of what is wrong in it, and the homes that a protocol
-//! asks for. Which members an object must have, and what stands at them, serves the readers of other texts too.
+//! Task sets in JSON: reads one, and says where something is wrong in it. And the homes that a protocol asks for. Readers of other texts
+//! use the tests of members too.
 #![tactic(auto)]
 
 mod form;

@@ -5,21 +5,21 @@ ghost use Rattle.taskset_json.specs.Members.{whole_at, whole_or, text_at, list_a
 
 use serde_json::Value;
 
-/// The whole number at the member, where there is one.
+/// The whole number of the member, if there is one.
 pub fn whole_at(value: &Value, name: &str) -> Option<u64>
     ensures { result ≡ whole_at name.now (view value.now) }
 {
     value.get(name).and_then(Value::as_u64)
 }
 
-/// The whole number at the member, or `other` where there is none.
+/// The whole number of the member, or `other` if there is none.
 pub(crate) fn whole_or(value: &Value, name: &str, other: u64) -> u64
     ensures { result ≡ whole_or other name.now (view value.now) }
 {
     whole_at(value, name).unwrap_or(other)
 }
 
-/// The text at the member; empty where there is none.
+/// The text of the member, empty if there is none.
 pub fn text_at<'a>(value: &'a Value, name: &str) -> &'a str
     ensures { result.now ≡ text_at name.now (view value.now) }
 {
@@ -32,7 +32,7 @@ fn list_member<'a>(value: &'a Value, name: &str) -> Option<&'a Vec<Value>>
     value.get(name).and_then(Value::as_array)
 }
 
-/// The values of the list at the member; none where there is no list.
+/// The values of the member's list, or none if there is no list.
 pub fn list_at<'a>(value: &'a Value, name: &str) -> &'a [Value]
     ensures { map view result.now ≡ list_at name.now (view value.now) }
 {

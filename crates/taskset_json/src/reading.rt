@@ -12,7 +12,7 @@ use serde_json::Value;
 use sporadic_model::{ModelRefusal, Place, TaskSet};
 use std::alloc::Global;
 
-/// The first place at which the value breaks the form of a task set; none where it has the form.
+/// The first place at which the value breaks the form of a task set; none if it has the form.
 fn fault_of(value: &Value) -> Option<Place>
     requires { size (view value.now) < 2 ^ 32 }
     ensures place { result ≡ first_fault (view value.now) }
@@ -36,11 +36,12 @@ fn set_of(alloc: Global, value: &Value) -> Result<TaskSet, SetRefusal>
     }
 }
 
-/// Reads a task set from fewer than 2^31 bytes of JSON, or says what is wrong first: the bytes
-/// are no JSON text ([`SetRefusal::NotJson`]); an object does not have the members that it must have
-/// ([`SetRefusal::Shape`], with the first such place over the whole value); the set that the value
-/// writes is not accepted ([`SetRefusal::Model`], as `TaskSet::new` answers). Never answers
-/// [`SetRefusal::NoHome`].
+/// Reads a task set from fewer than 2^31 bytes of JSON, or says what is wrong first.
+///
+/// - [`SetRefusal::NotJson`]: the bytes are no JSON text.
+/// - [`SetRefusal::Shape`]: an object hasn't the members that it must have. It names the first such place over the whole value.
+/// - [`SetRefusal::Model`]: the set of the value is not accepted. It has the answer of `TaskSet::new`.
+/// - [`SetRefusal::NoHome`] never comes.
 pub fn read(alloc: Global, bytes: &[u8]) -> Result<TaskSet, SetRefusal>
     requires { length bytes.now < 2 ^ 31 }
     ensures { Reads result bytes.now }

@@ -7,15 +7,15 @@ use thiserror::Error;
 /// Why bytes are not read as a task set, or a set does not suit a protocol.
 #[derive(Clone, Copy, Debug, PartialEq, Eq, Error)]
 pub enum SetRefusal {
-    /// The bytes are no JSON text that `serde_json` reads: not UTF-8, not of JSON's grammar, nested
-    /// deeper than 127 levels, or with a number past the range of a float.
+    /// The bytes are no JSON text that `serde_json` reads: they are not UTF-8, break JSON's grammar, are nested deeper than 127 levels, or
+    /// have a number beyond the range of a float.
     #[error("the set is no JSON text")]
     NotJson,
-    /// The value at the place is not an object, lacks a member, or has one that is not of the form. The
-    /// set is tried first, then each resource, then each task, followed at once by its requests.
+    /// The value at the place is not an object, lacks a member, or has one that is not of the form. The set is tried first, then each
+    /// resource, then each task with its requests.
     #[error("an object of the set does not have the members that it must have")]
     Shape(Place),
-    /// The value is of the form, and the task set that it writes is not accepted.
+    /// The value has the form, but its task set is not accepted.
     #[error("the task set is not accepted")]
     Model(ModelRefusal),
     /// The protocol asks for the home of each resource, and this one has none.

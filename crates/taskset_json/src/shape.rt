@@ -56,8 +56,7 @@ fn first_task(tasks: &[Value]) -> Option<Place>
     None
 }
 
-/// The place of the first object of another form: the set is tried first, then each resource, then each
-/// task, followed at once by each of its requests.
+/// The place of the first object that hasn't its form. The set is tried first, then each resource, then each task with its requests.
 pub(crate) fn first_misshapen(value: &Value) -> Option<Place>
     requires { size (view value.now) < 2 ^ 32 }
     ensures { result ≡ first_misshapen (view value.now) }

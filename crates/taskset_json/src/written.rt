@@ -47,7 +47,7 @@ fn resources_of(alloc: Global, values: &[Value]) -> Result<Vec<ResourcePart>, Al
     Ok(resources)
 }
 
-/// An absent deadline is the period, an absent local limit the cost, and an absent jitter 0.
+/// If there is no deadline, it is the period. If there is no local limit, it is the cost. If there is no jitter, it is 0.
 fn task_of(alloc: Global, value: &Value) -> Result<TaskPart, AllocError>
     ensures { IfOk result (λ t. task_seen t ≡ task_written (view value.now)) }
 {
@@ -75,8 +75,8 @@ fn tasks_of(alloc: Global, values: &[Value]) -> Result<Vec<TaskPart>, AllocError
     Ok(tasks)
 }
 
-/// The parts of the task set that a value of the form writes. A number that the form asks for is there,
-/// so that 0 stands for none.
+/// The parts of the task set of a value of the form. All numbers that the form requires are there, so the 0 for a missing number is never
+/// used.
 pub(crate) fn parts_of(alloc: Global, value: &Value) -> Result<Parts, AllocError>
     ensures { IfOk result (λ p. parts_seen p ≡ set_written (view value.now)) }
 {

@@ -5,7 +5,7 @@ use std::test::Fail;
 use trace_csv::read_jobs;
 use worked_sets::files::{PAIR, set_from};
 
-/// Two tasks on one processor, of which the higher is released up to 4 ticks after it arrives.
+/// Two tasks on one processor. The higher is released up to 4 ticks after it arrives.
 const JITTER: &str = r#"{"processors":1,"tasks":[
 {"name":"t1","processor":1,"period":10,"cost":2,"jitter":4},
 {"name":"t2","processor":1,"period":20,"cost":5}]}
@@ -35,7 +35,7 @@ fn described(alloc: Global, jobs: &JobList) -> Result<String, AllocError> {
     Ok(text)
 }
 
-/// A text of a set, the header and the lines of its jobs, and the jobs that are wanted.
+/// A text of a set, the header and the lines of its jobs, and the jobs that are expected.
 type Case = (&'static str, &'static str, &'static str, &'static str);
 
 const CASES: &[Case] = &[

@@ -89,7 +89,7 @@ const FOR_DPCP: &str =
 const GREATEST: &str =
     "{\"bounds\":[18446744073709551615,0],\"duals\":[{\"den\":9223372036854775807,\"num\":[9223372036854775807]},{\"den\":1,\"num\":[]}],\"protocol\":\"mpcp\",\"set\":\"abababababababababababababababababababababababababababababababab\",\"verdict\":\"schedulable\",\"version\":2}\n";
 
-/// A text, the protocol that is asked for, and what is written of it.
+/// A text, the protocol that is asked for, and the text that its certificate gives.
 const READ: &[(&str, &str, &str)] = &[
     (OF_TWO, "fmlp+", OF_TWO),
     (OF_TWO_SPACED, "fmlp+", OF_TWO),

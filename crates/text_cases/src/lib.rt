@@ -1,4 +1,4 @@
-//! Worked texts of sets, certificates and schedules as they are read and written.
+//! Worked texts of sets, certificates and schedules, as they are read and written.
 #![tactic(auto)]
 
 #[cfg(test)]

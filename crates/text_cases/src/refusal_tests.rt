@@ -7,7 +7,7 @@ use std::test::Fail;
 /// The digest of no set.
 const DIGEST: [u8; 32] = [0xab; 32];
 
-/// One step: the first of two tasks that share a resource comes to 5 ticks.
+/// One step: the response time of the first of two tasks that share a resource is 5 ticks.
 const OF_ONE: &str =
     "{\"protocol\":\"mpcp\",\"set\":\"abababababababababababababababababababababababababababababababab\",\"steps\":[{\"point\":{\"den\":1,\"num\":[1]},\"task\":1,\"value\":5}],\"verdict\":\"notshown\",\"version\":1}\n";
 
@@ -65,7 +65,7 @@ const OF_NONE: &str =
 const GREATEST: &str =
     "{\"protocol\":\"spin\",\"set\":\"abababababababababababababababababababababababababababababababab\",\"steps\":[{\"point\":{\"den\":9223372036854775807,\"num\":[9223372036854775807,0]},\"task\":18446744073709551615,\"value\":0},{\"point\":{\"den\":1,\"num\":[]},\"task\":0,\"value\":18446744073709551615}],\"verdict\":\"notshown\",\"version\":1}\n";
 
-/// A text, the protocol that is asked for, and what is written of it.
+/// A text, the protocol that is asked for, and the text that its refusal gives.
 const READ: &[(&str, &str, &str)] = &[
     (OF_ONE, "mpcp", OF_ONE),
     (OF_ONE_SPACED, "mpcp", OF_ONE),

@@ -6,7 +6,7 @@ use std::test::Fail;
 use trace_csv::{RowsRefusal, read_jobs, read_rows, write_rows};
 use worked_sets::files::{PAIR, PAIR_JOBS, PAIR_LOWER_FIRST, set_from};
 
-/// Where the rows fit the jobs: their text.
+/// The text of the rows, if they fit the jobs.
 fn written(alloc: Global, jobs: &JobList, rows: &RowList) -> Option<Result<Vec<u8>, AllocError>> {
     if !rows.fits(jobs) {
         return None;
@@ -45,7 +45,7 @@ fn reads_jobs_and_rows_and_writes_the_same_rows(rt: HostRuntime) -> Result<(), F
     Ok(())
 }
 
-/// What follows the header of a file of rows, and the number of ticks or the refusal that is wanted.
+/// The text after the header of a file of rows, and the number of ticks or the refusal that is expected.
 type RowsCase = (&'static str, Result<u64, RowsRefusal>);
 
 const ROWS_CASES: &[RowsCase] = &[

@@ -44,7 +44,7 @@ fn described_task(text: &mut String, set: &TaskSet, x: TaskId) -> Result<(), All
     Ok(())
 }
 
-/// Each member, in any order. The task `t2` has those alone that it must have.
+/// Each member, in any order. The task `t2` has only those that it must have.
 const MEMBERS: &str = r#"
     {"resources": [{"name": "q", "home": 2}, {"name": "r"}], "processors": 2, "tasks": [
         {"name": "t1", "processor": 1, "period": 10, "deadline": 9, "cost": 5, "local": 3, "jitter": 2,

@@ -1,4 +1,4 @@
--- Numbers in text: decimal digits without a sign, and without a leading zero but in `0` itself.
+-- Numbers in text: decimal digits without a sign, and without a leading zero, except for `0` itself.
 use Rattle.std.specs.Prelude.{ℕ, ◌+◌, ◌-◌, ◌*◌, ◌==◌, ◌&&◌, ◌||◌, not, Bool, List, [], ◌∷◌, length, slice_index, Option}
 use Rattle.std.specs.Prelude.{None, Some, if◌then◌else◌}
 use Rattle.std.specs.List.{list_all}
@@ -13,7 +13,7 @@ zero_digit = 48
 abbrev pub is_digit : ℕ → Bool
 is_digit b = is_in_range zero_digit 57 b
 
--- The number that digits write when they follow those of n.
+-- The number of these digits after the digits of n.
 abbrev pub value_after : ℕ → List ℕ → ℕ
 value_after n [] = n
 value_after n (d ∷ ds) = value_after (n * 10 + (d - zero_digit)) ds
@@ -22,11 +22,11 @@ value_after n (d ∷ ds) = value_after (n * 10 + (d - zero_digit)) ds
 abbrev pub is_number : List ℕ → Bool
 is_number text = not (length text == 0) && (list_all is_digit text && (not (slice_index text 0 == zero_digit) || (length text == 1)))
 
--- The number that the text writes, if it writes one.
+-- The number of the text, if it is one.
 abbrev pub number_in : List ℕ → Option ℕ
 number_in text = if is_number text then Some (value_after 0 text) else None
 
--- The number that the text writes, if it is in the range.
+-- The number of the text, if it is one in the range.
 abbrev pub if_in_range : ℕ → ℕ → ℕ → Option ℕ
 if_in_range least most n = if is_in_range least most n then Some n else None
 

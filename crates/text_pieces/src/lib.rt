@@ -1,5 +1,5 @@
-//! Pieces of texts: numbers in decimal digits, written and read, and columns of a fixed width.
-//! Each call that writes adds its piece at the end of a text. The one error is want of memory, and it leaves the text as it was.
+//! Pieces of texts: numbers in decimal digits, written and read, and columns of a fixed width. Each call that writes adds its piece at the
+//! end of a text. It fails only for want of memory, and then leaves the text as it was.
 #![tactic(auto)]
 
 ghost use Rattle.std.specs.Prelude.{◌≡◌, ◌++◌, decimal, replicate, OnOk, OnErr};
@@ -20,7 +20,7 @@ pub fn push_number(text: &mut Vec<u8>, n: u64) -> Result<(), AllocError>
     text.extend_from_slice(buffer.format(n).as_bytes())
 }
 
-/// Adds so many spaces.
+/// Adds this many spaces.
 fn push_spaces(text: &mut Vec<u8>, count: usize) -> Result<(), AllocError>
     ensures adds { OnOk result (text.new.items ≡ text.old.items ++ replicate count space) }
     ensures kept { OnErr result (text.new.items ≡ text.old.items) }
@@ -38,7 +38,7 @@ fn push_spaces(text: &mut Vec<u8>, count: usize) -> Result<(), AllocError>
     Ok(())
 }
 
-/// Adds a piece on the left of so many places.
+/// Adds a piece on the left of this many places.
 pub fn push_left(text: &mut Vec<u8>, width: usize, piece: &[u8]) -> Result<(), AllocError>
     ensures adds { OnOk result (text.new.items ≡ text.old.items ++ left width piece.now) }
     ensures kept { OnErr result (text.new.items ≡ text.old.items) }
@@ -54,7 +54,7 @@ pub fn push_left(text: &mut Vec<u8>, width: usize, piece: &[u8]) -> Result<(), A
     }
 }
 
-/// Adds a piece on the right of so many places.
+/// Adds a piece on the right of this many places.
 pub fn push_right(text: &mut Vec<u8>, width: usize, piece: &[u8]) -> Result<(), AllocError>
     ensures adds { OnOk result (text.new.items ≡ text.old.items ++ right width piece.now) }
     ensures kept { OnErr result (text.new.items ≡ text.old.items) }
@@ -70,7 +70,7 @@ pub fn push_right(text: &mut Vec<u8>, width: usize, piece: &[u8]) -> Result<(), 
     }
 }
 
-/// Adds a number in decimal digits on the right of so many places.
+/// Adds a number in decimal digits on the right of this many places.
 pub fn push_right_number(text: &mut Vec<u8>, width: usize, n: u64) -> Result<(), AllocError>
     ensures adds { OnOk result (text.new.items ≡ text.old.items ++ right width (decimal n)) }
     ensures kept { OnErr result (text.new.items ≡ text.old.items) }

@@ -8,14 +8,14 @@ fn are_digits(text: &[u8]) -> bool
     text.iter().all(|byte| *byte >= b'0' && *byte <= b'9')
 }
 
-/// Is the text decimal digits without a sign, and without a leading zero but in `0` itself?
+/// Is the text a number: decimal digits without a sign, and without a leading zero, except for `0` itself?
 pub fn is_number(text: &[u8]) -> bool
     ensures { result ≡ is_number text.now }
 {
     !text.is_empty() && are_digits(text) && (text[0] != b'0' || text.len() == 1)
 }
 
-/// The number that digits write, or the greatest `u128` where it is greater.
+/// The number of the digits, or the greatest `u128` if it is greater.
 fn value_of(digits: &[u8]) -> u128
     requires { IsTrue (list_all is_digit digits.now) }
     ensures { result ≡ min (value_after 0 digits.now) (2 ^ 128 - 1) }
@@ -29,7 +29,7 @@ fn value_of(digits: &[u8]) -> u128
     value
 }
 
-/// The number that the text writes, if it is in the range.
+/// The number of the text, if it is a number in the range.
 pub fn number_between(text: &[u8], least: u64, most: u64) -> Option<u64>
     ensures { result ≡ number_between least most text.now }
 {

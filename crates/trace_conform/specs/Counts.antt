@@ -15,22 +15,22 @@ no_count = record { blocked = 0; end = 0 }
 abbrev pub count_at : List JobCount → ℕ → JobCount
 count_at counts j = slice_index_or counts j no_count
 
--- The count of a job after n ticks from tick t on, at each of which it is active, and blocked at all of them or at none.
+-- The count of a job after n ticks from tick t on. The job is active at each of them, and blocked at all of them or at none.
 abbrev pub counted_on : Bool → ℕ → ℕ → JobCount → JobCount
 counted_on blocked t n c = record { blocked = c.blocked + only_if blocked n; end = t + n }
 
--- Are n ticks from tick t on counted for job j as the first of them is, from this count to that: if the job is active there, and
--- not if it isn't?
+-- Are the n ticks from tick t on counted for job j like the first of them, from the one count to the other? They are counted if the job is
+-- active there, and not if it isn't.
 pub record CountsTicks (interferes : Trace → ℕ → ℕ → Bool) (w : Trace) (t n j : ℕ) (before after : JobCount) : Type 0 where
   pub active : is_active w t j ≡ true → after ≡ counted_on (is_blocked interferes w t j) t n before
   pub other : is_active w t j ≡ false → after ≡ before
 
--- Are they counted so for each job?
+-- Is this so for each job?
 pub record AddsTicks (interferes : Trace → ℕ → ℕ → Bool) (w : Trace) (t n : ℕ) (before after : List JobCount) : Type 0 where
   pub size : length after ≡ length before
   pub each : (j : ℕ) → CountsTicks interferes w t n j (count_at before j) (count_at after j)
 
--- Do the counts say of n rows at how many ticks each job was blocked, and when it finished, if it did?
+-- Are these the counts of n rows: at how many ticks each job was blocked, and when it finished, if it did?
 pub record AreCounts (interferes : Trace → ℕ → ℕ → Bool) (w : Trace) (n : ℕ) (counts : List JobCount) : Type 0 where
   pub size : length counts ≡ length w.jobs
   pub blocked : (j : ℕ) → j < length w.jobs → (count_at counts j).blocked ≡ blocking_of interferes w n j

@@ -1,4 +1,4 @@
--- The measures of a task, by the counts of its jobs and by what the machine says of them at the end.
+-- The measures of a task, from the counts of its jobs and from the machine at the end.
 use Rattle.std.specs.Prelude.{ℕ, ◌-◌, ◌==◌, ◌&&◌, Bool, List, length, None, Some, if◌then◌else◌}
 use Rattle.number_laws.specs.Sums.{only_if}
 use Rattle.number_laws.specs.Tests.{count_below}
@@ -14,11 +14,11 @@ use Rattle.trace_conform.specs.Counts.{count_at}
 unfoldable pub counts_now : MachineDef → ℕ → ℕ → Bool
 counts_now m x j = (task_in m.list.jobs j == x) && is_finished (phase_now m j)
 
--- The response of job j, where it counts for task x; 0 where it doesn't.
+-- The response of job j, if it is of task x and finished, and else 0.
 unfoldable pub response_now : MachineDef → List JobCount → ℕ → ℕ → ℕ
 response_now m counts x j = only_if (counts_now m x j) ((count_at counts j).end - (job_of m.list.jobs j).release)
 
--- The blocking of job j, where it is of task x; 0 where it isn't.
+-- The blocking of job j, if it is of task x, and else 0.
 unfoldable pub blocking_now : MachineDef → List JobCount → ℕ → ℕ → ℕ
 blocking_now m counts x j = only_if (task_in m.list.jobs j == x) (count_at counts j).blocked
 

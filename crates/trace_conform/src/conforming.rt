@@ -18,8 +18,8 @@ use sporadic_model::Protocol;
 use std::alloc::Global;
 use trace_walk::walk;
 
-/// Judges each row that is read by the protocol's rules and measures each task: Ok exactly where every row keeps all five
-/// rules; else the first row that breaks one. At first the reader stands at the first run.
+/// Judges each row by the protocol's rules, and measures each task. It is Ok exactly if every row keeps all five rules. Else it names the
+/// first row that breaks one. You give a reader at the first run.
 pub fn conform_rows_with<P: Judge, R: RowReader>(
     alloc: Global,
     protocol: &P,
@@ -37,7 +37,7 @@ pub fn conform_rows_with<P: Judge, R: RowReader>(
     Ok(measures_of(alloc, &machine, &counts)?)
 }
 
-/// The same of a list of rows.
+/// The same for a list of rows.
 pub fn conform_with<P: Judge>(
     alloc: Global,
     protocol: &P,
@@ -72,7 +72,7 @@ pub fn conform_rows<R: RowReader>(
     }
 }
 
-/// The same of a list of rows.
+/// The same for a list of rows, by the protocol's name.
 pub fn conform(
     alloc: Global,
     protocol: Protocol,

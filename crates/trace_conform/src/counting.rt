@@ -6,7 +6,7 @@ use schedule_model::RowReader;
 use std::alloc::AllocError;
 use trace_walk::Keeper;
 
-/// Keeps, of a schedule that is walked, how long each job was blocked, and when it was active last.
+/// A keeper of how long each job of a schedule was blocked, and when it was last active.
 #[derive(Clone, Copy, Debug)]
 pub struct JobCounter;
 

@@ -2,10 +2,8 @@ ghost use Rattle.std.specs.Prelude.{◌≡◌, ℕ, ◌+◌, ◌<◌, ◌≤◌,
 ghost use Rattle.sporadic_model.specs.declared.limits.TheConstants.{MOST_TICKS};
 ghost use Rattle.schedule_model.specs.RowDef.{Trace, row_in};
 ghost use Rattle.schedule_model.specs.BlockedTicks.{is_blocked};
-ghost use Rattle.schedule_model.specs.Keeping.{KeepsRow};
 ghost use Rattle.phase_machine.specs.MachineDef.{under};
-ghost use Rattle.phase_machine.specs.Shows.{Shows};
-ghost use Rattle.trace_walk.specs.Runs.{IsAtRun};
+ghost use Rattle.trace_walk.specs.LawfulRow.{IsAtLawfulRow};
 ghost use Rattle.trace_conform.specs.Counts.{count_at, counted_on, AddsTicks, AreCounts};
 
 use phase_machine::{Judge, Machine};
@@ -18,11 +16,11 @@ use std::alloc::{AllocError, Global};
 pub struct JobCount {
     /// The ticks so far at which it was blocked.
     pub blocked: u64,
-    /// The tick after the last one so far at which it was active; 0 before the first.
+    /// The tick after the last one so far at which it was active, and 0 before the first.
     pub end: u64,
 }
 
-/// The counts of so many jobs before the first row: nothing is counted yet.
+/// The counts of this many jobs before the first row: nothing is counted yet.
 pub fn no_counts(alloc: Global, jobs: u32) -> Result<Vec<JobCount>, AllocError>
     ensures { IfOk result (λ v. (interferes : Trace → ℕ → ℕ → Bool) (w : Trace) → length w.jobs ≡ jobs → AreCounts interferes w 0 v.items) }
 {
@@ -33,9 +31,9 @@ pub fn no_counts(alloc: Global, jobs: u32) -> Result<Vec<JobCount>, AllocError>
     Ok(counts)
 }
 
-/// The count of an active job after so many ticks from the one on that the machine stands at, in a row that keeps the rules; it
-/// is blocked at each of them or at none.
-fn counted<P: Judge, R: RowReader>(
+/// The count of an active job after this many ticks from the machine's tick on, in a row that keeps the rules. The job is blocked at each
+/// of them, or at none.
+fn count_on<P: Judge, R: RowReader>(
     protocol: &P,
     rows: &R,
     machine: &Machine,
@@ -44,9 +42,7 @@ fn counted<P: Judge, R: RowReader>(
     count: JobCount,
 ) -> JobCount
     requires suits { P.suits protocol.now machine.now.list.set }
-    requires at { IsAtRun (R.rows rows.now) (R.at rows.now) machine.now }
-    requires shows { Shows machine.now (row_in (R.rows rows.now).runs) }
-    requires keeps { KeepsRow (P.keeps protocol.now) (under machine.now (row_in (R.rows rows.now).runs)) machine.now.tick }
+    requires row { IsAtLawfulRow (P.keeps protocol.now) (R.rows rows.now) (R.at rows.now) machine.now }
     requires listed { j.0 < length machine.now.list.jobs }
     requires room { count.blocked + ticks ≤ MOST_TICKS }
     ensures { result ≡ counted_on
@@ -76,9 +72,7 @@ fn count_job<P: Judge, R: RowReader>(
     counts: &mut [JobCount],
 )
     requires suits { P.suits protocol.now machine.now.list.set }
-    requires at { IsAtRun (R.rows rows.now) (R.at rows.now) machine.now }
-    requires shows { Shows machine.now (row_in (R.rows rows.now).runs) }
-    requires keeps { KeepsRow (P.keeps protocol.now) (under machine.now (row_in (R.rows rows.now).runs)) machine.now.tick }
+    requires row { IsAtLawfulRow (P.keeps protocol.now) (R.rows rows.now) (R.at rows.now) machine.now }
     requires listed { j.0 < length machine.now.list.jobs }
     requires size { length counts.old ≡ length machine.now.list.jobs }
     requires room { (count_at counts.old j.0).blocked + ticks ≤ MOST_TICKS }
@@ -88,7 +82,7 @@ fn count_job<P: Judge, R: RowReader>(
         (count_at counts.old j.0) }
     ensures others { (k : ℕ) → (k ≡ j.0 → ⊥) → count_at counts.new k ≡ count_at counts.old k }
 {
-    counts[j.0 as usize] = counted(protocol, rows, machine, ticks, j, counts[j.0 as usize]);
+    counts[j.0 as usize] = count_on(protocol, rows, machine, ticks, j, counts[j.0 as usize]);
 }
 
 /// How many tasks are there?
@@ -98,8 +92,7 @@ pub(crate) fn tasks_of(machine: &Machine) -> u32
     machine.jobs().set().tasks()
 }
 
-/// Counts so many ticks as the one that the machine stands at, in a row that keeps the rules: one job of each task is active, or
-/// none.
+/// Counts this many ticks like the one at the machine's position, in a row that keeps the rules. At most one job of each task is active.
 pub(crate) fn count_ticks<P: Judge, R: RowReader>(
     protocol: &P,
     rows: &R,
@@ -108,9 +101,7 @@ pub(crate) fn count_ticks<P: Judge, R: RowReader>(
     counts: &mut [JobCount],
 )
     requires suits { P.suits protocol.now machine.now.list.set }
-    requires at { IsAtRun (R.rows rows.now) (R.at rows.now) machine.now }
-    requires shows { Shows machine.now (row_in (R.rows rows.now).runs) }
-    requires keeps { KeepsRow (P.keeps protocol.now) (under machine.now (row_in (R.rows rows.now).runs)) machine.now.tick }
+    requires row { IsAtLawfulRow (P.keeps protocol.now) (R.rows rows.now) (R.at rows.now) machine.now }
     requires size { length counts.old ≡ length machine.now.list.jobs }
     requires room { (j : ℕ) → j < length machine.now.list.jobs → (count_at counts.old j).blocked + ticks ≤ MOST_TICKS }
     ensures { AddsTicks (P.interferes protocol.now) (under machine.now (row_in (R.rows rows.now).runs)) machine.now.tick ticks

@@ -22,7 +22,7 @@ fn is_finished_job(machine: &Machine, x: TaskId, j: JobId) -> bool
     machine.jobs().job(j).task == x && machine.phase(j) == Phase::Finished
 }
 
-/// How long the job took, if it is a finished one of the task; else 0.
+/// How long the job took, if it is of the task and finished, and else 0.
 #[tactic(auto, unfolding(crate::specs::Measured::response_now))]
 fn response_for(machine: &Machine, counts: &[JobCount], x: TaskId, j: JobId) -> u64
     requires listed { j.0 < length machine.now.list.jobs }
@@ -37,7 +37,7 @@ fn response_for(machine: &Machine, counts: &[JobCount], x: TaskId, j: JobId) -> 
     0
 }
 
-/// At how many ticks the job was blocked, if it is one of the task; else 0.
+/// At how many ticks the job was blocked, if it is of the task, and else 0.
 #[tactic(auto, unfolding(crate::specs::Measured::blocking_now))]
 fn blocking_for(machine: &Machine, counts: &[JobCount], x: TaskId, j: JobId) -> u64
     requires listed { j.0 < length machine.now.list.jobs }
@@ -92,7 +92,7 @@ fn measure_all(
     Ok(measures)
 }
 
-/// What a schedule did to each task, by the machine that has taken its rows and the counts of its jobs.
+/// What a schedule did to each task, from the machine that has taken its rows and the counts of its jobs.
 pub fn measures_of(
     alloc: Global,
     machine: &Machine,

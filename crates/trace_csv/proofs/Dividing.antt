@@ -54,7 +54,7 @@ first_passes p xs i e = elim (cases_Bool (nat_lt (position_or_len p xs) (length 
     none_some : None ≡ Some i → ⊥
     none_some e = cc
 
--- Where no byte passes, nothing stands after it.
+-- If no byte passes, nothing comes after it.
 pub none_after : (p : ℕ → Bool) (xs : List ℕ) → list_any p xs ≡ false → after_first p xs ≡ []
 none_after p xs none = elim (found p xs) [
   | inl h ↦ absurd (false≢true (sym none ∙ h.0))

@@ -14,7 +14,7 @@ use Rattle.trace_csv.specs.LinesTaken.{reason_at, IsFirst, LineDone, LinesDone}
 use Rattle.trace_csv.specs.JobAnswers.{LineRead, LineTaken, job_reason, HasJobs}
 use Rattle.trace_csv.specs.JobsFile.{IsFirstRefused, LinesRead}
 
--- What refuses a line for what stands on it refuses it after those in the list.
+-- If a line is refused for what is on it, it is refused for that after the lines in the list too.
 pub refused_as_read : (r : JobsRefusal) (before after : JobsDef) (line : Fields) (k : ℕ) → LineRead (Err r) before.set line k
     → LineTaken {T = Unit {0}} (Err r) before after line k
 refused_as_read (refusal.Fields n) before after line k read = rw read refl

@@ -4,7 +4,7 @@ use Rattle.std.proofs.lemmas.List.{take_more}
 use Rattle.trace_csv.specs.Records.{Fields, line_at}
 use Rattle.trace_csv.specs.LinesTaken.{Reasons, reason_at, IsFirst}
 
--- Why a line is refused that stands at its place.
+-- Why a line is refused at its place.
 pub reason_here : {R : Type 0} (reason : Reasons R) (lines : List Fields) (i : ℕ) (line : Fields) → line_at lines i ≡ line
     → reason_at reason lines i ≡ reason (take i lines) line (i + 1)
 reason_here reason lines i line at = ap (λ (l : Fields). reason (take i lines) l (i + 1)) at

@@ -189,7 +189,7 @@ counts_kept set job within q here =
     let c = and_parts (all_below (length set.resources) counts) lengths b.1 in
     leb-true _ _ (all_below-each (length set.resources) counts c.0 q here)
 
--- A job of so many segments isn't within budget.
+-- A job of this many segments isn't within budget.
 not_within : (set : SetDef) (job : JobDef) → IsAccepted set → job.task < length set.tasks
     → list_all (is_resource_in (length set.resources)) job.script ≡ true
     → list_all (λ s. is_some s.request) (take (length job.script - 1) job.script) ≡ true

@@ -8,7 +8,7 @@ use Rattle.csv.specs.declared.parser.State.{State}
 use Rattle.csv.specs.declared.parser.State.TheVariants as st
 use Rattle.trace_csv.specs.RecordAnswers.{record_next, records_left}
 
--- After the byte that ends a record a reader stands between records.
+-- After the byte that ends a record a reader is between records.
 abbrev EndsBetween : State → ℕ → Type 0
 EndsBetween s c = is_end (step default_config s c).1 ≡ true → ends_at_end (step default_config s c).0 ≡ false
 
@@ -159,7 +159,7 @@ left_more s xs p between e =
 pub left_none : (s : State) (xs : List ℕ) → record_next s xs ≡ None → records_left s xs ≡ []
 left_none s xs e = turns s xs ∙ from_none (length xs) s xs e
 
--- Behind a record a reader stands between records.
+-- After a record a reader is between records.
 pub left_between : (s : State) (xs : List ℕ) (p : Read) → record_next s xs ≡ Some p → ends_at_end p.1 ≡ false
 left_between s xs p e = (takes s [] [] xs p e).between
 

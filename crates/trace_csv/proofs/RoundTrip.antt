@@ -42,7 +42,7 @@ text_back (row ∷ rows) =
     left_more st.StartRecord (text_of (row ∷ rows)) (read_back row, st.StartRecord, text_of rows) refl (read-write row (text_of rows))
     ∙ ap (λ (rest : List Fields). read_back row ∷ rest) (text_back rows)
 
--- A line of a run, and the header, are read as they stand.
+-- A line of a run, and the header, are read back as they are.
 lines_back : (runs : List RunDef) → map read_back (map line_of runs) ≡ map line_of runs
 lines_back [] = refl
 lines_back (run ∷ runs) = ap (λ (rest : List Fields). line_of run ∷ rest) (lines_back runs)

@@ -70,7 +70,7 @@ is_run jobs ticks cells n size e = record {
   ticks = rw e (in_range 1 MOST_TICKS n (number_in ticks) e);
 }
 
--- No reason stands on such a line.
+-- Such a line isn't refused.
 pub none_due : (jobs : JobsDef) (ticks : List ℕ) (cells : List (List ℕ)) (k n : ℕ)
     → length cells ≡ processor_count jobs + resource_count jobs → ticks_in ticks ≡ Some n
     → list_all is_cell cells ≡ true → list_all (is_listed (job_count jobs)) cells ≡ true → cells_refusal jobs ticks cells k ≡ None

@@ -1,4 +1,4 @@
--- What the calls that read a line of a file of jobs say.
+-- What do the calls that read a line of a file of jobs say?
 use Rattle.std.specs.Prelude.{◌≡◌, ◌<◌, ℕ, Bool, true, List, length, map, None, Some, Result, Ok, Err}
 use Rattle.std.specs.List.{list_all}
 use Rattle.sporadic_model.specs.SetDef.{SetDef}
@@ -18,18 +18,18 @@ pub record IsOfSet (set : SetDef) (job : JobDef) : Type 0 where
   pub task : job.task < length set.tasks
   pub resources : list_all (is_resource_in (length set.resources)) job.script ≡ true
 
--- The line is refused so after whatever jobs are listed.
+-- Is the line refused with this, whatever jobs are listed?
 abbrev pub IsRefusedAfterAny : SetDef → Fields → ℕ → JobsRefusal → Type 0
 IsRefusedAfterAny set line k r = (jobs : List JobDef) → line_refusal (record { set = set; jobs = jobs }) line k ≡ Some r
 
--- The job that the line writes, or why it is refused for its form and names, or for a script that no budget allows.
+-- Either this is the job of the line. Or this is why the line is refused, for its form and names, or for a script that no budget allows.
 abbrev pub LineRead : Result Job JobsRefusal → SetDef → Fields → ℕ → Type 0
 LineRead (Ok job) set line k = (form_refusal set line k ≡ None) × (job_seen job ≡ job_written set line) × IsOfSet set (job_seen job)
 LineRead (Err refusal.Memory) set line k = Unit {0}
 LineRead (Err (refusal.OverBudget n)) set line k = IsRefusedAfterAny set line k (refusal.OverBudget n)
 LineRead (Err r) set line k = form_refusal set line k ≡ Some r
 
--- The job that the line writes stands at the end of the list; or why the line is refused after those before it.
+-- Either the job of the line is at the end of the list. Or this is why the line is refused after those before it.
 abbrev pub LineTaken : {T : Type 0} → Result T JobsRefusal → JobsDef → JobsDef → Fields → ℕ → Type 0
 LineTaken (Ok _) before after line k = (line_refusal before line k ≡ None) × (after ≡ with_job before (job_written before.set line))
 LineTaken (Err refusal.Memory) before after line k = Unit {0}
@@ -40,6 +40,6 @@ abbrev pub job_reason : SetDef → Bool → Reasons JobsRefusal
 job_reason set has_arrivals before line k =
     line_refusal (jobs_written set (map (completed has_arrivals) before)) (completed has_arrivals line) k
 
--- Are these the jobs that the lines write?
+-- Are these the jobs of the lines?
 abbrev pub HasJobs : SetDef → Bool → List Fields → JobsDef → Type 0
 HasJobs set has_arrivals lines jobs = jobs ≡ jobs_written set (map (completed has_arrivals) lines)

@@ -7,7 +7,7 @@ use Rattle.trace_csv.specs.declared.refusal.JobsRefusal.TheVariants as refusal
 use Rattle.trace_csv.specs.Records.{Fields, line_at, records_in}
 use Rattle.trace_csv.specs.JobLines.{completed, jobs_written, refusal_at}
 
--- The header of a file of jobs that are released as they arrive, and the one of a file that names arrivals too.
+-- The header of a file of jobs that arrive when they are released. And the header of a file with arrivals.
 abbrev pub jobs_header : Fields
 jobs_header = codes "task" ∷ codes "release" ∷ codes "script" ∷ []
 
@@ -18,11 +18,11 @@ arrivals_header = codes "task" ∷ codes "arrival" ∷ codes "release" ∷ codes
 abbrev pub HasJobsHeader : List Fields → Type 0
 HasJobsHeader records = (slice_get records 0 ≡ Some jobs_header) ⊎ (slice_get records 0 ≡ Some arrivals_header)
 
--- Does the header, which is one of the two, name arrivals? It has four fields then, and else three.
+-- Does the header, which is one of the two, name arrivals? Then it has four fields, and else three.
 abbrev pub has_arrivals : List Fields → Bool
 has_arrivals records = length (line_at records 0) == 4
 
--- The lines after the header, each with its four fields where it is well formed.
+-- The lines after the header. Each has its four fields if it is well formed.
 abbrev pub job_lines : List Fields → List Fields
 job_lines records = map (completed (has_arrivals records)) (drop 1 records)
 
@@ -41,15 +41,15 @@ pub record IsFirstRefused (set : SetDef) (lines : List Fields) (i : ℕ) (r : Jo
   pub earlier : (j : ℕ) → j < i → refusal_at set lines j ≡ None
   pub here : refusal_at set lines i ≡ Some r
 
--- What the answer says of the text's lines after the header: the jobs that they write, none of which is
--- refused, or the first line that is. Only want of memory says nothing of them.
+-- What the answer says of the text's lines after the header. Either none is refused, and these are their jobs. Or this is the first line
+-- that is refused. Only want of memory says nothing of them.
 abbrev pub LinesRead : Result JobsDef JobsRefusal → SetDef → List Fields → Type 0
 LinesRead (Ok list) set lines = ((i : ℕ) → i < length lines → refusal_at set lines i ≡ None) × (list ≡ jobs_written set lines)
 LinesRead (Err refusal.Memory) set lines = Unit {0}
 LinesRead (Err r) set lines = (i : ℕ) × IsFirstRefused set lines i r
 
--- What the answer of reading says of the records: they are those of a file of jobs, and these are the jobs
--- that they write; or the header is missing; or what is said of the lines.
+-- What the answer of reading says of the records. They are those of a file of jobs, and these are its jobs. Or the header is missing. Or it
+-- is what is said of the lines.
 abbrev pub RecordsRead : Result JobsDef JobsRefusal → SetDef → List Fields → Type 0
 RecordsRead (Ok list) set records = AreJobsRecords set records × (list ≡ jobs_written set (job_lines records))
 RecordsRead (Err refusal.Memory) set records = Unit {0}
@@ -57,7 +57,7 @@ RecordsRead (Err r) set records =
     ((r ≡ refusal.Fields 0) × (HasJobsHeader records → ⊥))
     ⊎ (HasJobsHeader records × ((i : ℕ) × IsFirstRefused set (job_lines records) i r))
 
--- What it says of the text: the same of its records.
+-- What it says of the text: the same as of its records.
 abbrev pub JobsRead : Result JobsDef JobsRefusal → SetDef → List ℕ → Type 0
 JobsRead answer set bytes = RecordsRead answer set (records_in bytes)
 

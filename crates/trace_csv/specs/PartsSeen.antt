@@ -13,7 +13,7 @@ request_seen r = record { resource = r.resource.now; ticks = r.ticks }
 abbrev pub part_seen : Part → PartDef
 part_seen p = record { local = p.local; request = option_map request_seen p.request }
 
--- The text has no such byte; or the two are what stands before the first one and after it.
+-- Either the text has no such byte. Or the two are the texts before the first one and after it.
 abbrev pub Divides : Option (Bor (List ℕ) × Bor (List ℕ)) → List ℕ → ℕ → Type 0
 Divides None text byte = list_any (λ b. b == byte) text ≡ false
 Divides (Some p) text byte =
@@ -25,7 +25,7 @@ abbrev pub tokens_left : Option (List ℕ) → List (List ℕ)
 tokens_left None = []
 tokens_left (Some text) = tokens_in text
 
--- How much is left?
+-- How many bytes are left?
 abbrev pub size_left : Option (List ℕ) → ℕ
 size_left None = 0
 size_left (Some text) = length text + 1
@@ -38,7 +38,7 @@ pub record IsFirstToken (p : Bor (List ℕ) × Option (Bor (List ℕ))) (text : 
   pub tokens : tokens_in text ≡ p.0.now ∷ tokens_left (rest_seen p.1)
   pub smaller : size_left (rest_seen p.1) < length text + 1
 
--- The text is no script; or it is one exactly where the rest is one, with this part in front.
+-- Either the text is no script. Or it is one exactly if the rest is one, and its first part is this.
 abbrev pub IsFirstPart : Option (Part × Option (Bor (List ℕ))) → List ℕ → Type 0
 IsFirstPart None text = script_in text ≡ None
 IsFirstPart (Some p) text = (script_in text ≡ with_front (part_seen p.0 ∷ []) (parts_of (tokens_left (rest_seen p.1))))

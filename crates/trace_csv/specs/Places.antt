@@ -1,4 +1,4 @@
--- Where a reader stands in a text, and what a byte does, in the words of `csv`: its states and its actions.
+-- Where a reader is in a text, and what a byte does, in the terms of `csv`: its states and its actions.
 use Rattle.csv.specs.declared.parser.State.{State}
 use Rattle.csv.specs.declared.parser.State.TheVariants as st
 use Rattle.csv.specs.declared.parser.Action.{Action}

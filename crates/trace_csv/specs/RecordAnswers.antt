@@ -1,4 +1,4 @@
--- What the calls that read records say.
+-- What do the calls that read records say?
 use Rattle.std.specs.Prelude.{◌≡◌, ◌<◌, ◌≤◌, ◌+◌, ℕ, List, [], ◌∷◌, length, drop, Option, None, Some, Result, Ok, Err}
 use Rattle.std.specs.declared.alloc.AllocError.{AllocError}
 use Rattle.csv.specs.Machine.{Read, next_record}
@@ -12,7 +12,7 @@ use Rattle.trace_csv.specs.declared.records.Next.TheVariants as next
 use Rattle.trace_csv.specs.Places.{place_seen}
 use Rattle.trace_csv.specs.Records.{Fields, fields_seen}
 
--- The record that `csv` reads next in a text, from a state that stands between records.
+-- The record that `csv` reads next in a text, from a state between records.
 abbrev pub record_next : State → List ℕ → Option Read
 record_next s text = next_record default_config s [] [] text
 
@@ -20,7 +20,7 @@ record_next s text = next_record default_config s [] [] text
 abbrev pub records_left : State → List ℕ → List Fields
 records_left s text = records_from default_config (length text + 1) s text
 
--- The next record, with the place and the bytes behind it; or it has more fields than the most; or there is none.
+-- Either the next record, with the place and the bytes after it. Or it has more fields than the most. Or there is none.
 abbrev pub PieceRead : Result Piece AllocError → ReaderPlace → List ℕ → ℕ → Type 0
 PieceRead (Ok (piece.Record fields place taken)) from text most =
     (taken ≤ length text) × (record_next (place_seen from) text ≡ Some (fields_seen fields.items, place_seen place, drop taken text))
@@ -29,8 +29,8 @@ PieceRead (Ok piece.Long) from text most =
 PieceRead (Ok piece.End) from text most = record_next (place_seen from) text ≡ None
 PieceRead (Err _) from text most = Unit {0}
 
--- The first of the records that were left, and those that are left now; or the first has more fields than the most; or
--- none was left, nor is any now.
+-- Either the first of the records that were left, and those that are left now. Or the first has more fields than the most. Or none was
+-- left, and none is now.
 abbrev pub IsNext : Result Next AllocError → List Fields → List Fields → ℕ → Type 0
 IsNext (Ok (next.Record fields)) before after most = before ≡ fields_seen fields.items ∷ after
 IsNext (Ok next.Long) before after most = (line : Fields) × (more : List Fields) × (before ≡ line ∷ more) × (most < length line)

@@ -8,8 +8,8 @@ use Rattle.csv.specs.Reading.{default_config, records, strip_bom}
 abbrev pub Fields : Type 0
 Fields = List (List ℕ)
 
--- The records of a text, as `csv` reads it: commas between fields, double quotes around them, nothing
--- trimmed. A blank line is no record.
+-- The records of a text, as `csv` reads it: with commas between fields and double quotes around them, and nothing trimmed. A blank line is
+-- no record.
 abbrev pub records_in : List ℕ → List Fields
 records_in bytes = records default_config (strip_bom bytes)
 
@@ -17,6 +17,6 @@ records_in bytes = records default_config (strip_bom bytes)
 abbrev pub line_at : List Fields → ℕ → Fields
 line_at lines i = slice_index_or lines i []
 
--- The record whose fields these are.
+-- The record with these fields.
 abbrev pub fields_seen : List (Vec ℕ Global) → Fields
 fields_seen fields = map (λ field. field.items) fields

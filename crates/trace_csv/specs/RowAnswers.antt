@@ -1,4 +1,4 @@
--- What the calls that read a line of a file of rows say.
+-- What do the calls that read a line of a file of rows say?
 use Rattle.std.specs.Prelude.{◌≡◌, ◌≤◌, ◌+◌, ◌++◌, ℕ, true, List, [], ◌∷◌, None, Some, Result, Ok, Err}
 use Rattle.std.specs.Int.{is_in_range}
 use Rattle.sporadic_model.specs.declared.limits.TheConstants.{MOST_TICKS}
@@ -17,14 +17,14 @@ use Rattle.trace_csv.specs.RowLines.{job_count, processor_count, resource_count}
 use Rattle.trace_csv.specs.LinesTaken.{Reasons}
 use Rattle.trace_csv.specs.RowsFile.{HasRowsHeader, rows_header, rows_with}
 
--- Is it a run for the jobs: has its row one place per processor and per resource of their set, does it name
--- jobs of the list alone, and does it last from 1 to 10^9 ticks?
+-- Is it a run for the jobs? Its row has one place for each processor and each resource of their set, and names only jobs of the list. It
+-- lasts from 1 to 10^9 ticks.
 pub record IsRunOf (jobs : JobsDef) (run : RunDef) : Type 0 where
   pub sized : is_sized (processor_count jobs) (resource_count jobs) run.row ≡ true
   pub named : names_jobs (job_count jobs) run.row ≡ true
   pub ticks : is_in_range 1 MOST_TICKS run.ticks ≡ true
 
--- The run that the line writes, or why it is refused for what stands on it.
+-- Either this is the run of the line. Or this is why the line is refused for what is on it.
 abbrev pub CellsRead : Result RowRun RowsRefusal → JobsDef → List ℕ → List (List ℕ) → ℕ → Type 0
 CellsRead (Ok run) jobs ticks cells k =
     (cells_refusal jobs ticks cells k ≡ None) × (run_seen run ≡ run_written jobs (ticks ∷ cells)) × IsRunOf jobs (run_seen run)
@@ -41,14 +41,14 @@ LineRead (Err r) jobs line k = form_refusal jobs line k ≡ Some r
 abbrev pub IsMade : RowsDef → JobsDef → Type 0
 IsMade rows jobs = rows ≡ rows_with jobs rows.runs
 
--- What a refusal by the list of rows is for the line of this number.
+-- The refusal of the line of this number, for a refusal by the list of rows.
 abbrev pub at_line : ℕ → RowRefusal → RowsRefusal
 at_line k push.Number = refusal.Number k
 at_line k push.UnknownJob = refusal.UnknownJob k
 at_line k push.TooLong = refusal.TooLong k
 at_line k push.Memory = refusal.Memory
 
--- The run that the line writes stands at the end of the list; or why the line is refused after those before it.
+-- Either the run of the line is at the end of the list. Or this is why the line is refused after those before it.
 abbrev pub LineTaken : {T : Type 0} → Result T RowsRefusal → JobsDef → RowsDef → RowsDef → Fields → ℕ → Type 0
 LineTaken (Ok _) jobs before after line k =
     (line_refusal jobs before.runs line k ≡ None)
@@ -56,7 +56,7 @@ LineTaken (Ok _) jobs before after line k =
 LineTaken (Err refusal.Memory) jobs before after line k = Unit {0}
 LineTaken (Err r) jobs before after line k = line_refusal jobs before.runs line k ≡ Some r
 
--- The same where the ticks of the lines before it are counted, and those of the line with them.
+-- The same if only ticks are counted: those of the lines before it, and then those of the line too.
 abbrev pub LineCounted : {T : Type 0} → Result T RowsRefusal → JobsDef → List RunDef → ℕ → Fields → ℕ → Type 0
 LineCounted (Ok _) jobs before ticks line k =
     (line_refusal jobs before line k ≡ None) × IsRunOf jobs (run_written jobs line)
@@ -68,16 +68,16 @@ LineCounted (Err r) jobs before ticks line k = line_refusal jobs before line k �
 abbrev pub row_reason : JobsDef → Reasons RowsRefusal
 row_reason jobs before line k = line_refusal jobs (runs_written jobs before) line k
 
--- Are these the rows that the lines write?
+-- Are these the rows of the lines?
 abbrev pub HasRows : JobsDef → List Fields → RowsDef → Type 0
 HasRows jobs lines rows = rows ≡ rows_with jobs (runs_written jobs lines)
 
--- Are the rows that the lines write a list of rows, and do they have so many ticks?
+-- Are the rows of the lines a list of rows, and do they have this many ticks?
 pub record HasTicks (jobs : JobsDef) (lines : List Fields) (ticks : ℕ) : Type 0 where
   pub listed : IsRowList (rows_with jobs (runs_written jobs lines))
   pub counted : ticks ≡ ticks_of (runs_written jobs lines)
 
--- The records begin with the header, and these stand behind it; or it is missing.
+-- Either the records begin with the header, and these come after it. Or it is missing.
 abbrev pub HeaderTaken : {T : Type 0} → Result T RowsRefusal → JobsDef → List Fields → List Fields → Type 0
 HeaderTaken (Ok _) jobs before after = before ≡ rows_header jobs.set ∷ after
 HeaderTaken (Err refusal.Memory) jobs before after = Unit {0}

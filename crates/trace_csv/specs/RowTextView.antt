@@ -1,4 +1,4 @@
--- What a contract sees of a text of rows: the rows that it writes.
+-- What a contract sees of a text of rows: its rows.
 use Rattle.std.specs.Prelude.{◌≡◌}
 use Rattle.schedule_model.specs.RowDef.{ticks_of}
 use Rattle.schedule_model.specs.Fitting.{RowsDef, IsRowList}

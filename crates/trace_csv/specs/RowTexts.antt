@@ -1,4 +1,4 @@
--- What a text of rows and its reader say.
+-- What do a text of rows and its reader say?
 use Rattle.std.specs.Prelude.{◌≡◌, ◌≤◌, ℕ, List, length, drop, option_map, slice_get, Option, Some, Result, Ok, Err}
 use Rattle.std.specs.declared.vec.Vec.{Vec}
 use Rattle.std.specs.Global.{Global}
@@ -12,16 +12,16 @@ use Rattle.trace_csv.specs.Records.{Fields, fields_seen}
 use Rattle.trace_csv.specs.RowLines.{run_written}
 use Rattle.trace_csv.specs.RowsFile.{IsRowsFile, RowsRead, runs_in, rows_with}
 
--- The rows that a text writes for the jobs.
+-- The rows of a text for the jobs.
 abbrev pub rows_in : JobsDef → List ℕ → RowsDef
 rows_in jobs bytes = rows_with jobs (runs_in jobs bytes)
 
--- What a contract sees of a reader: its rows, and the number of the run that it stands at.
+-- What a contract sees of a reader: its rows, and the number of its run.
 pub record ReaderDef : Type 0 where
   pub rows : RowsDef
   pub at : ℕ
 
--- The text is a file of rows, which are a list of rows and have so many ticks; or why it is refused.
+-- Either the text is a file of rows, which are a list of rows and have this many ticks. Or this is why it is refused.
 abbrev pub TextJudged : Result ℕ RowsRefusal → JobsDef → List ℕ → Type 0
 TextJudged (Ok ticks) jobs bytes =
     IsRowsFile jobs bytes × IsRowList (rows_in jobs bytes) × (ticks ≡ ticks_of (runs_in jobs bytes))
@@ -31,12 +31,12 @@ TextJudged (Err r) jobs bytes = RowsRead (Err r) jobs bytes
 abbrev pub IsNextShort : List Fields → ℕ → Type 0
 IsNextShort lines most = (line : Fields) → slice_get lines 0 ≡ Some line → length line ≤ most
 
--- The fields of the next line, if there is one, and the lines behind it.
+-- The fields of the next line, if there is one, and the lines after it.
 abbrev pub IsNextLine : Option (Vec (Vec ℕ Global) Global) → List Fields → List Fields → Type 0
 IsNextLine found before after =
     (option_map (λ fields. fields_seen fields.items) found ≡ slice_get before 0) × (after ≡ drop 1 before)
 
--- The run that it writes.
+-- The run of that line.
 abbrev pub IsNextRun : Option RowRun → JobsDef → List Fields → List Fields → Type 0
 IsNextRun found jobs before after =
     (option_map run_seen found ≡ option_map (run_written jobs) (slice_get before 0)) × (after ≡ drop 1 before)

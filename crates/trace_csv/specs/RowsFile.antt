@@ -27,13 +27,12 @@ rows_header set = codes "ticks" ∷ (processor_fields set.processors ++ resource
 abbrev pub HasRowsHeader : SetDef → List Fields → Type 0
 HasRowsHeader set records = slice_get records 0 ≡ Some (rows_header set)
 
--- The records of a file of rows of the jobs: the header, and lines of which none is refused after those
--- before it.
+-- The records of a file of rows of the jobs: the header, and lines of which none is refused after those before it.
 pub record AreRowsRecords (jobs : JobsDef) (records : List Fields) : Type 0 where
   pub header : HasRowsHeader jobs.set records
   pub lines : (i : ℕ) → i < length (drop 1 records) → refusal_at jobs (drop 1 records) i ≡ None
 
--- Is the text a file of rows of the jobs, and which runs do its lines write?
+-- Is the text a file of rows of the jobs? And which runs are those of its lines?
 abbrev pub IsRowsFile : JobsDef → List ℕ → Type 0
 IsRowsFile jobs bytes = AreRowsRecords jobs (records_in bytes)
 
@@ -46,21 +45,21 @@ pub record IsFirstRefused (jobs : JobsDef) (lines : List Fields) (i : ℕ) (r : 
   pub earlier : (j : ℕ) → j < i → refusal_at jobs lines j ≡ None
   pub here : refusal_at jobs lines i ≡ Some r
 
--- The runs in a list of rows that is made for the jobs.
+-- These runs as a list of rows that is made for the jobs.
 abbrev pub rows_with : JobsDef → List RunDef → RowsDef
 rows_with jobs runs =
     record { processors = jobs.set.processors; resources = length jobs.set.resources; jobs = length jobs.jobs; runs = runs }
 
--- What the answer says of the text's lines after the header: the runs that they write, none of which is
--- refused, or the first line that is. Only want of memory says nothing of them.
+-- What the answer says of the text's lines after the header. Either none is refused, and these are their runs. Or this is the first line
+-- that is refused. Only want of memory says nothing of them.
 abbrev pub LinesRead : Result RowsDef RowsRefusal → JobsDef → List Fields → Type 0
 LinesRead (Ok rows) jobs lines =
     ((i : ℕ) → i < length lines → refusal_at jobs lines i ≡ None) × (rows ≡ rows_with jobs (runs_written jobs lines))
 LinesRead (Err refusal.Memory) jobs lines = Unit {0}
 LinesRead (Err r) jobs lines = (i : ℕ) × IsFirstRefused jobs lines i r
 
--- What the answer of reading says of the records: they are those of a file of rows, and these are the runs
--- that they write; or the header is missing; or what is said of the lines.
+-- What the answer of reading says of the records. They are those of a file of rows, and these are its runs. Or the header is missing. Or it
+-- is what is said of the lines.
 abbrev pub RecordsRead : Result RowsDef RowsRefusal → JobsDef → List Fields → Type 0
 RecordsRead (Ok rows) jobs records = AreRowsRecords jobs records × (rows ≡ rows_with jobs (runs_written jobs (drop 1 records)))
 RecordsRead (Err refusal.Memory) jobs records = Unit {0}
@@ -68,7 +67,7 @@ RecordsRead (Err r) jobs records =
     ((r ≡ refusal.Fields 0) × (HasRowsHeader jobs.set records → ⊥))
     ⊎ (HasRowsHeader jobs.set records × ((i : ℕ) × IsFirstRefused jobs (drop 1 records) i r))
 
--- What it says of the text: the same of its records.
+-- What it says of the text: the same as of its records.
 abbrev pub RowsRead : Result RowsDef RowsRefusal → JobsDef → List ℕ → Type 0
 RowsRead answer jobs bytes = RecordsRead answer jobs (records_in bytes)
 

@@ -1,4 +1,4 @@
--- What the calls that read the segments of a script say.
+-- What do the calls that read the segments of a script say?
 use Rattle.std.specs.Prelude.{◌≡◌, ◌<◌, ℕ, true, false, List, map, length, Option, None, Some, Result, Ok, Err}
 use Rattle.std.specs.List.{list_all}
 use Rattle.std.specs.declared.vec.Vec.{Vec}
@@ -14,21 +14,21 @@ use Rattle.trace_csv.specs.declared.segments.ScriptFault.TheVariants as fault
 use Rattle.trace_csv.specs.Scripts.{PartDef, script_in}
 use Rattle.trace_csv.specs.JobLines.{segment_written, has_known_resource}
 
--- The segment that the part writes; or the part requests no resource of the set.
+-- Either this is the segment of the part. Or the part requests no resource of the set.
 abbrev pub SegmentOf : Option Segment → SetDef → PartDef → Type 0
 SegmentOf None set part = has_known_resource set part ≡ false
 SegmentOf (Some s) set part =
     (has_known_resource set part ≡ true) × (segment_seen s ≡ segment_written set part)
     × (is_resource_in (length set.resources) (segment_seen s) ≡ true)
 
--- The text is no script; or how many parts it has, and whether each requests a resource of the set, if it requests one.
+-- Either the text is no script. Or this says how many parts it has, and whether all resources that they request are of the set.
 abbrev pub IsOutline : Option Outline → SetDef → List ℕ → Type 0
 IsOutline None set text = script_in text ≡ None
 IsOutline (Some o) set text =
     (parts : List PartDef) × (script_in text ≡ Some parts) × (o.segments ≡ length parts)
     × (o.is_known ≡ list_all (has_known_resource set) parts)
 
--- These are the segments that the text writes, which is a script of known resources; or why it isn't.
+-- Either the text is a script of known resources, and these are its segments. Or this is why it isn't one.
 abbrev pub SegmentsRead : Result (Vec Segment Global) ScriptFault → SetDef → List ℕ → Type 0
 SegmentsRead (Ok segments) set text =
     (parts : List PartDef) × (script_in text ≡ Some parts) × (list_all (has_known_resource set) parts ≡ true)
@@ -40,8 +40,8 @@ SegmentsRead (Err fault.UnknownName) set text =
 SegmentsRead (Err fault.TooLong) set text = ⊥
 SegmentsRead (Err fault.Memory) set text = Unit {0}
 
--- The same of a script that is no longer than a budget allows. The text is no script; or it requests what is no resource of
--- the set; or it requests only what is one, and is longer.
+-- The same for a script that is no longer than a budget allows. Or the text is no script. Or it requests a resource that the set doesn't
+-- have. Or it requests only known ones, and is longer.
 abbrev pub ScriptRead : Result (Vec Segment Global) ScriptFault → SetDef → List ℕ → Type 0
 ScriptRead (Err fault.UnknownName) set text =
     (parts : List PartDef) × (script_in text ≡ Some parts) × (list_all (has_known_resource set) parts ≡ false)

@@ -10,7 +10,7 @@ use Rattle.trace_csv.specs.RowTexts.{ReaderDef, rows_in}
 abbrev pub text_rows_view : Inside → ReaderDef
 text_rows_view r = record { rows = rows_in r.jobs.now r.bytes.now; at = r.at }
 
--- The text is a file of rows, the run at hand is the one of that number, if there is one, and the lines behind it are left.
+-- The text is a file of rows. The current run is the one of that number, if there is one, and the lines after it are left.
 pub record IsKept (r : Inside) : Type 0 where
   pub file : IsRowsFile r.jobs.now r.bytes.now
   pub listed : IsRowList (rows_in r.jobs.now r.bytes.now)

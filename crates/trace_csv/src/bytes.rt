@@ -3,24 +3,24 @@ ghost use Rattle.csv.specs.Machine as machine;
 ghost use Rattle.csv.specs.Reading.{default_config};
 ghost use Rattle.trace_csv.specs.Places.{place_seen, effect_seen};
 
-/// Where in a text a reader stands.
+/// Where a reader is in a text.
 #[derive(Clone, Copy, Debug, PartialEq, Eq)]
 pub(crate) enum ReaderPlace {
     /// Between records.
     Between,
-    /// Between records, behind a carriage return.
+    /// Between records, after a carriage return.
     AfterReturn,
     /// Before a field.
     FieldStart,
-    /// In a field, outside quotes.
+    /// In a field, outside of quotes.
     Plain,
     /// In a field, between quotes.
     Quoted,
-    /// Behind a quote in a field between quotes: its last one, or the first of two that stand for one.
+    /// After a quote in a field between quotes. It is the last quote, or the first of two that mean one.
     AfterQuote,
 }
 
-/// What a byte does to the record that is read.
+/// What a byte does to the record that is being read.
 #[derive(Clone, Copy, Debug, PartialEq, Eq)]
 pub(crate) enum Effect {
     Skip,
@@ -29,7 +29,7 @@ pub(crate) enum Effect {
     EndRecord,
 }
 
-/// What a byte does in a field, outside quotes.
+/// What a byte does in a field, outside of quotes.
 fn in_field(byte: u8) -> (ReaderPlace, Effect)
     ensures place { place_seen result.0 ≡ (machine.in_field default_config byte).0 }
     ensures effect { effect_seen result.1 ≡ (machine.in_field default_config byte).1 }
@@ -108,7 +108,7 @@ pub(crate) fn step(place: ReaderPlace, byte: u8) -> (ReaderPlace, Effect)
     }
 }
 
-/// Is a record begun, so that the end of the text ends it?
+/// Has a record begun, so that the end of the text ends it?
 pub(crate) fn is_inside(place: ReaderPlace) -> bool
     ensures { result ≡ machine.ends_at_end (place_seen place) }
 {

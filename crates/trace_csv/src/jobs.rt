@@ -15,10 +15,10 @@ use sporadic_model::{MOST_TICKS, TaskId, TaskSet};
 use std::alloc::Global;
 use text_pieces::number_between;
 
-/// The fields of a line with an arrival: no line has more.
+/// The fields of a line with an arrival. No line has more.
 const MOST_FIELDS: usize = 4;
 
-/// The job that four fields write, or why their line, which has this number, is refused whatever jobs are listed.
+/// The job of a line with these four fields and this number. Or why the line is refused, whatever jobs are listed.
 fn job_of_fields(
     alloc: Global,
     set: &TaskSet,
@@ -49,7 +49,7 @@ fn job_of_fields(
         Err(ScriptFault::Form) => Err(JobsRefusal::Script(line)),
         Err(ScriptFault::UnknownName) => Err(JobsRefusal::UnknownName(line)),
         Err(ScriptFault::TooLong) => {
-            // no set that keeps its limits allows so many requests, so the list would find the same
+            // no set within its limits allows so many requests, so the list would refuse the job too
             set.keeps_the_model();
             Err(JobsRefusal::OverBudget(line))
         }
@@ -57,8 +57,7 @@ fn job_of_fields(
     }
 }
 
-/// The job that the fields of a line with an arrival write, or why the line, which has this number, is
-/// refused for its form and names.
+/// The job of a line with an arrival, which has this number. Or why the line is refused, for its form and names.
 fn job_with_arrival(
     alloc: Global,
     set: &TaskSet,
@@ -75,7 +74,7 @@ fn job_with_arrival(
     }
 }
 
-/// The same of a line without an arrival, whose job is released as it arrives.
+/// The same for a line without an arrival. Its job is released when it arrives.
 fn job_without_arrival(
     alloc: Global,
     set: &TaskSet,
@@ -90,8 +89,7 @@ fn job_without_arrival(
     }
 }
 
-/// The job that a line, with an arrival or without one, writes, or why the line, which has this number, is
-/// refused for its form and names.
+/// The job of a line, with an arrival or without one, which has this number. Or why the line is refused, for its form and names.
 fn job_of(
     alloc: Global,
     set: &TaskSet,
@@ -109,7 +107,7 @@ fn job_of(
     }
 }
 
-/// What a refusal by the list of jobs is for the line of this number.
+/// The refusal of the line of this number, for a refusal by the list of jobs.
 fn refused_at(line: u64, refusal: JobRefusal) -> JobsRefusal
     ensures { result ≡ at_line line refusal }
 {
@@ -123,7 +121,7 @@ fn refused_at(line: u64, refusal: JobRefusal) -> JobsRefusal
     }
 }
 
-/// Takes the job that a line writes into the list, or says why the line, which has this number, is refused.
+/// Takes the job of a line into the list, or says why the line, which has this number, is refused.
 fn take_line(
     jobs: &mut JobList,
     alloc: Global,
@@ -190,7 +188,7 @@ impl<'a> LineTaker<JobLines<'a>> for JobList<'a> {
     }
 }
 
-/// The jobs that lines write, or the first line that is refused, behind which nothing is read.
+/// The jobs of the lines, or the first line that is refused. Nothing after that line is read.
 fn jobs_of<'a>(
     alloc: Global,
     set: &'a TaskSet,
@@ -224,7 +222,7 @@ fn is_arrivals_header(fields: &[&[u8]]) -> bool
     are_same(fields, &header)
 }
 
-/// The jobs that a file's records write, or why it is refused.
+/// The jobs of a file's records, or why it is refused.
 fn jobs_under_header<'a>(
     alloc: Global,
     set: &'a TaskSet,
@@ -244,12 +242,12 @@ fn jobs_under_header<'a>(
     jobs_of(alloc, set, has_arrivals, records)
 }
 
-/// Reads jobs of a task set from CSV: the header `task,arrival,release,script`, and then a line for each job,
-/// with the name of its task, its arrival, its release and its script; or the header `task,release,script`
-/// and lines without the arrival, which is then the release. Both are in ticks, from 0 to 10^9. A line is a
-/// record as `csv` gives it, so that blank lines are none. The answer is the list of the jobs exactly where
-/// the text is a file of either form whose jobs are taken, each after those before it, by [`JobList::push`];
-/// else it names the first line that is refused and the first reason on it, in the order of [`JobsRefusal`].
+/// Reads jobs of a task set from CSV. The header is `task,arrival,release,script`, or `task,release,script`. Then there is a line for each
+/// job: the name of its task, its arrival, its release and its script. Without an arrival the job arrives when it is released. Both are in
+/// ticks, from 0 to 10^9. A line is a record as `csv` gives it, so a blank line doesn't count.
+///
+/// The answer is the list of the jobs exactly if the text is a file of either form, and [`JobList::push`] takes each job after those before
+/// it. Else the answer names the first line that is refused, and the first reason on it, in the order of [`JobsRefusal`].
 pub fn read_jobs<'a>(
     alloc: Global,
     set: &'a TaskSet,

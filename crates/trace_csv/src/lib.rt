@@ -1,4 +1,4 @@
-//! Jobs and rows in CSV: reading them with the number of the first line that is refused, and writing rows.
+//! Jobs and rows in CSV: reads them, or names the first line that is refused, and writes rows.
 #![tactic(auto)]
 
 mod bytes;

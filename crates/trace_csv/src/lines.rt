@@ -23,7 +23,7 @@ pub(crate) trait LineForm {
     fn most_fields(&self) -> usize
         ensures { result ≡ most self.now };
 
-    /// Why a line of this number is refused that has more fields.
+    /// Why a line of this number with more fields is refused.
     fn too_long(&self, line: u64) -> Self::Refusal
         ensures { (before : List Fields) (fields : Fields) → most self.now < length fields → reason self.now before fields line ≡ Some result };
 
@@ -32,12 +32,12 @@ pub(crate) trait LineForm {
         ensures { is_memory self.now result };
 }
 
-/// What takes lines of a form, one after another.
+/// A trait of what takes lines of a form, one after another.
 pub(crate) trait LineTaker<F: LineForm> {
     /// Has it taken these lines?
     ghost has: { F → List Fields → Self → Type 0 };
 
-    /// Takes the line of this number behind those that it has taken, or says why it is refused.
+    /// Takes the line of this number after those that it has taken, or says why it is refused.
     fn take(
         &mut self,
         form: &F,
@@ -50,7 +50,7 @@ pub(crate) trait LineTaker<F: LineForm> {
             → LineDone (F.reason form.now) (F.is_memory form.now) (has form.now) before (fields_seen fields.now) line self.new result };
 }
 
-/// Takes all lines, or up to the first that is refused, behind which nothing is read.
+/// Takes all lines, or those up to the first that is refused. Nothing after that line is read.
 pub(crate) fn take_lines<F: LineForm, T: LineTaker<F>>(
     alloc: Global,
     form: &F,

@@ -10,12 +10,12 @@ use std::alloc::{AllocError, Global};
 use std::marker::Model;
 use std::mem;
 
-/// What a reader finds from its place on.
+/// What a reader finds next, from its place on.
 #[derive(Debug, Drop)]
 enum Piece {
-    /// A record with these fields, which leads to this place, so many bytes further.
+    /// A record with these fields. It leads to this place, this many bytes further.
     Record(Vec<Vec<u8>>, ReaderPlace, usize),
-    /// A record of more fields than were asked for.
+    /// A record of more fields than you asked for.
     Long,
     /// No further record.
     End,
@@ -26,13 +26,13 @@ enum Piece {
 pub(crate) enum Next {
     /// A record with these fields.
     Record(Vec<Vec<u8>>),
-    /// A record of more fields than were asked for.
+    /// A record of more fields than you asked for.
     Long,
     /// No further record.
     End,
 }
 
-/// Does what a byte does to the fields so far and to the field at hand.
+/// Applies a byte to the fields so far and to the current field.
 fn take_byte(
     alloc: Global,
     fields: &mut Vec<Vec<u8>>,
@@ -54,7 +54,7 @@ fn take_byte(
     Ok(())
 }
 
-/// Reads a record from this place on, no further than to the field that is one more than the most.
+/// Reads a record from this place on, at most up to the field that is one more than the most.
 fn read_record(
     alloc: Global,
     text: &[u8],
@@ -91,7 +91,7 @@ fn is_mark(a: u8, b: u8, c: u8) -> bool
     a == 0xEF && b == 0xBB && c == 0xBF
 }
 
-/// The text without the byte order mark that it may begin with.
+/// The text without a byte order mark at its beginning.
 fn without_mark(text: &[u8]) -> &[u8]
     ensures { result.now ≡ strip_bom text.now }
 {
@@ -105,7 +105,7 @@ fn without_mark(text: &[u8]) -> &[u8]
     }
 }
 
-/// The records that a text still gives, of which each is read when it is asked for.
+/// The records that are left in a text. Each is read when it is asked for.
 #[derive(Drop)]
 pub(crate) struct Records<'t> {
     rest: &'t [u8],
@@ -137,7 +137,7 @@ impl<'t> Records<'t> {
         }
     }
 
-    /// The same records, to be read from here on.
+    /// A reader of the same records, from here on.
     pub(crate) fn again(&self) -> Records<'t>
         ensures { result ≡ self.now }
     {
@@ -147,7 +147,7 @@ impl<'t> Records<'t> {
         }
     }
 
-    /// The next record, if there is one and it has at most so many fields.
+    /// The next record, if there is one and it has at most this many fields.
     pub(crate) fn next(&mut self, alloc: Global, most: usize) -> Result<Next, AllocError>
         ensures { IsNext result self.old self.new most }
     {

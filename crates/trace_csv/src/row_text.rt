@@ -17,7 +17,7 @@ use sporadic_model::MOST_TICKS;
 use std::alloc::{AllocError, Global};
 use std::marker::Model;
 
-/// Counts the ticks of the run that a line writes, or says why the line, which has this number, is refused.
+/// Counts the ticks of a line's run, or says why the line, which has this number, is refused.
 fn count_line(
     ticks: &mut u64,
     alloc: Global,
@@ -37,7 +37,7 @@ fn count_line(
     Ok(())
 }
 
-/// How many ticks the runs last that lines write.
+/// How many ticks the runs of the lines last.
 #[derive(Drop)]
 struct TickCount {
     ticks: u64,
@@ -75,7 +75,7 @@ fn judged_ticks(alloc: Global, jobs: &JobList, bytes: &[u8]) -> Result<u64, Rows
     }
 }
 
-/// Rows of jobs in CSV that were judged and are kept as their text.
+/// Rows of jobs in CSV. They were judged, and are kept as their text.
 #[derive(Drop)]
 pub struct RowText<'a> {
     jobs: &'a JobList<'a>,
@@ -96,8 +96,8 @@ impl<'a> Model for RowText<'a> {
 }
 
 impl<'a> RowText<'a> {
-    /// Judges a text as [`read_rows`](crate::read_rows) does, and keeps it as it is. So no more memory is taken beside
-    /// the text than for one line of it.
+    /// Judges a text as [`read_rows`](crate::read_rows) does, and keeps it as it is. So besides the text it takes only memory for one line
+    /// of it.
     pub fn new(
         alloc: Global,
         jobs: &'a JobList<'a>,
@@ -121,7 +121,7 @@ impl<'a> RowText<'a> {
         self.ticks
     }
 
-    /// The rows, to be read run by run from the first one on. Only want of memory is an error.
+    /// A reader of the rows, run by run from the first one on. It fails only for want of memory.
     pub fn rows(&self, alloc: Global) -> Result<TextRows<'_>, AllocError>
         ensures rows { IfOk result (λ reader. reader.rows ≡ self.now) }
         ensures at { IfOk result (λ reader. reader.at ≡ 0) }

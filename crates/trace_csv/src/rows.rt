@@ -37,7 +37,7 @@ fn are_cells(cells: &[&[u8]]) -> bool
     true
 }
 
-/// The job that a cell names among the first ones; none where it is empty.
+/// The job that a cell names among the first ones; none if it is empty.
 fn job_in(cell: &[u8], jobs: u32) -> Option<JobId>
     ensures { place_seen result ≡ job_in jobs cell.now }
 {
@@ -77,7 +77,7 @@ fn places_of(alloc: Global, cells: &[&[u8]], jobs: u32) -> Result<Vec<Option<Job
     Ok(places)
 }
 
-/// The row that cells write: per processor the job that runs, and then per resource the job that holds it.
+/// The row of these cells: for each processor the job that runs, and then for each resource the job that holds it.
 fn row_of(alloc: Global, cells: &[&[u8]], processors: usize, jobs: u32) -> Result<Row, AllocError>
     requires { processors ≤ length cells.now }
     ensures { IfOk result (λ row. row_seen row ≡ row_of_cells processors jobs (map (λ c. c.now) cells.now)) }
@@ -87,7 +87,7 @@ fn row_of(alloc: Global, cells: &[&[u8]], processors: usize, jobs: u32) -> Resul
     Ok(Row { running, holders })
 }
 
-/// The row that cells write, whatever they are.
+/// The row of these cells, whatever they are.
 fn written_row(alloc: Global, jobs: &JobList, cells: &[&[u8]]) -> Result<Row, AllocError>
     ensures { IfOk result (λ row. row_seen row ≡ row_written jobs.now (map (λ c. c.now) cells.now)) }
 {
@@ -95,7 +95,7 @@ fn written_row(alloc: Global, jobs: &JobList, cells: &[&[u8]]) -> Result<Row, Al
     row_of(alloc, cells, processors, jobs.len())
 }
 
-/// The run that a field of ticks and cells write, or why their line, which has this number, is refused.
+/// The run of a field of ticks and of cells, or why their line, which has this number, is refused.
 fn run_of_cells(
     alloc: Global,
     jobs: &JobList,
@@ -122,7 +122,7 @@ fn run_of_cells(
     Ok(RowRun { ticks, row })
 }
 
-/// The run that a line writes, or why the line, which has this number, is refused for what stands on it.
+/// The run of a line, or why the line, which has this number, is refused for what is on it.
 pub(crate) fn run_of(
     alloc: Global,
     jobs: &JobList,
@@ -138,7 +138,7 @@ pub(crate) fn run_of(
     }
 }
 
-/// The ticks that a field writes; 0 where it writes none.
+/// The ticks of a field; 0 if it has none.
 fn written_ticks(field: &[u8]) -> u64
     ensures { result ≡ unwrap_or (ticks_in field.now) 0 }
 {
@@ -148,7 +148,7 @@ fn written_ticks(field: &[u8]) -> u64
     }
 }
 
-/// The run that a line writes, whatever stands on it.
+/// The run of a line, whatever is on it.
 pub(crate) fn written_run(
     alloc: Global,
     jobs: &JobList,
@@ -172,7 +172,7 @@ pub(crate) fn written_run(
     }
 }
 
-/// What a refusal by the list of rows is for the line of this number.
+/// The refusal of the line of this number, for a refusal by the list of rows.
 fn refused_at(line: u64, refusal: RowRefusal) -> RowsRefusal
     ensures { result ≡ at_line line refusal }
 {
@@ -184,7 +184,7 @@ fn refused_at(line: u64, refusal: RowRefusal) -> RowsRefusal
     }
 }
 
-/// Takes the run that a line writes into the list, or says why the line, which has this number, is refused.
+/// Takes the run of a line into the list, or says why the line, which has this number, is refused.
 fn take_line(
     rows: &mut RowList,
     alloc: Global,
@@ -202,7 +202,7 @@ fn take_line(
     }
 }
 
-/// How many fields a line has: the ticks, one per processor and one per resource.
+/// How many fields a line has: the ticks, one for each processor and one for each resource.
 pub(crate) fn fields_per_line(jobs: &JobList) -> usize
     ensures { result ≡ 1 + (processor_count jobs.now + resource_count jobs.now) }
 {
@@ -278,7 +278,7 @@ pub(crate) fn take_header(
     Ok(())
 }
 
-/// The runs that lines write, or the first line that is refused, behind which nothing is read.
+/// The runs of the lines, or the first line that is refused. Nothing after that line is read.
 fn rows_of(alloc: Global, jobs: &JobList, lines: Records) -> Result<RowList, RowsRefusal>
     requires { length lines < 2 ^ 64 }
     ensures { LinesRead result jobs.now lines.entry }
@@ -290,7 +290,7 @@ fn rows_of(alloc: Global, jobs: &JobList, lines: Records) -> Result<RowList, Row
     }
 }
 
-/// The rows that a file's records write, or why it is refused.
+/// The rows of a file's records, or why it is refused.
 fn rows_under_header(
     alloc: Global,
     jobs: &JobList,
@@ -305,11 +305,12 @@ fn rows_under_header(
     }
 }
 
-/// Reads rows of jobs from CSV: the header, and then a line for each run of equal rows, with its number of
-/// ticks, per processor the job that runs and per resource the job that holds it. A job is named by its
-/// number in the list, counted from 1, and an empty cell names none. A line is a record as `csv` gives it,
-/// so that blank lines are none. The answer is the list of the runs exactly where the text is such a file;
-/// else it names the first line that is refused and the first reason on it, in the order of [`RowsRefusal`].
+/// Reads rows of jobs from CSV. First comes the header, and then a line for each run of equal rows: its number of ticks, for each processor
+/// the job that runs, and for each resource the job that holds it. A job is named by its number in the list, counted from 1. An empty cell
+/// names none. A line is a record as `csv` gives it, so a blank line doesn't count.
+///
+/// The answer is the list of the runs exactly if the text is such a file. Else it names the first line that is refused, and the first
+/// reason on it, in the order of [`RowsRefusal`].
 pub fn read_rows(alloc: Global, jobs: &JobList, bytes: &[u8]) -> Result<RowList, RowsRefusal>
     ensures read { RowsRead result jobs.now bytes.now }
     ensures accepts { IsRowsFile jobs.now bytes.now → IsUnrefused result }

@@ -5,28 +5,28 @@ ghost use Rattle.trace_csv.specs.PartsSeen.{request_seen, Divides, IsFirstToken,
 use sporadic_model::{MOST_NAME, MOST_TICKS};
 use text_pieces::number_between;
 
-/// A request by the name of its resource, and for how many ticks.
+/// A request by the name of its resource, and how many ticks it takes.
 #[derive(Clone, Copy, Debug)]
 pub(crate) struct Request<'a> {
     pub(crate) resource: &'a [u8],
     pub(crate) ticks: u64,
 }
 
-/// A part of a script: local ticks, and then maybe a request.
+/// A part of a script: local ticks, and then a request or none.
 #[derive(Clone, Copy, Debug)]
 pub(crate) struct Part<'a> {
     pub(crate) local: u64,
     pub(crate) request: Option<Request<'a>>,
 }
 
-/// Where is the first such byte?
+/// The position of the first such byte.
 fn place_of(text: &[u8], byte: u8) -> Option<usize>
     ensures { result ≡ position (λ b. b == byte) text.now }
 {
     text.iter().position(|b| *b == byte)
 }
 
-/// What stands before the first such byte, and what stands after it.
+/// The text before the first such byte, and the text after it.
 fn divided(text: &[u8], byte: u8) -> Option<(&[u8], &[u8])>
     ensures { Divides result text.now byte }
 {
@@ -36,7 +36,7 @@ fn divided(text: &[u8], byte: u8) -> Option<(&[u8], &[u8])>
     }
 }
 
-/// The text up to its first space, and what stands after the space.
+/// The text up to its first space, and the text after the space.
 fn first_token(text: &[u8]) -> (&[u8], Option<&[u8]>)
     ensures { IsFirstToken result text.now }
 {
@@ -46,7 +46,7 @@ fn first_token(text: &[u8]) -> (&[u8], Option<&[u8]>)
     }
 }
 
-/// The request that a token is.
+/// The request of a token.
 fn request_of(token: &[u8]) -> Option<Request<'_>>
     ensures { option_map request_seen result ≡ request_in token.now }
 {
@@ -60,7 +60,7 @@ fn request_of(token: &[u8]) -> Option<Request<'_>>
     Some(Request { resource, ticks })
 }
 
-/// The first part of a script, and what stands after it, if that is not the end.
+/// The first part of a script, and the text after it, if that is not the end.
 pub(crate) fn first_part(text: &[u8]) -> Option<(Part<'_>, Option<&[u8]>)>
     ensures { IsFirstPart result text.now }
 {

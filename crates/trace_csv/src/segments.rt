@@ -8,8 +8,8 @@ use schedule_model::Segment;
 use sporadic_model::{ResourceId, TaskSet};
 use std::alloc::{AllocError, AllocFailed, Global};
 
-/// No job of more segments stays within its task's budget: a set has at most 32 resources, a job requests each at
-/// most 1000 times, and behind its last request it has one segment more.
+/// No job of more segments stays within its task's budget. A set has at most 32 resources, and a job requests each at most 1000 times.
+/// After its last request it may have one segment more.
 pub(crate) const MOST_WITHIN_BUDGET: u64 = 32_001;
 
 /// Why no segments are read from a text.
@@ -45,16 +45,16 @@ impl<T: Drop> From<AllocFailed<T>> for ScriptFault {
     }
 }
 
-/// What is told of a script without memory.
+/// What is known of a script before any memory is taken.
 #[derive(Clone, Copy, Debug)]
 pub(crate) struct Outline {
-    /// How many segments it writes.
+    /// How many segments it has.
     pub(crate) segments: u64,
     /// Is each resource that it requests one of the set's?
     pub(crate) is_known: bool,
 }
 
-/// Is the resource that the part requests, if it does, one of the set's?
+/// If the part requests a resource: is it one of the set's?
 fn has_known_resource(set: &TaskSet, part: &Part) -> bool
     ensures { result ≡ has_known_resource set.now (part_seen part.now) }
 {
@@ -64,7 +64,7 @@ fn has_known_resource(set: &TaskSet, part: &Part) -> bool
     }
 }
 
-/// What is told of the script that a text is, if it is one.
+/// What is known of the text's script, if it is one.
 fn outline_of(set: &TaskSet, text: &[u8]) -> Option<Outline>
     ensures { IsOutline result set.now text.now }
 {
@@ -80,7 +80,7 @@ fn outline_of(set: &TaskSet, text: &[u8]) -> Option<Outline>
     Some(Outline { segments, is_known })
 }
 
-/// The segment that a part of a script writes; none where it names no resource of the set.
+/// The segment of a part of a script; none if it names no resource of the set.
 fn segment_of(set: &TaskSet, part: &Part) -> Option<Segment>
     ensures { SegmentOf result set.now (part_seen part.now) }
 {
@@ -98,7 +98,7 @@ fn segment_of(set: &TaskSet, part: &Part) -> Option<Segment>
     }
 }
 
-/// The segments that a script writes, in a list with room for so many.
+/// The segments of a script, in a list with room for this many.
 fn segments_of(
     alloc: Global,
     set: &TaskSet,
@@ -122,8 +122,8 @@ fn segments_of(
     Ok(segments)
 }
 
-/// The segments that a script writes, where they are no more than a budget allows. The text is read twice, so that
-/// memory is taken only for a script that may be within budget, and only as much as it needs.
+/// The segments of a script, if they are no more than a budget allows. The text is read twice. So memory is taken only for a script that
+/// may be within budget, and only as much as it needs.
 pub(crate) fn script_of(
     alloc: Global,
     set: &TaskSet,

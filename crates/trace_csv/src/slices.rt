@@ -5,7 +5,7 @@ ghost use Rattle.trace_csv.specs.Records.{fields_seen};
 use csv::ByteRecord;
 use std::alloc::{AllocError, Global};
 
-/// The fields of a record that is to be written.
+/// The fields of a record that is written.
 pub(crate) fn fields_in(alloc: Global, row: &ByteRecord) -> Result<Vec<&[u8]>, AllocError>
     ensures { IfOk result (λ fields. map (λ f. f.now) fields.items ≡ fields_of row.now) }
 {

@@ -10,7 +10,7 @@ use schedule_model::{JobList, RowReader, RowRun};
 use std::alloc::{AllocError, Global};
 use std::marker::Model;
 
-/// The fields of the next line, which has no more than the most, if there is one.
+/// The fields of the next line, if there is one. It has no more than the most.
 fn next_line(
     alloc: Global,
     lines: &mut Records,
@@ -26,7 +26,7 @@ fn next_line(
     }
 }
 
-/// The run that the next line writes, if there is one.
+/// The run of the next line, if there is one.
 fn next_run(
     alloc: Global,
     jobs: &JobList,
@@ -41,7 +41,7 @@ fn next_run(
     }
 }
 
-/// Rows that are read from a judged text one run after another. No more memory is taken than for two lines of it.
+/// Rows that are read from a judged text, one run after another. It takes only memory for two lines of the text.
 #[derive(Drop)]
 pub struct TextRows<'a> {
     alloc: Global,
@@ -115,7 +115,7 @@ impl<'a> RowReader for TextRows<'a> {
     }
 
     fn keeps_its_rules(&self) {
-        // what every reader keeps is known once a field is read
+        // a proof knows what every reader keeps once a field is read
         let _run = &self.run;
     }
 }

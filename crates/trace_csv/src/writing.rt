@@ -52,7 +52,7 @@ fn line_of(alloc: Global, run: &RowRun) -> Result<ByteRecord, AllocError>
     Ok(row)
 }
 
-/// Does the byte put its field between quotes?
+/// Does a field with this byte need quotes?
 fn is_special(byte: u8) -> bool
     ensures { result ≡ needs_byte default_writer byte }
 {
@@ -66,7 +66,7 @@ fn needs_quotes(field: &[u8]) -> bool
     field.iter().any(|byte| is_special(*byte))
 }
 
-/// Adds a field between quotes, each quote in it twice.
+/// Adds a field between quotes, and doubles each quote in it.
 fn push_quoted(text: &mut Vec<u8>, field: &[u8]) -> Result<(), AllocError>
     ensures { OnOk result (text.new.items ≡ text.old.items ++ quoted default_writer field.now) }
 {
@@ -81,7 +81,7 @@ fn push_quoted(text: &mut Vec<u8>, field: &[u8]) -> Result<(), AllocError>
     Ok(())
 }
 
-/// Adds a field, between quotes where it needs them.
+/// Adds a field, between quotes if it needs them.
 fn push_field(text: &mut Vec<u8>, field: &[u8]) -> Result<(), AllocError>
     ensures { OnOk result (text.new.items ≡ text.old.items ++ field_text default_writer field.now) }
 {
@@ -92,7 +92,7 @@ fn push_field(text: &mut Vec<u8>, field: &[u8]) -> Result<(), AllocError>
     }
 }
 
-/// Adds fields, each behind a comma.
+/// Adds fields, each after a comma.
 fn push_fields(text: &mut Vec<u8>, fields: &[&[u8]]) -> Result<(), AllocError>
     ensures { OnOk result (text.new.items
         ≡ text.old.items ++ fields_text default_writer (map (λ f. f.now) fields.now)) }
@@ -104,7 +104,7 @@ fn push_fields(text: &mut Vec<u8>, fields: &[&[u8]]) -> Result<(), AllocError>
     Ok(())
 }
 
-/// Adds the fields of a record, with a comma between two. One empty field is two quotes, and so is none.
+/// Adds the fields of a record, with a comma between any two. A record of one empty field is two quotes, and so is one without a field.
 fn push_body(text: &mut Vec<u8>, fields: &[&[u8]]) -> Result<(), AllocError>
     ensures { OnOk result (text.new.items ≡ text.old.items ++ body_text (map (λ f. f.now) fields.now)) }
 {
@@ -142,8 +142,8 @@ fn text_of_rows(alloc: Global, set: &TaskSet, rows: &RowList) -> Result<Vec<u8>,
     Ok(text)
 }
 
-/// Writes rows of a task set as CSV: the header, and a line for each run, each ended by one line feed.
-/// Reading the text with jobs of the set that the rows fit gives the same runs again.
+/// Writes rows of a task set as CSV: the header, and a line for each run. Each line ends with one line feed. If you read the text with jobs
+/// of the set that the rows fit, you get the same runs.
 pub fn write_rows(alloc: Global, set: &TaskSet, rows: &RowList) -> Result<Vec<u8>, AllocError>
     requires { IsTrue (are_sized set.now rows.now.runs) }
     ensures text { IfOk result (λ text. text.items ≡ rows_text set.now rows.now.runs) }

@@ -11,7 +11,7 @@ use Rattle.phase_machine.specs.Taking.{IsRowFor}
 use Rattle.schedule_model.specs.ReadRuns.{run_of}
 use Rattle.trace_walk.specs.Runs.{ticks_before}
 
--- The run stands at each of its ticks.
+-- The run is at each of its ticks.
 pub run_here : (runs : List RunDef) (i k : ℕ) → i < length runs → k < (run_of runs i).ticks
     → row_in runs (ticks_before runs i + k) ≡ (run_of runs i).row
 run_here [] i k l h = absurd (omega arith)
@@ -38,7 +38,7 @@ ticks_after (run ∷ runs) (suc i) l =
 pub ticks_next : (runs : List RunDef) (i : ℕ) → i < length runs → ticks_before runs (i + 1) ≡ ticks_before runs i + (run_of runs i).ticks
 ticks_next runs i l = let e : i + 1 ≡ suc i = omega arith in ap (ticks_before runs) e ∙ ticks_after runs i l
 
--- So it stands at each tick between its first and the next run's.
+-- So it is at each tick between its first and the next run's.
 pub run_stands : (runs : List RunDef) (i tick left k : ℕ) → i < length runs → ticks_before runs i ≤ tick
     → tick + left ≡ ticks_before runs (i + 1) → k < left
     → row_in runs (tick + k) ≡ (run_of runs i).row

@@ -10,7 +10,7 @@ use Rattle.phase_machine.specs.Shows.{Shows}
 use Rattle.phase_machine.specs.Taking.{IsRowFor, CanTake}
 use Rattle.phase_machine.proofs.Facts.{can_take}
 
--- A row that fits the jobs and is sound can stand at the machine's tick, and the machine can take it.
+-- A row that fits the jobs and is sound is possible at the machine's tick, and the machine can take it.
 pub row_stands : (interferes : Trace → ℕ → ℕ → Bool) (rows : ℕ → RowDef) (m : MachineDef) (row : RowDef)
     → rows m.tick ≡ row → IsRowFor m.list row → IsSoundRow interferes (under m rows) m.tick
     → CanBeTaken (under m rows) m.tick

@@ -1,4 +1,5 @@
 pub mod Runs
+pub mod LawfulRow
 pub mod NextStretch
 pub mod Reached
 pub mod Walked

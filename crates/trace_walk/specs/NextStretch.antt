@@ -1,4 +1,4 @@
--- The steady stretch of a schedule that a machine stands before.
+-- The steady stretch that comes next for a machine.
 use Rattle.std.specs.Prelude.{ℕ, ◌+◌, ◌≤◌}
 use Rattle.sporadic_model.specs.declared.limits.TheConstants.{MOST_TICKS}
 use Rattle.schedule_model.specs.RowDef.{Trace, row_in}
@@ -11,7 +11,7 @@ use Rattle.phase_machine.specs.MachineDef.{MachineDef, under}
 use Rattle.phase_machine.specs.Shows.{Shows}
 use Rattle.trace_walk.specs.Runs.{IsAtRun}
 
--- Has the machine taken the rows before its tick, and are the next n, all of run number i, a steady stretch of which the first can be
+-- Has the machine taken the rows before its tick? And are the next n rows, all of run number i, a steady stretch whose first row can be
 -- taken and keeps the rules?
 pub record IsNextStretch (keeps : Rule → Trace → ℕ → Type 0) (rows : RowsDef) (i : ℕ) (m : MachineDef) (n : ℕ) : Type 0 where
   pub at : IsAtRun rows i m

@@ -1,4 +1,4 @@
--- How far a schedule is walked: each row before the machine's tick keeps the rules, and its ticks are kept.
+-- How far a schedule is walked: each row before the machine's tick keeps the rules, and this is kept of them.
 use Rattle.std.specs.Prelude.{◌≡◌, ℕ, ◌+◌, ◌≤◌, Result, Ok, Err}
 use Rattle.schedule_model.specs.RowDef.{RowDef, Trace}
 use Rattle.schedule_model.specs.Keeping.{KeepsBefore, IsFirstUnlawful}
@@ -16,15 +16,15 @@ pub record IsReached {R : Type 0} (keeps : Rule → Trace → ℕ → Type 0) (k
     pub keeps_before : KeepsBefore keeps (under m rows) m.tick
     pub are_kept : kept (under m rows) m.tick now
 
--- Has the machine come to tick n, all rows before it keeping the rules; or is the first row named that breaks one?
+-- Is the machine at tick n, with all rows before it keeping the rules? Or does the answer name the first row that breaks one?
 abbrev pub GoesOn : {R : Type 0} {T : Type 0} → (Rule → Trace → ℕ → Type 0) → (Trace → ℕ → R → Type 0) → (ℕ → RowDef) → ℕ → MachineDef
     → MachineDef → R → Result T Unlawful → Type 0
 GoesOn keeps kept rows n before after now (Ok _) = (after.tick ≡ n) × IsReached keeps kept rows after now
 GoesOn keeps kept rows n before after now (Err (stop.Broken b)) = IsFirstUnlawful keeps (under before rows) n b.tick b.rule
 GoesOn keeps kept rows n before after now (Err stop.Memory) = Unit {0}
 
--- Has the machine taken some of the next `left` rows, all of them keeping the rules; or is the first of them named that breaks
--- one?
+-- Has the machine taken some of the next `left` rows, with all of these keeping the rules? Or does the answer name the first of them that
+-- breaks one?
 abbrev pub GoesSome : {R : Type 0} → (Rule → Trace → ℕ → Type 0) → (Trace → ℕ → R → Type 0) → (ℕ → RowDef) → ℕ → MachineDef → MachineDef
     → R → Result ℕ Unlawful → Type 0
 GoesSome keeps kept rows left before after now (Ok n) =

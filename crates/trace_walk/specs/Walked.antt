@@ -1,4 +1,4 @@
--- What a walk over a whole schedule comes to.
+-- What a walk over a whole schedule answers.
 use Rattle.std.specs.Prelude.{◌≡◌, ℕ, List, Result, Ok, Err}
 use Rattle.schedule_model.specs.JobDef.{JobsDef}
 use Rattle.schedule_model.specs.RowDef.{RunDef, Trace, row_in, trace_in, ticks_of}
@@ -19,7 +19,8 @@ pub record IsWalked {R : Type 0} (keeps : Rule → Trace → ℕ → Type 0) (ke
     pub lawful : KeepsBefore keeps (trace_in jobs runs) (ticks_of runs)
     pub are_kept : kept (trace_in jobs runs) (ticks_of runs) now
 
--- It has; or the first row is named that breaks a rule, and its first broken rule. Only want of memory says nothing of the schedule.
+-- Ok says that this is so. Else the answer names the first row that breaks a rule, and the first rule that it breaks. Only want of memory
+-- says nothing of the schedule.
 abbrev pub Walks : {R : Type 0} → (Rule → Trace → ℕ → Type 0) → (Trace → ℕ → R → Type 0) → JobsDef → List RunDef → R
     → Result MachineDef Unlawful → Type 0
 Walks keeps kept jobs runs now (Ok m) = IsWalked keeps kept jobs runs now m

@@ -5,7 +5,7 @@ use phase_machine::{Judge, Machine};
 use schedule_model::RowReader;
 use std::alloc::AllocError;
 
-/// Two keepers of one walk, each with its own notes.
+/// Two keepers in one walk, each with notes of its own.
 #[derive(Clone, Copy, Debug)]
 pub struct Both<A, B> {
     /// The one.

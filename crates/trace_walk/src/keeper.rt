@@ -8,7 +8,7 @@ use phase_machine::{Judge, Machine};
 use schedule_model::RowReader;
 use std::alloc::AllocError;
 
-/// What keeps notes of a schedule while it is walked, for a protocol that judges it.
+/// Something that keeps notes of a schedule while it is walked, for a protocol that judges the schedule.
 pub trait Keeper<P: Judge> {
     /// What it keeps of the ticks so far.
     type Notes;
@@ -16,21 +16,21 @@ pub trait Keeper<P: Judge> {
     /// Can it keep notes of schedules for this set?
     ghost fits: { Self → SetDef → Type 0 };
 
-    /// Are these the notes of the first ticks of a schedule, so many?
+    /// Are these the notes of this many first ticks of a schedule?
     ghost kept: { Self → P → Trace → ℕ → Self.Notes → Type 0 };
 
-    /// Can it take so many ticks at once, from the machine's on, where they are a steady stretch?
+    /// Can it take this many ticks at once, from the machine's tick on, if they are a steady stretch?
     ghost spans: { Self → MachineDef → ℕ → Type 0 };
 
-    /// How many of the next ticks it takes at once, where so many are a steady stretch: at least one, and fewer do too.
+    /// How many of the next ticks it takes at once, if this many are a steady stretch. It is at least one, and it can take any fewer too.
     fn span(&self, machine: &Machine, ticks: u64) -> u64
         requires fits { fits self.now machine.now.list.set }
         ensures some { 1 ≤ ticks → 1 ≤ result }
         ensures most { result ≤ ticks }
         ensures spans { (n : ℕ) → n ≤ result → spans self.now machine.now n };
 
-    /// Takes so many ticks more into the notes: a steady stretch of the run that the reader stands at, whose rows keep the rules and
-    /// which the machine stands before. It refuses for want of memory alone.
+    /// Takes this many more ticks into the notes. They are a steady stretch of the run at which the reader is, they come next for the
+    /// machine, and their rows keep the rules. It fails only for want of memory.
     fn take<R: RowReader>(
         &self,
         protocol: &P,

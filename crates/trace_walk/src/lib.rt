@@ -1,5 +1,5 @@
-//! Walks a schedule once, a steady stretch at a time: judges its rows by the rules of a locking protocol, and keeps of them what a
-//! [`Keeper`] keeps.
+//! Walks a schedule once, a steady stretch at a time. It judges the rows by the rules of a locking protocol, and a [`Keeper`] keeps notes
+//! of them.
 #![tactic(auto)]
 
 mod both;

@@ -1,8 +1,7 @@
-ghost use Rattle.std.specs.Prelude.{◌≡◌, ◌+◌, ◌<◌, ◌≤◌, length, true};
-ghost use Rattle.sporadic_model.specs.declared.limits.TheConstants.{MOST_TICKS};
+ghost use Rattle.std.specs.Prelude.{◌≡◌, ◌+◌, ◌<◌, length, true};
 ghost use Rattle.schedule_model.specs.RowDef.{row_in, trace_in, ticks_of};
 ghost use Rattle.schedule_model.specs.Fitting.{is_fitting};
-ghost use Rattle.trace_walk.specs.Runs.{IsAtRun, StandsFor, ticks_before};
+ghost use Rattle.trace_walk.specs.Runs.{IsInRun, IsBeforeRun, ticks_before};
 ghost use Rattle.trace_walk.specs.Reached.{IsReached, GoesOn, GoesSome};
 ghost use Rattle.trace_walk.specs.Walked.{Walks};
 
@@ -12,8 +11,8 @@ use schedule_answers::{Breach, Unlawful};
 use schedule_model::{JobList, RowReader};
 use std::alloc::Global;
 
-/// Judges the row of the run that the reader stands at, of which so many ticks are left, and keeps and takes the ticks of the steady
-/// stretch that it begins, as far as they are of the run and the keeper takes them at once. How many these were.
+/// Judges the row of the reader's run, of which this many ticks are left. Takes the ticks of the steady stretch that it begins, as far as
+/// they are of this run and the keeper takes them at once. Answers how many these were.
 fn walk_stretch<P: Judge, K: Keeper<P>, R: RowReader>(
     protocol: &P,
     rows: &R,
@@ -24,10 +23,7 @@ fn walk_stretch<P: Judge, K: Keeper<P>, R: RowReader>(
 ) -> Result<u64, Unlawful>
     requires suits { P.suits protocol.now machine.old.list.set }
     requires fits { K.fits keeper.now machine.old.list.set }
-    requires at { IsAtRun (R.rows rows.now) (R.at rows.now) machine.old }
-    requires stands { StandsFor (R.rows rows.now).runs (R.at rows.now) machine.old.tick left }
-    requires some { 1 ≤ left }
-    requires early { machine.old.tick + left ≤ MOST_TICKS }
+    requires run { IsInRun (R.rows rows.now) (R.at rows.now) machine.old left }
     requires reached { IsReached (P.keeps protocol.now) (K.kept keeper.now protocol.now) (row_in (R.rows rows.now).runs) machine.old notes.old }
     ensures list { machine.new.list ≡ machine.old.list }
     ensures walked { GoesSome (P.keeps protocol.now) (K.kept keeper.now protocol.now) (row_in (R.rows rows.now).runs) left
@@ -45,7 +41,7 @@ fn walk_stretch<P: Judge, K: Keeper<P>, R: RowReader>(
     Ok(ticks)
 }
 
-/// Judges, keeps and takes each row of the run that the reader stands at, one steady stretch after the other.
+/// Judges each row of the reader's run, and takes it, one steady stretch after the other.
 fn walk_run<P: Judge, K: Keeper<P>, R: RowReader>(
     protocol: &P,
     rows: &R,
@@ -56,9 +52,7 @@ fn walk_run<P: Judge, K: Keeper<P>, R: RowReader>(
     requires suits { P.suits protocol.now machine.old.list.set }
     requires keeper { K.fits keeper.now machine.old.list.set }
     requires within { R.at rows.now < length (R.rows rows.now).runs }
-    requires fits { is_fitting (R.rows rows.now) machine.old.list ≡ true }
-    requires most { ticks_of (R.rows rows.now).runs ≤ MOST_TICKS }
-    requires start { machine.old.tick ≡ ticks_before (R.rows rows.now).runs (R.at rows.now) }
+    requires before { IsBeforeRun (R.rows rows.now) (R.at rows.now) machine.old }
     requires reached { IsReached (P.keeps protocol.now) (K.kept keeper.now protocol.now) (row_in (R.rows rows.now).runs) machine.old notes.old }
     ensures list { machine.new.list ≡ machine.old.list }
     ensures walked { GoesOn (P.keeps protocol.now) (K.kept keeper.now protocol.now) (row_in (R.rows rows.now).runs)
@@ -71,7 +65,7 @@ fn walk_run<P: Judge, K: Keeper<P>, R: RowReader>(
     Ok(())
 }
 
-/// Judges, keeps and takes all rows, up to the first that breaks a rule.
+/// Judges all rows and takes them, up to the first that breaks a rule.
 fn walk_all<P: Judge, K: Keeper<P>, R: RowReader>(
     protocol: &P,
     rows: &mut R,
@@ -81,10 +75,8 @@ fn walk_all<P: Judge, K: Keeper<P>, R: RowReader>(
 ) -> Result<(), Unlawful>
     requires suits { P.suits protocol.now machine.old.list.set }
     requires keeper { K.fits keeper.now machine.old.list.set }
-    requires fits { is_fitting (R.rows rows.old) machine.old.list ≡ true }
-    requires most { ticks_of (R.rows rows.old).runs ≤ MOST_TICKS }
     requires first { R.at rows.old ≡ 0 }
-    requires start { machine.old.tick ≡ 0 }
+    requires before { IsBeforeRun (R.rows rows.old) 0 machine.old }
     requires reached { IsReached (P.keeps protocol.now) (K.kept keeper.now protocol.now) (row_in (R.rows rows.old).runs) machine.old notes.old }
     ensures list { machine.new.list ≡ machine.old.list }
     ensures walked { GoesOn (P.keeps protocol.now) (K.kept keeper.now protocol.now) (row_in (R.rows rows.old).runs) (ticks_of (R.rows rows.old).runs)
@@ -97,9 +89,9 @@ fn walk_all<P: Judge, K: Keeper<P>, R: RowReader>(
     Ok(())
 }
 
-/// Judges each row by the protocol's rules, and keeps what the keeper keeps: Ok, with the machine that has taken all rows, exactly where
-/// every row keeps all five rules and there was memory; else the first row that breaks one. At first the reader stands at the first run, and the notes
-/// are those of no ticks.
+/// Judges each row by the protocol's rules, and keeps what the keeper keeps. It is Ok, with the machine that has taken all rows, exactly if
+/// every row keeps all five rules and there was enough memory. Else it names the first row that breaks a rule. You give a reader at the
+/// first run, and the notes of no ticks.
 pub fn walk<'a, P: Judge, K: Keeper<P>, R: RowReader>(
     alloc: Global,
     protocol: &P,

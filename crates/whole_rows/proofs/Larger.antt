@@ -15,7 +15,7 @@ pub greatest_of_parts : (row : RowDef) (first g : ℕ) → IsGcd (unsigned_abs r
     → d ∣ unsigned_abs row.den → d ∣ g
 greatest_of_parts row first g gcd greatest d in_nums in_limit in_den = greatest d (gcd.2 d in_limit in_den) in_nums
 
--- a divisor of what is left, so many times, is one of the whole
+-- a divisor of a part, times g, divides the whole
 part_divides : (d g : ℕ) (whole part : ℤ) → whole ≡ part *ℤ pos g → d ∣ unsigned_abs part → d * g ∣ unsigned_abs whole
 part_divides d g whole part is h =
     let size : unsigned_abs part * g ≡ unsigned_abs whole = sym (ap unsigned_abs is ∙ unsigned_abs-mul part (pos g)) in

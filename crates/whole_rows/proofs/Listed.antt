@@ -22,7 +22,7 @@ rises-on : (e : Entry) (es : List Entry)
     → (i j : ℕ) → i < j → j < length es → (entry_at es i).place < (entry_at es j).place
 rises-on e es h i j l k = h (suc i) (suc j) (omega arith) (omega arith)
 
--- what stands in the list is listed
+-- each entry of the list is listed
 pub listed_entry : (es : List Entry) (j k : ℕ) → ((i m : ℕ) → i < m → m < length es → (entry_at es i).place < (entry_at es m).place)
     → j < length es → (entry_at es j).place ≡ k → listed_at es k ≡ (entry_at es j).num
 listed_entry [] j k rise l is = absurd (omega arith)
@@ -31,12 +31,12 @@ listed_entry (e ∷ es) (suc j) k rise l is =
     let earlier : e.place < (entry_at es j).place = rise 0 (suc j) (omega arith) l in
     listed-on e es k (λ q. omega arith) ∙ listed_entry es j k (rises-on e es rise) (omega arith) is
 
--- and where none stands it is zero
+-- and if there is none, it is zero
 pub listed_none : (es : List Entry) (k : ℕ) → ((j : ℕ) → j < length es → (entry_at es j).place ≢ k) → listed_at es k ≡ pos 0
 listed_none [] k away = refl
 listed_none (e ∷ es) k away = listed-on e es k (away 0 (omega arith)) ∙ listed_none es k (λ j l. away (suc j) (omega arith))
 
--- does one stand there?
+-- is there one?
 pub found_or_none : (es : List Entry) (k : ℕ)
     → ((j : ℕ) × (j < length es) × ((entry_at es j).place ≡ k)) ⊎ ((j : ℕ) → j < length es → (entry_at es j).place ≢ k)
 found_or_none [] k = inr (λ j l. absurd (omega arith))

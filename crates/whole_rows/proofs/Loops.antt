@@ -72,7 +72,7 @@ times_all last before by now l h = record {
   ];
 }
 
--- from the numbers at the first places listed what is listed is taken away, and the others are as before
+-- what is listed is subtracted from the numbers at the first places listed, and the others are as before
 pub record AreLessTo (i : ℕ) (before : List ℤ) (f : ℤ) (entries : List Entry) (now : List ℤ) : Type 0 where
   pub as_many : length now ≡ length before
   pub done : (j : ℕ) → j < i → number_at now (entry_at entries j).place

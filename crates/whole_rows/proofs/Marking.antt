@@ -88,7 +88,7 @@ bits_apart u v j i words apart li lj = elim (cases_eq u v) [
       ])
 ]
 
--- marking takes no room away
+-- marking removes no room
 pub room_kept : (variables rows : ℕ) (before after : RowMarks) → HaveRoom variables rows before → AreKept before after
     → HaveRoom variables rows after
 room_kept variables rows before after room kept = record {

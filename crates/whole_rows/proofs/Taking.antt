@@ -115,7 +115,7 @@ own_ring x e = rw (one-mul e, zero-mul e, mul-one x) refl
 is_small : (n e : ℤ) (bound : ℕ) → pos 0 <ℤ e → unsigned_abs e ≤ bound → bound < 2 ^ 63 → unsigned_abs n ≤ bound → IsSmall (over n e)
 is_small n e bound positive den fits num = record { positive = positive; small_num = omega arith; small_den = omega arith }
 
--- n p less f y is what is left of n / d when f y / p is taken away, over d p; the divisor g was taken off f / p
+-- n p less f y is what is left of n / d if f y / p is subtracted, over d p; the divisor g was removed from f / p
 less_shown : (n d top bottom y f p g e b : ℤ) (bound : ℕ) → top ≡ f *ℤ g → bottom ≡ p *ℤ g → e ≡ d *ℤ p
     → b ≡ (n *ℤ p) -ℤ (f *ℤ y) → pos 0 <ℤ e → unsigned_abs e ≤ bound → bound < 2 ^ 63 → unsigned_abs (f *ℤ y) ≤ bound
     → unsigned_abs b ≤ bound → IsSmallLess (over n d) (over top d) (over y bottom) (over b e)

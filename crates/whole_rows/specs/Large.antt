@@ -1,4 +1,4 @@
--- When numbers over a row's denominator are too large for what is taken from it.
+-- When are numbers over a row's denominator too large for what is subtracted from the row?
 use Rattle.std.specs.Prelude.{◌≡◌, ◌⊎◌, ℕ, ◌+◌, ◌*◌, ◌≤◌, ◌^◌, ℤ, unsigned_abs}
 use Rattle.std.specs.Int.{◌∣◌}
 use Rattle.number_laws.specs.Divisors.{IsCoprime}
@@ -17,8 +17,8 @@ IsSizeInPivot pivot n = ((k : ℕ) × (unsigned_abs (listed_at pivot.entries k) 
 pub record IsReduced (row : RowDef) : Type 0 where
   pub none : (d : ℕ) → DividesEach d row.nums → d ∣ unsigned_abs row.limit → d ∣ unsigned_abs row.den → d ≡ 1
 
--- With f / p for its cell at k over the pivot's denominator, all common divisors taken off: does `most` taken p times, and some number
--- of the pivot taken f times, together pass 2^63 - 1?
+-- Let f / p be the row's cell at k over the pivot's denominator, with all common divisors removed. Are `most` times p and some number of
+-- the pivot times f together above 2^63 - 1?
 pub record IsPast (row : RowDef) (k most : ℕ) (pivot : PivotDef) : Type 0 where
   pub f : ℤ
   pub p : ℤ
@@ -28,8 +28,8 @@ pub record IsPast (row : RowDef) (k most : ℕ) (pivot : PivotDef) : Type 0 wher
   pub is_other : IsSizeInPivot pivot other
   pub large : 2 ^ 63 ≤ most * unsigned_abs p + unsigned_abs f * other
 
--- With f / p for its cell at k over the pivot's denominator, all common divisors taken off: does some number of the row taken p times,
--- and some number of the pivot taken f times, together pass 2^63 - 1 in size?
+-- Let f / p be the row's cell at k over the pivot's denominator, with all common divisors removed. Are some number of the row times p and
+-- some number of the pivot times f together above 2^63 - 1 in size?
 pub record IsTooLarge (row : RowDef) (k : ℕ) (pivot : PivotDef) : Type 0 where
   pub reduced : RowDef
   pub same : IsSameRow row reduced

@@ -1,4 +1,4 @@
--- Marks: by variable the rows that may list it. Row i is bit i mod 64 of word i / 64 of those of the variable.
+-- Marks: for each variable the rows that may list it. Row i is bit i mod 64 of word i / 64 of the variable's words.
 use Rattle.std.specs.Prelude.{◌≡◌, ℕ, ◌+◌, ◌*◌, ◌/◌, ◌%◌, ◌<◌, ◌≤◌, length, slice_index}
 use Rattle.std.specs.Int.{bit_at}
 use Rattle.whole_rows.specs.declared.marks.RowMarks.{RowMarks}
@@ -23,11 +23,11 @@ HasWords marks v = v * marks.words + marks.words ≤ length marks.bits.items
 abbrev pub IsMarked : RowMarks → ℕ → ℕ → Type 0
 IsMarked marks v i = bit_at (slice_index marks.bits.items (word_of marks v i)) (i % 64) ≡ 1
 
--- Is no row marked, at whatever variable?
+-- Is no row marked at any variable?
 abbrev pub HaveNone : RowMarks → Type 0
 HaveNone marks = (v i : ℕ) → IsMarked marks v i → ⊥
 
--- Is there a bit for each of so many rows at each of so many variables?
+-- Is there a bit for each of this many rows at each of this many variables?
 pub record HaveRoom (variables rows : ℕ) (marks : RowMarks) : Type 0 where
   pub row_each : rows ≤ 64 * marks.words
   pub word_each : variables * marks.words ≤ length marks.bits.items
@@ -41,7 +41,7 @@ pub record HaveSameRoom (before after : RowMarks) : Type 0 where
   pub words : after.words ≡ before.words
   pub as_many : length after.bits.items ≡ length before.bits.items
 
--- Are there as many words as before, and is each row marked where it was?
+-- Are there as many words as before, and is each row still marked where it was?
 pub record AreKept (before after : RowMarks) : Type 0 where
   pub words : after.words ≡ before.words
   pub as_many : length after.bits.items ≡ length before.bits.items

@@ -1,4 +1,4 @@
--- What the steps on the numbers of a row answer.
+-- What do the steps on the numbers of a row answer?
 use Rattle.std.specs.Prelude.{◌≡◌, ◌≢◌, ℕ, ◌<◌, ◌≤◌, List, map, take, length, slice_index_or, slice_set, ℤ, pos}
 use Rattle.std.specs.Prelude.{◌-ℤ◌, ◌*ℤ◌, ◌<ℤ◌, unsigned_abs}
 use Rattle.std.specs.Int.{◌∣◌}
@@ -6,7 +6,7 @@ use Rattle.program_form.specs.declared.sparse_rows.Coefficient.{Coefficient}
 use Rattle.whole_rows.specs.Rows.{RowDef, num_at, AreSparse, AreBelow, entry_at, listed_at}
 use Rattle.whole_rows.specs.declared.entries.Entry.{Entry}
 
--- Which number stands at place k of a list? Past its end zero.
+-- The number at place k of a list, and zero past its end.
 abbrev pub number_at : List ℤ → ℕ → ℤ
 number_at nums k = slice_index_or nums k (pos 0)
 
@@ -14,11 +14,11 @@ number_at nums k = slice_index_or nums k (pos 0)
 abbrev pub AreWithin : ℕ → List ℤ → Type 0
 AreWithin most nums = (k : ℕ) → unsigned_abs (number_at nums k) ≤ most
 
--- Is no number listed greater in size than `most`?
+-- Is no listed number greater in size than `most`?
 abbrev pub AreListedWithin : ℕ → List Entry → Type 0
 AreListedWithin most entries = (j : ℕ) → unsigned_abs (entry_at entries j).num ≤ most
 
--- Are these numbers of the list, none of them zero, in order of their places?
+-- Are these nonzero numbers of the list, in order of their places?
 pub record AreFrom (nums : List ℤ) (entries : List Entry) : Type 0 where
   pub sparse : AreSparse entries
   pub below : AreBelow (length nums) entries
@@ -36,7 +36,7 @@ entry_of c = record { place = c.column; num = pos c.number }
 abbrev pub AreFirst : ℕ → List Coefficient → List Entry → Type 0
 AreFirst m cs entries = entries ≡ map entry_of (take m cs)
 
--- Are these the numbers of the places before `end` that aren't zero, in order of their places?
+-- Are these the nonzero numbers of the places before `end`, in order of their places?
 pub record AreListedTo (end : ℕ) (nums : List ℤ) (entries : List Entry) : Type 0 where
   pub sparse : AreSparse entries
   pub below : AreBelow end entries
@@ -47,7 +47,7 @@ pub record AreListedTo (end : ℕ) (nums : List ℤ) (entries : List Entry) : Ty
 abbrev pub AreZeroBetween : List ℤ → ℕ → ℕ → Type 0
 AreZeroBetween nums first last = (k : ℕ) → first ≤ k → k < last → number_at nums k ≡ pos 0
 
--- Is f / p the fraction top / bottom with a common divisor taken off?
+-- Is f / p the fraction top / bottom with a common divisor removed?
 pub record IsCancelled (top bottom f p : ℤ) : Type 0 where
   pub divisor : ℤ
   pub above : pos 0 <ℤ divisor
@@ -59,29 +59,29 @@ pub record IsCancelled (top bottom f p : ℤ) : Type 0 where
 abbrev pub DividesEach : ℕ → List ℤ → Type 0
 DividesEach d nums = (k : ℕ) → d ∣ unsigned_abs (number_at nums k)
 
--- Is each number after a division `by` times less than before?
+-- Is each number before a division `by` times what it is after?
 pub record AreDivided (before : List ℤ) (by : ℤ) (after : List ℤ) : Type 0 where
   pub as_many : length after ≡ length before
   pub each : (k : ℕ) → number_at before k ≡ number_at after k *ℤ by
 
--- Is each number what it was, so many times?
+-- Is each number `by` times what it was?
 pub record AreTimes (before : List ℤ) (by : ℤ) (after : List ℤ) : Type 0 where
   pub as_many : length after ≡ length before
   pub each : (k : ℕ) → number_at after k ≡ number_at before k *ℤ by
 
--- Is each number from place `first` up to place `last` what it was, so many times, and each other one as before?
+-- Is each number from place `first` up to place `last` `by` times what it was, and each other one as before?
 pub record AreTimesBetween (first last : ℕ) (before : List ℤ) (by : ℤ) (after : List ℤ) : Type 0 where
   pub as_many : length after ≡ length before
   pub done : (k : ℕ) → first ≤ k → k < last → number_at after k ≡ number_at before k *ℤ by
   pub earlier : (k : ℕ) → k < first → number_at after k ≡ number_at before k
   pub rest : (k : ℕ) → last ≤ k → number_at after k ≡ number_at before k
 
--- Is each number what is left when f times the listed one is taken away?
+-- Is each number what is left if f times the listed one is subtracted?
 pub record AreLess (before : List ℤ) (f : ℤ) (entries : List Entry) (after : List ℤ) : Type 0 where
   pub as_many : length after ≡ length before
   pub each : (k : ℕ) → number_at after k ≡ number_at before k -ℤ (f *ℤ listed_at entries k)
 
--- Is each number what is left when it is taken p times and f times the listed one is taken away, where that at place k was 0 instead?
+-- Is each number p times what it was, less f times the listed one? The number at place k counts as 0 before.
 pub record AreTaken (before : List ℤ) (k : ℕ) (p f : ℤ) (entries : List Entry) (after : List ℤ) : Type 0 where
   pub as_many : length after ≡ length before
   pub own : number_at after k ≡ pos 0 -ℤ (f *ℤ listed_at entries k)
@@ -95,6 +95,6 @@ pub record IsSameRow (row tight : RowDef) : Type 0 where
   pub limit : row.limit ≡ tight.limit *ℤ divisor
   pub den : row.den ≡ tight.den *ℤ divisor
 
--- The row where the number at place k and the denominator change places.
+-- The row after the number at place k and the denominator are swapped.
 abbrev pub swapped : RowDef → ℕ → RowDef
 swapped row k = record { nums = slice_set row.nums k row.den; limit = row.limit; den = num_at row k }

@@ -1,4 +1,4 @@
--- What the parts of a `Pivot` are as a row that is taken from others, and what every `Pivot` keeps.
+-- What contracts see of a `Pivot` as a row that is subtracted from others, and what every `Pivot` keeps.
 use Rattle.std.specs.Prelude.{ℕ, ◌<◌, ◌≤◌, ◌^◌, pos, ◌<ℤ◌, unsigned_abs}
 use Rattle.whole_rows.specs.Rows.{PivotDef, AreSparse, entry_at}
 use Rattle.whole_rows.specs.Large.{IsSizeInPivot}
@@ -7,8 +7,8 @@ use Rattle.whole_rows.specs.declared.pivot.Pivot.TheInside.{Inside}
 abbrev pub pivot_view : Inside → PivotDef
 pivot_view pivot = record { entries = pivot.entries.items; limit = pivot.limit; den = pivot.den }
 
--- Do the places rise, is no number zero, is the denominator above zero, and is this the greatest size of a number or of the limit, which
--- fits?
+-- Do the places rise, is no number zero, and is the denominator above zero? And is this the greatest size of a number or of the limit, and
+-- does it fit?
 pub record IsBoundedPivot (pivot : PivotDef) (most : ℕ) : Type 0 where
   pub sparse : AreSparse pivot.entries
   pub positive : pos 0 <ℤ pivot.den

@@ -1,4 +1,4 @@
--- What the parts of a `WholeRow` are as a row, and what every `WholeRow` keeps.
+-- What contracts see of a `WholeRow` as a row, and what every `WholeRow` keeps.
 use Rattle.std.specs.Prelude.{ℕ, ◌<◌, ◌≤◌, ◌^◌, pos, ◌<ℤ◌, unsigned_abs}
 use Rattle.whole_rows.specs.Rows.{RowDef, num_at}
 use Rattle.whole_rows.specs.declared.row.WholeRow.TheInside.{Inside}

@@ -1,4 +1,4 @@
--- What contracts see of a row of whole numbers over one denominator, and of its numbers that aren't zero as a list.
+-- What contracts see of a row of whole numbers over one denominator, and of its nonzero numbers as a list.
 use Rattle.std.specs.Prelude.{◌≡◌, ◌≢◌, ℕ, ◌<◌, ◌==◌, if◌then◌else◌, List, [], ◌∷◌, map, length, slice_index_or, ℤ, pos}
 use Rattle.std.specs.List.{range_with_len}
 use Rattle.fraction128.specs.Fraction.{Fraction, over}
@@ -12,23 +12,23 @@ pub record RowDef : Type 0 where
   pub limit : ℤ
   pub den : ℤ
 
--- Which number stands at place k? Past the places zero.
+-- The number at place k, and zero past the places.
 abbrev pub num_at : RowDef → ℕ → ℤ
 num_at row k = slice_index_or row.nums k (pos 0)
 
--- Which fraction is that?
+-- The fraction at place k.
 abbrev pub cell_at : RowDef → ℕ → Fraction
 cell_at row k = over (num_at row k) row.den
 
--- Which fraction is the limit?
+-- The limit as a fraction.
 abbrev pub limit_of : RowDef → Fraction
 limit_of row = over row.limit row.den
 
--- The row of n places that coefficients and a limit are, over 1.
+-- The row of n places with these coefficients and this limit, over 1.
 abbrev pub coefficient_row : ℕ → List Coefficient → ℕ → RowDef
 coefficient_row n cs limit = record { nums = map (λ v. pos (number_at cs v)) (range_with_len 0 n); limit = pos limit; den = pos 1 }
 
--- Which number is listed at place k? Zero where k isn't listed.
+-- The number at place k, and zero if k isn't listed.
 abbrev pub listed_at : List Entry → ℕ → ℤ
 listed_at [] k = pos 0
 listed_at (e ∷ es) k = if e.place == k then e.num else listed_at es k
@@ -46,13 +46,13 @@ pub record AreSparse (entries : List Entry) : Type 0 where
 abbrev pub AreBelow : ℕ → List Entry → Type 0
 AreBelow end entries = (j : ℕ) → j < length entries → (entry_at entries j).place < end
 
--- The numbers of a row that aren't zero, its limit and its denominator.
+-- The nonzero numbers of a row, its limit and its denominator.
 pub record PivotDef : Type 0 where
   pub entries : List Entry
   pub limit : ℤ
   pub den : ℤ
 
--- Is it that of the row?
+-- Is it the pivot of the row?
 pub record IsPivotOf (pivot : PivotDef) (row : RowDef) : Type 0 where
   pub sparse : AreSparse pivot.entries
   pub below : AreBelow (length row.nums) pivot.entries

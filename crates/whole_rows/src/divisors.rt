@@ -9,7 +9,7 @@ ghost use Rattle.whole_rows.specs.Large.{IsReduced};
 use crate::numbers::divide_all;
 use fraction128::greatest_common_divisor;
 
-// A fraction with all its common divisors taken off.
+// A fraction with all its common divisors removed.
 pub(crate) fn cancelled(num: i64, den: i64) -> (i64, i64)
     requires positive { pos 0 <ℤ den }
     requires small { unsigned_abs num < 2 ^ 63 }
@@ -20,7 +20,7 @@ pub(crate) fn cancelled(num: i64, den: i64) -> (i64, i64)
     if den == 1 {
         return (num, den);
     }
-    // mostly the denominator divides the number, which is seen sooner than their greatest common divisor
+    // mostly the denominator divides the number, and to see this takes less time than their greatest common divisor
     if num % den == 0 {
         return (num / den, 1);
     }
@@ -28,7 +28,7 @@ pub(crate) fn cancelled(num: i64, den: i64) -> (i64, i64)
     (num / common, den / common)
 }
 
-// The greatest common divisor of all numbers and of `first`. The walk ends where it is 1.
+// The greatest common divisor of all numbers and of `first`. The walk ends once it is 1.
 pub(crate) fn common_divisor(nums: &[i64], first: u64) -> u64
     requires { 0 < first }
     ensures positive { 0 < result }
@@ -46,7 +46,7 @@ pub(crate) fn common_divisor(nums: &[i64], first: u64) -> u64
     common
 }
 
-// Divides the numbers of a row by the greatest common divisor of all its parts. The limit and the denominator divided by it.
+// Divides the numbers of a row by the greatest common divisor of all its parts. Answers the limit and the denominator, divided by it.
 pub(crate) fn divide_parts(nums: &mut [i64], limit: i64, den: i64) -> (i64, i64)
     requires positive { pos 0 <ℤ den }
     requires small { unsigned_abs limit < 2 ^ 63 }

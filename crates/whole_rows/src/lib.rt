@@ -1,7 +1,7 @@
-//! Rows of a table as whole numbers over one denominator each, and what an exchange does to them.
+//! Rows of a table as whole numbers, over one denominator for each row. And what an exchange does to such rows.
 //!
-//! A row has a number for each place, and one for its limit. Where a bound on its numbers passes 2^63 - 1 with all common divisors taken
-//! off, the answer is [`Large`]. Its cells, each in lowest terms, may well fit even so.
+//! A row has a number for each place, and one for its limit. If a bound on its numbers is above 2^63 - 1 after all common divisors are
+//! removed, the answer is [`Large`]. Its cells, each in lowest terms, may fit all the same.
 #![tactic(auto)]
 
 mod divisors;

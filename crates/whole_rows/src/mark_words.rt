@@ -4,7 +4,7 @@ ghost use Rattle.std.specs.Prelude.{◌≡◌, ◌≢◌, ◌⊎◌, ℕ, ◌+�
 ghost use Rattle.std.specs.Int.{bit_at};
 ghost use Rattle.whole_rows.specs.MarkWords.{KeepBits};
 
-// The word with one bit more.
+// The word with one more bit set.
 fn with_bit(word: u64, bit: usize) -> u64
     requires { bit < 64 }
     ensures own { bit_at result bit ≡ 1 }
@@ -63,7 +63,7 @@ pub(crate) fn join_word(words: &mut [u64], place: usize, bits: u64)
     words[place] = joined(words[place], bits);
 }
 
-// The place of the first bit that is set from one on, or 64 or more.
+// The position of the first bit that is set, from this one on, or 64 or more.
 pub(crate) fn next_bit(word: u64, bit: usize) -> usize
     requires { bit < 64 }
     ensures order { bit ≤ result }

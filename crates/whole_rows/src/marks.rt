@@ -1,4 +1,4 @@
-//! Marks of rows: for each variable of a table the rows that may list it, as bits. A column is read by them without a look at the
+//! Marks of rows: bits that say, for each variable of a table, which rows may list it. With them a column is read without a look at the
 //! other rows.
 
 ghost use Rattle.std.specs.Prelude.{◌≡◌, ◌≢◌, ◌⊎◌, ℕ, ◌<◌, ◌≤◌, ◌/◌, ◌%◌, IfOk};
@@ -8,9 +8,9 @@ ghost use Rattle.whole_rows.specs.Marks.{words_of, HasWord, HasWords, HasRow, Is
 use crate::mark_words::{clear_bit, join_word, next_bit, set_bit};
 use std::alloc::{AllocError, Global};
 
-/// For each variable of a table a bit for each row: the row may list the variable where it is set, and doesn't where it isn't.
+/// For each variable of a table a bit for each row. If it is set, the row may list the variable. If it isn't, the row doesn't.
 ///
-/// What a marked row lists is for its owner to say. A mark too many costs a look at that row, and no more.
+/// The marks don't say what a marked row lists. A mark too many costs only a look at that row.
 #[derive(Drop)]
 pub struct RowMarks {
     // how many words each variable has
@@ -19,8 +19,7 @@ pub struct RowMarks {
 }
 
 impl RowMarks {
-    /// No row is marked, and there is a bit for each of so many rows at each of so many variables. The error comes where there is no
-    /// memory for them.
+    /// No row is marked. There is a bit for each of this many rows at each of this many variables. It fails only for want of memory.
     pub fn none(alloc: Global, variables: usize, rows: usize) -> Result<RowMarks, AllocError>
         ensures none { IfOk result HaveNone }
         ensures room { IfOk result (HaveRoom variables rows) }
@@ -44,7 +43,7 @@ impl RowMarks {
         set_bit(&mut self.bits, place, i % 64);
     }
 
-    /// Takes the mark of row i at variable v away. All others stay.
+    /// Removes the mark of row i at variable v. All others stay.
     pub fn unmark(&mut self, v: usize, i: usize)
         requires row { HasRow self.old i }
         requires word { HasWord self.old v i }
@@ -83,7 +82,7 @@ impl RowMarks {
         join_word(&mut self.bits, place, bits);
     }
 
-    /// The first marked row at variable v from i on, or the end. Where a word marks none of its rows they are passed over at once.
+    /// The first marked row at variable v from i on, or the end. A word that marks none of its rows is skipped at once.
     pub fn next(&self, v: usize, i: usize, end: usize) -> usize
         requires order { i ≤ end }
         requires room { (j : ℕ) → j < end → HasWord self.now v j }

@@ -1,5 +1,5 @@
-//! What is done to all numbers of a row. The loops of `multiply_all` and `take_listed`, which an exchange runs through for each row that
-//! it changes, have no call, no check and no branch. In one function with the run they would lack registers, so they aren't inlined.
+//! What is done to all numbers of a row. An exchange runs the loops of `multiply_all` and `take_listed` for each row that it changes. They
+//! have no call, no check and no branch. They aren't inlined, since in one function with the run they would lack registers.
 
 ghost use Rattle.std.specs.Prelude.{◌≡◌, ◌⊎◌, ℕ, ◌+◌, ◌*◌, ◌≤◌, ◌<◌, ◌^◌, length, pos, ◌-ℤ◌, ◌*ℤ◌, ◌<ℤ◌, unsigned_abs};
 ghost use Rattle.whole_rows.specs.Rows.{AreSparse, AreBelow, entry_at, listed_at};
@@ -7,7 +7,7 @@ ghost use Rattle.whole_rows.specs.Numbers.{number_at, AreWithin, DividesEach, Ar
 
 use crate::entries::Entry;
 
-// How many numbers are multiplied in one round.
+// How many numbers are multiplied in one pass of the loop.
 const BLOCK: usize = 8;
 
 // The greatest size of the numbers, and of a first one.
@@ -35,8 +35,8 @@ pub(crate) fn divide_all(nums: &mut [i64], by: i64)
     }
 }
 
-// Takes a block of numbers from place `first` on so many times. As their count is fixed they are multiplied one by one, without a
-// loop; a loop would multiply two together, and that takes longer than two products of 64 bits.
+// Multiplies a block of numbers, from place `first` on. Their count is fixed, so they are multiplied one by one, without a loop. A loop
+// would multiply two together, which takes longer than two products of 64 bits.
 fn multiply_block(nums: &mut [i64], first: usize, by: i64)
     requires within { first + BLOCK ≤ length nums.old }
     requires room { (k : ℕ) → first ≤ k → unsigned_abs (number_at nums.old k *ℤ by) < 2 ^ 63 }
@@ -47,7 +47,7 @@ fn multiply_block(nums: &mut [i64], first: usize, by: i64)
     }
 }
 
-// Takes each number from place `first` up to place `last` so many times.
+// Multiplies each number from place `first` up to place `last`.
 fn multiply_between(nums: &mut [i64], first: usize, last: usize, by: i64)
     requires order { first ≤ last }
     requires within { last ≤ length nums.old }
@@ -59,7 +59,7 @@ fn multiply_between(nums: &mut [i64], first: usize, last: usize, by: i64)
     }
 }
 
-// Takes each number so many times.
+// Multiplies each number.
 #[inline(never)]
 fn multiply_all(nums: &mut [i64], by: i64)
     requires room { (k : ℕ) → unsigned_abs (number_at nums.old k *ℤ by) < 2 ^ 63 }
@@ -78,7 +78,7 @@ fn multiply_all(nums: &mut [i64], by: i64)
     multiply_between(nums, first, last, by);
 }
 
-// Takes f times each number listed away from the one at its place.
+// Subtracts f times each listed number from the number at its place.
 #[inline(never)]
 fn take_listed(nums: &mut [i64], entries: &[Entry], f: i64)
     requires sparse { AreSparse entries.now }
@@ -92,7 +92,7 @@ fn take_listed(nums: &mut [i64], entries: &[Entry], f: i64)
     }
 }
 
-// Takes f times each number listed away from the numbers taken p times, where 0 stands at place k.
+// Multiplies the numbers by p and subtracts f times each listed number. The number at place k counts as 0 before.
 pub(crate) fn take_from(nums: &mut [i64], k: usize, p: i64, f: i64, entries: &[Entry])
     requires place { k < length nums.old }
     requires sparse { AreSparse entries.now }

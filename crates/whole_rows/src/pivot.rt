@@ -1,4 +1,4 @@
-//! The row that is taken from the others in an exchange.
+//! The row that is subtracted from the others in an exchange.
 
 ghost use Rattle.std.specs.Prelude.{◌≡◌, ◌⊎◌, ℕ, ◌+◌, ◌<◌, ◌≤◌, ◌^◌, [], length, pos, ◌<ℤ◌, unsigned_abs, IsTrue, IfOk};
 ghost use Rattle.program_form.specs.SparseRows.{coefficient_at, AreCoefficients};
@@ -12,13 +12,13 @@ use program_form::Coefficient;
 use std::alloc::{AllocError, Global};
 use std::marker::Model;
 
-/// The numbers of a row that aren't zero, in order of their places, with its limit and its denominator.
+/// The nonzero numbers of a row, in order of their places, with its limit and its denominator.
 #[derive(Drop)]
 pub struct Pivot {
     entries: Vec<Entry>,
     limit: i64,
     den: i64,
-    // the greatest size among the numbers above but the denominator
+    // the greatest size of the numbers and of the limit
     most: u64,
 }
 
@@ -35,7 +35,7 @@ impl Model for Pivot {
 }
 
 impl Pivot {
-    /// That of a row without numbers. It takes no memory.
+    /// The pivot of a row without numbers. It takes no memory.
     pub fn none(alloc: Global) -> Pivot
         ensures { result ≡ record { entries = []; limit = pos 0; den = pos 1 } }
     {
@@ -47,7 +47,7 @@ impl Pivot {
         }
     }
 
-    /// Becomes that of a row. The error comes where there is no memory for it.
+    /// Becomes the pivot of a row. It fails only for want of memory.
     pub fn read(&mut self, row: &WholeRow) -> Result<(), AllocError>
         ensures { IfOk result (λ _. IsPivotOf self.new row.now) }
     {
@@ -58,8 +58,8 @@ impl Pivot {
         listed
     }
 
-    /// Becomes that of a row over 1 with these coefficients, each at the place of its column, and this limit. The error comes where there
-    /// is no memory for it.
+    /// Becomes the pivot of the row over 1 with these coefficients, each at the place of its column, and this limit. It fails only for want
+    /// of memory.
     pub fn read_coefficients(
         &mut self,
         coefficients: &[Coefficient],
@@ -78,7 +78,7 @@ impl Pivot {
         listed
     }
 
-    /// The numbers that aren't zero.
+    /// The nonzero numbers.
     pub fn entries(&self) -> &[Entry]
         ensures value { result.now ≡ self.now.entries }
         ensures sparse { AreSparse result.now }
@@ -112,7 +112,7 @@ impl Pivot {
 // How many numbers are looked at together.
 const BLOCK: usize = 8;
 
-// Whether a whole block of numbers stands from place `first` on, and all of it is zero.
+// Whether there is a whole block of numbers from place `first` on, and all of it is zero.
 fn is_zero_block(nums: &[i64], first: usize) -> bool
     requires { first ≤ length nums.now }
     ensures whole { IsTrue result → first + BLOCK ≤ length nums.now }
@@ -128,7 +128,7 @@ fn is_zero_block(nums: &[i64], first: usize) -> bool
     zero
 }
 
-// Adds the numbers that aren't zero, from place `first` up to place `last`, to a list of those before.
+// Adds the nonzero numbers, from place `first` up to place `last`, to a list of those before.
 fn list_between(
     list: &mut Vec<Entry>,
     nums: &[i64],
@@ -150,7 +150,7 @@ fn list_between(
     Ok(())
 }
 
-// The numbers that aren't zero, at their places, in the memory of a list. Where there is none for all of them, some.
+// Writes the nonzero numbers, at their places, into the memory of a list. If there isn't enough for all of them, it writes some.
 fn list_nums(list: &mut Vec<Entry>, nums: &[i64]) -> Result<(), AllocError>
     ensures from { AreFrom nums.now list.new.items }
     ensures all { IfOk result (λ _. AreListed nums.now list.new.items) }
@@ -158,7 +158,7 @@ fn list_nums(list: &mut Vec<Entry>, nums: &[i64]) -> Result<(), AllocError>
     list.clear();
     let mut first = 0;
     while first < nums.len() {
-        // most blocks are zero, and that is seen sooner without a branch for each number
+        // most blocks are all zeros; to see this takes no branch for each number
         if is_zero_block(nums, first) {
             first += BLOCK;
         } else {
@@ -170,7 +170,7 @@ fn list_nums(list: &mut Vec<Entry>, nums: &[i64]) -> Result<(), AllocError>
     Ok(())
 }
 
-// The coefficients, in the memory of a list. Where there is none for all of them, some.
+// Writes the coefficients into the memory of a list. If there isn't enough for all of them, it writes some.
 fn list_coefficients(list: &mut Vec<Entry>, coefficients: &[Coefficient]) -> Result<(), AllocError>
     requires { (j : ℕ) → j < length coefficients.now → (coefficient_at coefficients.now j).number < 2 ^ 63 }
     ensures first { (m : ℕ) × AreFirst m coefficients.now list.new.items }
@@ -186,7 +186,7 @@ fn list_coefficients(list: &mut Vec<Entry>, coefficients: &[Coefficient]) -> Res
     Ok(())
 }
 
-// The greatest size of the numbers listed, and of a first one.
+// The greatest size of the listed numbers, and of a first one.
 fn greatest_listed(entries: &[Entry], first: u64) -> u64
     ensures first { first ≤ result }
     ensures all { AreListedWithin result entries.now }

@@ -17,7 +17,7 @@ use thiserror::Error;
 // The greatest size of a number.
 const MOST: u64 = i64::MAX as u64;
 
-/// A bound on the numbers over the row's denominator passes 2^63 - 1.
+/// A bound on the numbers over the row's denominator is above 2^63 - 1.
 #[derive(Clone, Copy, Debug, PartialEq, Eq, Error)]
 #[error("a number over the row's denominator passes 2^63 - 1")]
 pub struct Large;
@@ -28,7 +28,7 @@ pub struct WholeRow {
     nums: Vec<i64>,
     limit: i64,
     den: i64,
-    // no number above is greater in size, the denominator neither
+    // no number above is greater in size, and the denominator isn't either
     most: u64,
 }
 
@@ -45,7 +45,7 @@ impl Model for WholeRow {
 }
 
 impl WholeRow {
-    /// The row of these numbers over 1, none of which is greater in size than `most`.
+    /// The row of these numbers over 1. None of them is greater in size than `most`.
     pub fn over_one(nums: Vec<i64>, limit: i64, most: u64) -> WholeRow
         requires nums { (k : ℕ) → unsigned_abs (slice_index_or nums.items k (pos 0)) ≤ most }
         requires limit { unsigned_abs limit ≤ most }
@@ -101,20 +101,20 @@ impl WholeRow {
         self.den
     }
 
-    /// Divides the row by its cell at place k, which the variable that leaves takes.
+    /// Divides the row by its cell at place k. The variable that leaves takes over that place.
     pub fn enter(&mut self, k: usize)
         requires place { k < length self.old.nums }
         requires above { pos 0 <ℤ num_at self.old k }
         ensures { IsDividedRow self.old k self.new }
     {
         self.swap_in(k);
-        // over 1 there is nothing to take off
+        // over 1 there is nothing to remove
         if self.den != 1 {
             self.reduce();
         }
     }
 
-    // The number at place k and the denominator change places.
+    // Swaps the number at place k and the denominator.
     fn swap_in(&mut self, k: usize)
         requires place { k < length self.old.nums }
         requires above { pos 0 <ℤ num_at self.old k }
@@ -126,7 +126,7 @@ impl WholeRow {
         self.den = num;
     }
 
-    // Divides all numbers by their greatest common divisor. None becomes greater, so the bound stays as it is.
+    // Divides all numbers by their greatest common divisor. None becomes greater, so the bound stays.
     fn reduce(&mut self)
         ensures same { IsSameRow self.old self.new }
         ensures small { AreSmallCells self.new }
@@ -144,7 +144,7 @@ impl WholeRow {
         self.most
     }
 
-    // The same, and measures all numbers anew. Gives the greatest size.
+    // The same, after all numbers are measured anew. Answers the greatest size.
     fn tighten(&mut self) -> u64
         ensures same { IsSameRow self.old self.new }
         ensures lowest { IsReduced self.new }
@@ -157,9 +157,9 @@ impl WholeRow {
         self.most
     }
 
-    /// Takes its cell at place k times a divided row away. There what was 0 is taken from, the cell of the variable that leaves. Large
-    /// comes only where a bound on what is left passes 2^63 - 1 even with all common divisors taken off: a size of the row times p, and a
-    /// size of the pivot times that of f, where f / p is the cell over the pivot's denominator.
+    /// Subtracts a divided row times the row's own cell at place k. At place k it subtracts from 0, which is the cell of the variable that
+    /// leaves. `Large` comes only if a bound on what is left is above 2^63 - 1 even with all common divisors removed. The bound is a size
+    /// of the row times p, and a size of the pivot times that of f, where f / p is the cell over the pivot's denominator.
     pub fn take(&mut self, k: usize, pivot: &Pivot) -> Result<(), Large>
         requires place { k < length self.old.nums }
         requires below { AreBelow (length self.old.nums) pivot.now.entries }
@@ -177,7 +177,7 @@ impl WholeRow {
         }
     }
 
-    // The same where the bound on what is left fits, with `most` for a bound on the row. Where it doesn't the row stays as it is.
+    // The same if the bound on what is left fits, with `most` as a bound on the row. If it doesn't fit, the row stays.
     fn take_within(&mut self, k: usize, pivot: &Pivot, most: u64) -> Result<(), Large>
         requires place { k < length self.old.nums }
         requires below { AreBelow (length self.old.nums) pivot.now.entries }
@@ -200,7 +200,7 @@ impl WholeRow {
     }
 }
 
-// A number taken p times less f times another.
+// A number times p, less f times another.
 #[inline(always)]
 fn less_times(num: i64, p: i64, f: i64, other: i64) -> i64
     requires { unsigned_abs num * unsigned_abs p + unsigned_abs f * unsigned_abs other < 2 ^ 63 }
@@ -209,7 +209,7 @@ fn less_times(num: i64, p: i64, f: i64, other: i64) -> i64
     num * p - f * other
 }
 
-// A bound on numbers taken p times less f times others, where `most` and `others` bound both; None where it passes 2^63 - 1.
+// A bound on numbers times p, less f times others, if `most` and `others` bound both. None if it is above 2^63 - 1.
 fn bound_after(most: u64, p: i64, f: i64, others: u64) -> Option<u64>
     ensures value { IfSome result (λ bound. bound ≡ most * unsigned_abs p + unsigned_abs f * others) }
     ensures fits { IfSome result (λ bound. bound < 2 ^ 63) }

@@ -20,7 +20,7 @@ use Rattle.whole_runs.specs.declared.stands.Stand.{Stand}
 use Rattle.whole_runs.specs.declared.stands.Stand.TheVariants.{Outside, Basic}
 use Rattle.whole_runs.proofs.Seen.{cell_of_limit, cell_of_variable}
 
--- each variable stands at a place, or in a row of the program
+-- each variable is at a place, or in a row of the program
 pub stand_of : (p : ProgramDef) (basis : List ℕ) (stands : List Stand) → AreStands p basis stands
     → (v : ℕ) → v < variables p → IsStandOf p (stand_at stands v)
 stand_of p basis stands h v l = by_case (stand_at stands v) refl

@@ -19,7 +19,7 @@ use Rattle.whole_runs.proofs.Smalls.{small_zero, small_one, one_of_same, zero_ov
 use Rattle.whole_runs.proofs.Standing.{IsBegun, stands_after, variable_cases, stand_left, stand_entered, left_basic}
 use Rattle.whole_runs.proofs.Standing.{place_apart, row_apart, new_basis_own, new_basis_other}
 
--- what the place of a variable reads that stands so
+-- the cell at the place of a variable with this stand
 pub cell_read : (p : ProgramDef) (rows : List (Option RowDef)) (stands : List Stand) (i v : ℕ) (s : Stand) → v < variables p
     → stand_at stands v ≡ s → table_cell p rows stands i v ≡ stand_cell p (row_at rows i) i s
 cell_read p rows stands i v s l at = cell_of_variable p rows stands i v l ∙ ap (stand_cell p (row_at rows i) i) at
@@ -105,7 +105,7 @@ taken_limit p rows rows' k r many h = record {
   taken = λ i l away. rw (← h.here.limit) (h.taken i (omega arith) away).limit;
 }
 
--- Another variable stands as before.
+-- Another variable is where it was.
 taken_other : (p : ProgramDef) (rows rows' : List (Option RowDef)) (basis : List ℕ) (stands : List Stand) (e k r v : ℕ) (s : Stand)
     → length rows ≡ height p + 1 → IsBegun p basis stands e k r → AreExchanged p rows rows' k r → v < variables p
     → v ≢ e → v ≢ slice_index basis r → stand_at stands v ≡ s → stand_at (stands_after basis stands e k r) v ≡ s

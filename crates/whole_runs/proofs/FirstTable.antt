@@ -18,7 +18,7 @@ use Rattle.whole_runs.specs.declared.stands.Stand.{Stand}
 use Rattle.whole_runs.specs.declared.stands.Stand.TheVariants.{Outside, Basic}
 use Rattle.whole_runs.proofs.Seen.{cell_of_limit, cell_of_variable, cell_past}
 
--- How does variable v stand at first: as a column at its own place, or as a slack in its row?
+-- Where is variable v at first: at its own place as a column, or in its row as a slack?
 record IsColumnStand (p : ProgramDef) (stands : List Stand) (v : ℕ) : Type 0 where
   pub within : v < columns p
   pub outside : stand_at stands v ≡ Outside v

@@ -50,7 +50,7 @@ inverse_apart a c small_a small_c h none =
     gone : (x : ℤ) → pos 0 <ℤ x → x ≡ pos 0 → ⊥
     gone x l h = omega (arith, ints)
 
--- The variable that leaves stands where the entering one stood.
+-- The variable that leaves is where the entering one was.
 pub placed_after : (p : ProgramDef) (basis : List ℕ) (stands : List Stand) (outside : List ℕ) (e k r : ℕ)
     → IsBegun p basis stands e k r → ArePlaced p outside stands
     → ArePlaced p (set outside k (slice_index basis r)) (stands_after basis stands e k r)

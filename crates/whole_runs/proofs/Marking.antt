@@ -36,7 +36,7 @@ difference_none a product b small_a small_product none_a none_product h =
     gone : (x y : ℤ) → (pos 0 *ℤ x) -ℤ (pos 0 *ℤ y) ≡ pos 0
     gone x y = omega (arith, ints)
 
--- Where nothing was, and nothing is taken away, nothing is.
+-- If there was nothing, and nothing is subtracted, nothing is left.
 less_none : (a f y b : Fraction) → IsSmall a → IsSmall f → IsSmall y → a.num ≡ pos 0 → f.num *ℤ y.num ≡ pos 0
     → IsLessOver IsSmall a f y b → b.num ≡ pos 0
 less_none a f y b small_a small_f small_y none_a none h =

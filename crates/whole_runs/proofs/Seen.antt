@@ -1,4 +1,4 @@
--- The cells of the table that rows and stands are, place by place.
+-- The cells of the table of rows and stands, place by place.
 use Rattle.std.proofs.Common.{◌≡◌, ℕ, ◌<◌, List, pos, refl, arith}
 use Rattle.std.specs.declared.option.Option.{Option}
 use Rattle.std.proofs.lemmas.Bool.{eq-eqb, ne_eqb, lt-ltb, le-ltb}

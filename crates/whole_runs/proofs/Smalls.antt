@@ -49,7 +49,7 @@ less_nothing a = record { same = nothing a.num a.den }
         back : (x y : ℤ) → x ≡ (x *ℤ pos 1) -ℤ (pos 0 *ℤ y)
         back x y = omega (arith, ints)
 
--- Nothing is taken away where the product is zero.
+-- If the product is zero, nothing is subtracted.
 kept : (a f y : Fraction) → f.num *ℤ y.num ≡ pos 0 → IsSmall a → IsLessOver IsSmall a f y a
 kept a f y none small = record {
   product = whole (pos 0);

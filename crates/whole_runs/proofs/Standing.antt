@@ -58,7 +58,7 @@ stand_other basis stands e k r v apart_e apart_b =
     get_or-set_other (set stands e (Basic r)) (slice_index basis r) v (Outside k) (Basic 0) apart_b
     ∙ get_or-set_other stands e v (Basic r) (Basic 0) apart_e
 
--- A variable is the one that enters, the one that leaves, or another, which stands as before.
+-- A variable is the one that enters, the one that leaves, or another one, which is where it was.
 pub variable_cases : (basis : List ℕ) (stands : List Stand) (e k r v : ℕ)
     → (v ≡ e) ⊎ ((v ≡ slice_index basis r) ⊎ ((v ≢ e) × (v ≢ slice_index basis r)
     × (stand_at (stands_after basis stands e k r) v ≡ stand_at stands v)))
@@ -121,7 +121,7 @@ of_row_after p basis stands e k r v i h l at = elim (variable_cases basis stands
     clash : (i k : ℕ) → Basic i ≡ Outside k → ⊥
     clash i k h = cc
 
--- Who stands outside at place j after the exchange: the leaving variable at k, or one that stood there.
+-- Which variable is outside at place j after the exchange: the leaving one at k, or one that was there.
 pub outside_cases : (p : ProgramDef) (basis : List ℕ) (stands : List Stand) (e k r v j : ℕ) → IsBegun p basis stands e k r → v < variables p
     → stand_at (stands_after basis stands e k r) v ≡ Outside j
     → ((v ≡ slice_index basis r) × (j ≡ k)) ⊎ ((j ≢ k) × (stand_at stands v ≡ Outside j))

@@ -49,7 +49,7 @@ unlisted_zero (e ∷ es) i none =
     let away : e.place ≢ i = none zero (omega arith) in
     rw (ne_eqb e.place i away) (unlisted_zero es i (λ m l. none (suc m) (omega arith)))
 
--- what stands in the rows where one of them is set
+-- what is in the rows after one of them is set
 pub row_set : (rows : List (Option RowDef)) (i : ℕ) (row : Option RowDef) → i < length rows → row_at (set rows i row) i ≡ row
 row_set rows i row l = get_or-set_same rows i row None l
 
@@ -107,7 +107,7 @@ divided_one p r k pivot before row divided touched h is = record {
   is_pivot = is;
 }
 
--- A row over 1 that has 1 at k is divided as it stands.
+-- A row over 1 that has 1 at k is divided without a change.
 divided_first : (p : ProgramDef) (r k : ℕ) (row : RowDef) → IsProgram p → IsTouched p r None row → entry p r k ≡ 1
     → IsDivided p r None k row
 divided_first p r k row is touched one = record {

@@ -1,4 +1,4 @@
--- What the choice of the entering variable and of the leaving row answers.
+-- What does the choice of the entering variable and of the leaving row answer?
 use Rattle.std.specs.Prelude.{◌≡◌, ℕ, ◌<◌, ◌≤◌, ◌^◌, Bool, true, false, List, length, slice_index}
 use Rattle.std.specs.Prelude.{Some, None, pos, ◌≤ℤ◌, ◌<ℤ◌, unsigned_abs}
 use Rattle.std.specs.declared.option.Option.{Option}
@@ -14,15 +14,15 @@ use Rattle.whole_runs.specs.declared.choice.Ratio.{Ratio}
 use Rattle.whole_runs.specs.declared.stands.Stand.{Stand}
 use Rattle.whole_runs.specs.declared.stands.Stand.TheVariants.{Outside}
 
--- Has no variable below `end` that stands outside the basis a number above zero?
+-- Is no number above zero, of the variables below `end` that are outside the basis?
 abbrev pub AreNoneAbove : RowDef → List Stand → ℕ → Type 0
 AreNoneAbove row stands end = (v k : ℕ) → v < end → stand_at stands v ≡ Outside k → num_at row k ≤ℤ pos 0
 
--- The same of the objective row, which is the last.
+-- The same for the objective row, which is the last.
 abbrev pub IsFrom : ProgramDef → List (Option RowDef) → List Stand → ℕ → Type 0
 IsFrom p rows stands from = (row : RowDef) → row_at rows (height p) ≡ Some row → AreNoneAbove row stands from
 
--- The first variable outside the basis whose number is above zero, with its place, or None where there is none.
+-- The first variable outside the basis whose number is above zero, with its place; none if there is none.
 abbrev pub IsFirstAbove : Option (ℕ × ℕ) → RowDef → List Stand → Type 0
 IsFirstAbove (Some e) row stands =
     (e.0 < length stands) × (stand_at stands e.0 ≡ Outside e.1) × (pos 0 <ℤ num_at row e.1) × AreNoneAbove row stands e.0
@@ -41,12 +41,12 @@ pub record IsRatioRead (p : ProgramDef) (rows : List (Option RowDef)) (cell : En
   pub small_num : unsigned_abs cell.num < 2 ^ 63
   pub small_limit : unsigned_abs ratio.limit < 2 ^ 63
 
--- That ratio, or None where the number isn't above zero.
+-- That ratio, or none if the number isn't above zero.
 abbrev pub ReadsRatio : Option Ratio → ProgramDef → List (Option RowDef) → Entry → Type 0
 ReadsRatio (Some ratio) p rows cell = IsRatioRead p rows cell ratio
 ReadsRatio None p rows cell = cell.num ≤ℤ pos 0
 
--- Is it the ratio of its row where e enters, and is there one?
+-- Has the row a ratio if e enters, and is it this one?
 pub record IsRatioOf (place : ℕ) (t : Table) (e : ℕ) (ratio : Ratio) : Type 0 where
   pub has : HasRatio t e ratio.row
   pub is : IsRatioOver IsSmall place t e ratio.row (value_of ratio)
@@ -64,7 +64,7 @@ Comes false next best basis =
 abbrev pub IsLeastOf : ℕ → Table → ℕ → ℕ → Ratio → Type 0
 IsLeastOf place t e k ratio = IsLeastOver IsSmall place t e k ratio.row (value_of ratio)
 
--- The same, or None where no row below k has a ratio.
+-- The same, or none if no row below k has a ratio.
 abbrev pub IsLeastSoFar : ℕ → Table → ℕ → ℕ → Option Ratio → Type 0
 IsLeastSoFar place t e k None = (i : ℕ) → i < k → HasRatio t e i → ⊥
 IsLeastSoFar place t e k (Some ratio) = IsLeastOf place t e k ratio

@@ -1,4 +1,4 @@
--- What a whole run answers.
+-- What does a whole run answer?
 use Rattle.std.specs.Prelude.{◌≡◌, ℕ, ◌<◌, List, length, Result, Ok, Err, Some, pos}
 use Rattle.std.specs.declared.option.Option.{Option}
 use Rattle.fraction128.specs.Fraction.{Fraction, whole}
@@ -18,7 +18,7 @@ use Rattle.whole_runs.specs.declared.stands.Stand.TheVariants.{Outside, Basic}
 use Rattle.whole_runs.specs.declared.stops.Halt.{Halt}
 use Rattle.whole_runs.specs.declared.stops.Halt.TheVariants.{Memory, Large, Units}
 
--- The end of the exchange run, or Units only where it needs more of them, or Large only where whole numbers don't serve it. Memory says
+-- The end of the exchange run. Or Units, only if it needs more units. Or Large, only if whole numbers aren't enough for it. Memory says
 -- nothing.
 abbrev pub Runs : Result Ended Halt → ProgramDef → ℕ → Type 0
 Runs (Ok e) p units = EndsWithin p units e.exchanges e.value e.primal.items (dual_seen e.dual)
@@ -26,19 +26,19 @@ Runs (Err Memory) p units = Unit {0}
 Runs (Err Large) p units = IsLargeWithin p units
 Runs (Err Units) p units = NeedsMoreThan p units
 
--- What is asked for, or Large for the given cause. Memory says nothing, and Units isn't an answer.
+-- What is asked for, or Large for this cause. Memory says nothing, and Units never comes.
 abbrev pub GivesOrStops : {X : Type 0} → Result X Halt → (X → Type 0) → Type 0 → Type 0
 GivesOrStops (Ok x) is cause = is x
 GivesOrStops (Err Memory) is cause = Unit {0}
 GivesOrStops (Err Large) is cause = cause
 GivesOrStops (Err Units) is cause = ⊥
 
--- What is read off the last table, or Large where its end is wide.
+-- What is read from the last table, or Large if its end is wide.
 abbrev pub Finishes : Result Ended Halt → ProgramDef → Table → ℕ → Type 0
 Finishes result p t k =
     GivesOrStops result (λ e. (e.exchanges ≡ k) × IsReadOff p t e.value e.primal.items (dual_seen e.dual)) (IsWideEnd p t)
 
--- Which cell has the objective row where a variable stands so?
+-- The cell of the objective row for a variable with this stand.
 abbrev pub objective_cell : ProgramDef → RowDef → Stand → Fraction
 objective_cell p objective stand = stand_cell p (Some objective) (height p) stand
 
@@ -47,7 +47,7 @@ pub record AreLowestDuals (p : ProgramDef) (objective : RowDef) (stands : List S
   pub dual_each : length duals ≡ height p
   pub each : (r : ℕ) → r < height p → IsLowestOf (minus (objective_cell p objective (stand_at stands (slack p r)))) (fraction_at duals r)
 
--- Is f, in lowest terms, the value of a variable that stands so: the limit of its row, or zero where it has none?
+-- Is f, in lowest terms, the value of a variable with this stand: the limit of its row, or zero if it has none?
 abbrev pub IsLowestValue : ProgramDef → List (Option RowDef) → Stand → Fraction → Type 0
 IsLowestValue p rows (Outside k) f = f ≡ whole (pos 0)
 IsLowestValue p rows (Basic j) f = IsLowestOf (limit_seen p (row_at rows j) j) f
@@ -57,7 +57,7 @@ pub record AreLowestValues (p : ProgramDef) (rows : List (Option RowDef)) (stand
   pub value_each : length values ≡ columns p
   pub each : (c : ℕ) → c < columns p → IsLowestValue p rows (stand_at stands c) (fraction_at values c)
 
--- Has the stand a place for a column, or a row of the program?
+-- Is the stand a place of a column, or a row of the program?
 abbrev pub IsStandOf : ProgramDef → Stand → Type 0
 IsStandOf p (Outside k) = k < columns p
 IsStandOf p (Basic j) = j < height p

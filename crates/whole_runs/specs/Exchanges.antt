@@ -1,4 +1,4 @@
--- What the parts of an exchange answer.
+-- What do the parts of an exchange answer?
 use Rattle.std.specs.Prelude.{◌≡◌, ◌≢◌, ℕ, ◌<◌, List, length, Some, None, pos}
 use Rattle.std.specs.declared.option.Option.{Option}
 use Rattle.fraction128.specs.Fraction.{IsQuotient, whole}
@@ -12,23 +12,23 @@ use Rattle.whole_runs.specs.States.{row_at, cell_seen, limit_seen, stand_at, tab
 use Rattle.whole_runs.specs.declared.stands.Stand.{Stand}
 use Rattle.whole_runs.specs.declared.stands.Stand.TheVariants.{Outside}
 
--- The entering variable with its place, or None where the table is the last.
+-- The entering variable with its place, or None if the table is the last.
 abbrev pub Enters : Option (ℕ × ℕ) → ProgramDef → List (Option RowDef) → List ℕ → List Stand → Type 0
 Enters (Some e) p rows basis stands = IsEntering p (table_seen p rows basis stands) e.0 × (stand_at stands e.0 ≡ Outside e.1)
 Enters None p rows basis stands = IsLast p (table_seen p rows basis stands)
 
--- The row that leaves, or None where no row has a ratio.
+-- The row that leaves, or None if no row has a ratio.
 abbrev pub Leaves : Option ℕ → ProgramDef → Table → ℕ → Type 0
 Leaves (Some r) p t e = IsLeavingOver IsSmall p t e r
 Leaves None p t e = (i : ℕ) → i < height p → HasRatio t e i → ⊥
 
--- Is `left` what is left of row i when its cell at k times the divided row is taken away?
+-- Is `left` what is left of row i if its cell at k times the divided row is subtracted?
 pub record IsLeft (p : ProgramDef) (i : ℕ) (row : Option RowDef) (k : ℕ) (divided : RowDef) (left : Option RowDef) : Type 0 where
   pub own : IsSmallLess (whole (pos 0)) (cell_seen p row i k) (cell_at divided k) (cell_seen p left i k)
   pub others : (j : ℕ) → j ≢ k → IsSmallLess (cell_seen p row i j) (cell_seen p row i k) (cell_at divided j) (cell_seen p left i j)
   pub limit : IsSmallLess (limit_seen p row i) (cell_seen p row i k) (limit_of divided) (limit_seen p left i)
 
--- Is row r divided by its cell at k, where what was 1 stands now?
+-- Is row r divided by its cell at k? At k it has 1 divided by that cell, for the variable that leaves.
 pub record IsDivided (p : ProgramDef) (r : ℕ) (row : Option RowDef) (k : ℕ) (divided : RowDef) : Type 0 where
   pub small : AreSmallCells divided
   pub own : IsQuotient (whole (pos 1)) (cell_seen p row r k) (cell_at divided k)
@@ -46,7 +46,7 @@ pub record IsTouched (p : ProgramDef) (i : ℕ) (seen : Option RowDef) (row : Ro
   pub cells : (k : ℕ) → cell_at row k ≡ cell_seen p seen i k
   pub limit : limit_of row ≡ limit_seen p seen i
 
--- Is row r divided so, and has each other row lost its cell at k times the new row r?
+-- Is row r divided in this way, and has its cell at k times the new row r been subtracted from each other row?
 pub record AreExchanged (p : ProgramDef) (before after : List (Option RowDef)) (k r : ℕ) : Type 0 where
   pub as_many : length after ≡ length before
   pub places : (i : ℕ) → i < length before → HasPlaces p i (row_at after i)

@@ -1,4 +1,4 @@
--- When whole numbers don't serve a run: at an exchange, or at its end.
+-- When are whole numbers not enough for a run? At an exchange, or at its end.
 use Rattle.std.specs.Prelude.{◌≡◌, ◌≢◌, ◌⊎◌, ℕ, ◌+◌, ◌<◌, List, length}
 use Rattle.std.specs.declared.option.Option.{Option}
 use Rattle.program_form.specs.Program.{ProgramDef}
@@ -13,17 +13,17 @@ use Rattle.whole_runs.specs.Exchanges.{IsTouched, IsDivided}
 use Rattle.whole_runs.specs.declared.stands.Stand.{Stand}
 use Rattle.whole_runs.specs.declared.stands.Stand.TheVariants.{Outside}
 
--- Is row i, as a row of its own, too large for what the pivot takes from it?
+-- Is row i, as a row of its own, too large for what is subtracted from it with this pivot?
 pub record IsTooLargeFor (p : ProgramDef) (i : ℕ) (seen : Option RowDef) (k : ℕ) (pivot : PivotDef) : Type 0 where
   pub row : RowDef
   pub touched : IsTouched p i seen row
   pub large : IsTooLarge row k pivot
 
--- Is some row but r so?
+-- Is this so for some row but r?
 abbrev pub IsSomeTooLarge : ProgramDef → List (Option RowDef) → ℕ → ℕ → PivotDef → Type 0
 IsSomeTooLarge p rows k r pivot = (i : ℕ) × (i < length rows) × (i ≢ r) × IsTooLargeFor p i (row_at rows i) k pivot
 
--- Is some row too large for what is taken from it where row r is divided by its cell at k?
+-- If row r is divided by its cell at k, is some other row too large for what is subtracted from it?
 pub record AreTooLarge (p : ProgramDef) (rows : List (Option RowDef)) (k r : ℕ) : Type 0 where
   pub divided : RowDef
   pub is_divided : IsDivided p r (row_at rows r) k divided
@@ -45,7 +45,8 @@ pub record IsLargeExchange (p : ProgramDef) (rows : List (Option RowDef)) (basis
 abbrev pub IsLargeEnd : ProgramDef → Table → Type 0
 IsLargeEnd p w = IsLast p w × ((t : Table) × (IsLowestTable p w t) × IsWideEnd p t)
 
--- Do whole numbers not serve the run within the units: at an exchange begun after so many others, which is paid for too, or at its end?
+-- Are whole numbers not enough for the run within the units: at an exchange begun after some others, for which there is a unit too, or at
+-- its end?
 pub record IsLargeWithin (p : ProgramDef) (units : ℕ) : Type 0 where
   pub exchanges : ℕ
   pub rows : List (Option RowDef)

@@ -1,4 +1,4 @@
--- The parts that stand for the first table.
+-- The parts of the first table.
 use Rattle.std.specs.Prelude.{◌≡◌, ◌≢◌, ℕ, ◌+◌, ◌<◌, List, length, slice_index, None, Some, pos}
 use Rattle.std.specs.declared.option.Option.{Option}
 use Rattle.fraction128.specs.Fraction.{whole}
@@ -23,7 +23,7 @@ pub record IsCostRow (p : ProgramDef) (row : RowDef) : Type 0 where
   pub cells : (k : ℕ) → cell_at row k ≡ whole (pos (cost p k))
   pub limit : limit_of row ≡ whole (pos 0)
 
--- Is no row of the program touched, and does the row of the costs stand behind them?
+-- Is no row of the program changed, and does the row of the costs come after them?
 pub record AreFirstRows (p : ProgramDef) (rows : List (Option RowDef)) : Type 0 where
   pub row_each : length rows ≡ height p + 1
   pub untouched : (i : ℕ) → i < height p → row_at rows i ≡ None
@@ -36,13 +36,13 @@ pub record IsFirstBasis (p : ProgramDef) (basis : List ℕ) : Type 0 where
   pub basic_each : length basis ≡ height p
   pub slacks : (i : ℕ) → i < height p → slice_index basis i ≡ slack p i
 
--- Does each column stand at the place of its own number, and each slack in its row?
+-- Is each column at the place of its own number, and each slack in its row?
 pub record AreFirstStands (p : ProgramDef) (stands : List Stand) : Type 0 where
   pub stand_each : length stands ≡ variables p
   pub columns_outside : (c : ℕ) → c < columns p → stand_at stands c ≡ Outside c
   pub slacks_basic : (r : ℕ) → r < height p → stand_at stands (slack p r) ≡ Basic r
 
--- Does each column stand at its own place?
+-- Is each column at its own place?
 pub record AreFirstOutside (p : ProgramDef) (outside : List ℕ) : Type 0 where
   pub place_each : length outside ≡ columns p
   pub own : (c : ℕ) → c < columns p → slice_index outside c ≡ c

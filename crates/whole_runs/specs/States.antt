@@ -1,5 +1,5 @@
--- The table that rows, the basis, and the places of the variables stand for. Only variables outside the basis have a place in the rows:
--- a basic one's cell is 1 in its own row, and 0 in the others.
+-- The table that rows, the basis, and the places of the variables make. Only variables outside the basis have a place in the rows. The cell
+-- of a basic variable is 1 in its own row, and 0 in the others.
 use Rattle.std.specs.Prelude.{◌≡◌, ℕ, ◌+◌, ◌<◌, ◌==◌, nat_lt, if◌then◌else◌, List, length, slice_index, slice_index_or, pos}
 use Rattle.std.specs.Prelude.{Some, None}
 use Rattle.std.specs.declared.option.Option.{Option}
@@ -10,17 +10,17 @@ use Rattle.whole_rows.specs.Rows.{RowDef, cell_at, limit_of}
 use Rattle.whole_runs.specs.declared.stands.Stand.{Stand}
 use Rattle.whole_runs.specs.declared.stands.Stand.TheVariants.{Outside, Basic}
 
--- Which cell has row i at place k? A row that no exchange has changed is the program's own.
+-- The cell of row i at place k. A row that no exchange has changed is the program's own.
 abbrev pub cell_seen : ProgramDef → Option RowDef → ℕ → ℕ → Fraction
 cell_seen p None i k = whole (pos (entry p i k))
 cell_seen p (Some row) i k = cell_at row k
 
--- And which limit?
+-- The limit of row i.
 abbrev pub limit_seen : ProgramDef → Option RowDef → ℕ → Fraction
 limit_seen p None i = whole (pos (limit p i))
 limit_seen p (Some row) i = limit_of row
 
--- Which cell has row i where a variable stands so?
+-- The cell of row i for a variable with this stand.
 abbrev pub stand_cell : ProgramDef → Option RowDef → ℕ → Stand → Fraction
 stand_cell p row i (Outside k) = cell_seen p row i k
 stand_cell p row i (Basic j) = if i == j then whole (pos 1) else whole (pos 0)
@@ -29,11 +29,11 @@ stand_cell p row i (Basic j) = if i == j then whole (pos 1) else whole (pos 0)
 abbrev pub row_at : List (Option RowDef) → ℕ → Option RowDef
 row_at rows i = slice_index_or rows i None
 
--- How does variable v stand?
+-- Where is variable v?
 abbrev pub stand_at : List Stand → ℕ → Stand
 stand_at stands v = slice_index_or stands v (Basic 0)
 
--- Which cell has row i at place v of the table?
+-- The cell of row i at place v of the table.
 abbrev pub table_cell : ProgramDef → List (Option RowDef) → List Stand → ℕ → ℕ → Fraction
 table_cell p rows stands i v =
     if v == variables p then limit_seen p (row_at rows i) i
@@ -43,7 +43,7 @@ table_cell p rows stands i v =
 abbrev pub table_seen : ProgramDef → List (Option RowDef) → List ℕ → List Stand → Table
 table_seen p rows basis stands = record { cell = table_cell p rows stands; basic = λ i. slice_index basis i }
 
--- Has a touched row a place for each column? The objective row, which is the last, is touched.
+-- Has a changed row a place for each column? The objective row, which is the last, counts as changed.
 abbrev pub HasPlaces : ProgramDef → ℕ → Option RowDef → Type 0
 HasPlaces p i None = i < height p
 HasPlaces p i (Some row) = length row.nums ≡ columns p
@@ -63,7 +63,7 @@ pub record AreStands (p : ProgramDef) (basis : List ℕ) (stands : List Stand) :
   pub place : (v k : ℕ) → v < variables p → stand_at stands v ≡ Outside k → k < columns p
   pub once : (v w k : ℕ) → v < variables p → w < variables p → stand_at stands v ≡ Outside k → stand_at stands w ≡ Outside k → v ≡ w
 
--- Does the list say for each place which variable stands there?
+-- Does the list say which variable is at each place?
 pub record ArePlaced (p : ProgramDef) (outside : List ℕ) (stands : List Stand) : Type 0 where
   pub place_each : length outside ≡ columns p
   pub each : (v k : ℕ) → v < variables p → stand_at stands v ≡ Outside k → slice_index outside k ≡ v

@@ -1,4 +1,4 @@
--- What the step of a run answers.
+-- What does the step of a run answer?
 use Rattle.std.specs.Prelude.{ℕ, List, Result, Ok, Err}
 use Rattle.std.specs.declared.option.Option.{Option}
 use Rattle.program_form.specs.Program.{ProgramDef}
@@ -11,8 +11,8 @@ use Rattle.whole_runs.specs.declared.stands.Stand.{Stand}
 use Rattle.whole_runs.specs.declared.stops.Halt.{Halt}
 use Rattle.whole_runs.specs.declared.stops.Halt.TheVariants.{Memory, Large, Units}
 
--- The next table, of the run over small fractions, or Large where some row is too large for the exchange. Memory says nothing, and Units
--- isn't an answer.
+-- The next table of the run over small fractions, or Large if some row is too large for the exchange. Memory says nothing, and Units never
+-- comes.
 abbrev pub Steps : Result ℕ Halt → ProgramDef → ℕ → List (Option RowDef) → List ℕ → List Stand → List (Option RowDef) → List ℕ
     → List Stand → Type 0
 Steps (Ok from) p e rows basis stands rows' basis' stands' =

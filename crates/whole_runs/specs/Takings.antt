@@ -9,12 +9,12 @@ use Rattle.whole_rows.specs.declared.entries.Entry.{Entry}
 use Rattle.whole_runs.specs.States.{row_at, HasPlaces}
 use Rattle.whole_runs.specs.Exchanges.{IsTouched, IsLeft, IsDivided, AreExchanged}
 
--- Is it kept now, with the cells of row i?
+-- Is it a row of its own now, with the cells of row i?
 abbrev pub Touches : ProgramDef → ℕ → Option RowDef → Option RowDef → Type 0
 Touches p i before None = ⊥
 Touches p i before (Some row) = IsTouched p i before row
 
--- Is it row r divided by its cell at k, and the pivot that of it? Divided by 1 the program's own row stays that.
+-- Is it row r divided by its cell at k, and is this its pivot? Divided by 1, the program's own row stays as it is.
 pub record Divides (p : ProgramDef) (r : ℕ) (before : Option RowDef) (k : ℕ) (after : Option RowDef) (pivot : PivotDef) : Type 0 where
   pub places : HasPlaces p r after
   pub row : RowDef
@@ -27,11 +27,11 @@ pub record IsLeftAt (p : ProgramDef) (i : ℕ) (before : Option RowDef) (k : ℕ
   pub places : HasPlaces p i after
   pub left : IsLeft p i before k divided after
 
--- The same, where the pivot is that of the divided row.
+-- The same, if the pivot is that of the divided row.
 abbrev pub IsTaken : ProgramDef → ℕ → Option RowDef → ℕ → PivotDef → Option RowDef → Type 0
 IsTaken p i before k pivot after = (divided : RowDef) → IsPivotOf pivot divided → IsLeftAt p i before k divided after
 
--- Is each row but r of the first n that the column lists so, and are the others as they were?
+-- Take the first n rows that the column lists. Is each of them but r changed in this way, and are all other rows as they were?
 pub record AreTakenTo (n : ℕ) (p : ProgramDef) (before after : List (Option RowDef)) (column : List Entry) (k r : ℕ) (pivot : PivotDef)
     : Type 0 where
   pub as_many : length after ≡ length before

@@ -1,5 +1,5 @@
-//! Which variable enters the basis, and which row leaves it. In one function with the run the loops of `first_above`, `least_above` and
-//! `read_column` would lack registers, so they aren't inlined.
+//! Which variable enters the basis, and which row leaves it? The loops of `first_above`, `least_above` and `read_column` aren't inlined,
+//! since in one function with the run they would lack registers.
 
 ghost use Rattle.std.specs.Prelude.{◌≡◌, ℕ, ◌+◌, ◌<◌, ◌≤◌, List, length, slice_index, pos, ◌*ℤ◌, ◌<ℤ◌, IfOk, IfSome};
 ghost use Rattle.program_form.specs.Program.{height, columns};
@@ -50,7 +50,7 @@ pub(crate) fn entering(
     first_above(objective(program, rows), stands, from)
 }
 
-// The least of a variable and of those at the places of the entries whose number in the row is above zero.
+// The least of these: a variable, and the variables at the places of the entries whose number in the row is above zero.
 #[inline(never)]
 pub(crate) fn least_above(
     row: &WholeRow,
@@ -73,7 +73,7 @@ pub(crate) fn least_above(
     least
 }
 
-// Takes the mark of row i at place k away where the row's number there is zero, so that the row isn't looked at again.
+// Removes the mark of row i at place k if the row's number there is zero. So the row isn't looked at again.
 fn unmark_zero(
     marks: &mut RowMarks,
     program: &SparseProgram,
@@ -93,7 +93,7 @@ fn unmark_zero(
     }
 }
 
-// Reads the numbers at place k that aren't zero, in order of their rows.
+// Reads the nonzero numbers at place k, in order of their rows.
 #[inline(never)]
 pub(crate) fn read_column(
     column: &mut Vec<Entry>,
@@ -127,7 +127,7 @@ struct Ratio {
     num: i64,
 }
 
-// The ratio of the row of a cell. There is none where the cell's number isn't above zero.
+// The ratio of the row of a cell; none if the cell's number isn't above zero.
 fn ratio_of(program: &SparseProgram, rows: &[Option<WholeRow>], cell: Entry) -> Option<Ratio>
     requires row { cell.place < length rows.now }
     requires within { cell.place < height program.now }
@@ -163,7 +163,7 @@ fn comes_before(next: Ratio, best: Ratio, basis: &[usize]) -> bool
     }
 }
 
-// The least ratio so far, or that of a row behind it.
+// The lesser of the least ratio so far and that of a later row.
 fn better(best: Ratio, next: Ratio, basis: &[usize]) -> Ratio
     requires earlier { best.row < next.row }
     requires within { next.row < length basis.now }
@@ -178,7 +178,7 @@ fn better(best: Ratio, next: Ratio, basis: &[usize]) -> Ratio
     }
 }
 
-// The same, where there may be no ratio so far.
+// The same, if there may be no ratio so far.
 fn chosen(best: Option<Ratio>, next: Ratio, basis: &[usize]) -> Ratio
     requires earlier { IfSome best (λ b. b.row < next.row) }
     requires within { next.row < length basis.now }
@@ -192,7 +192,7 @@ fn chosen(best: Option<Ratio>, next: Ratio, basis: &[usize]) -> Ratio
     }
 }
 
-// The least ratio of the column's rows but the objective, which is the last.
+// The least ratio of the column's rows. The objective row, which is the last, has none.
 fn least_ratio(
     program: &SparseProgram,
     rows: &[Option<WholeRow>],
@@ -220,7 +220,7 @@ fn least_ratio(
     best
 }
 
-// The row that leaves where the variable of the column enters, or None where no row has a number above zero.
+// The row that leaves if the variable of the column enters; none if no row has a number above zero.
 pub(crate) fn leaving(
     program: &SparseProgram,
     rows: &[Option<WholeRow>],

@@ -1,4 +1,4 @@
-//! What is read off the last table.
+//! What is read from the last table.
 
 ghost use Rattle.std.specs.Prelude.{◌≡◌, ℕ, ◌<◌, List, length, pos, ◌≤ℤ◌, IfOk};
 ghost use Rattle.fraction128.specs.Fraction.{over};
@@ -21,7 +21,7 @@ use program_form::{Dual, SparseProgram};
 use std::alloc::{AllocError, Global};
 use whole_rows::WholeRow;
 
-// A cell in lowest terms. Those of small parts are small too.
+// A cell in lowest terms. If its parts are small, those are small too.
 fn lowest(num: i64, den: i64) -> Frac
     requires { IsSmall (over num den) }
     ensures { IsLowestOf (over num den) result }
@@ -32,7 +32,7 @@ fn lowest(num: i64, den: i64) -> Frac
     }
 }
 
-// Minus the cell of the objective row where a variable stands so.
+// Minus the cell of the objective row for a variable with this stand.
 fn minus_cell(program: &SparseProgram, objective: &WholeRow, stand: Stand) -> Frac
     requires places { length objective.now.nums ≡ columns program.now }
     requires stand { IsStandOf program.now stand }
@@ -65,7 +65,7 @@ fn duals_of(
     Ok(duals)
 }
 
-// The dual that is written for the objective row of a last table. Large comes where it is wide.
+// The dual of the objective row of a last table. `Large` comes if it is wide.
 fn dual_of(
     alloc: Global,
     program: &SparseProgram,
@@ -90,7 +90,7 @@ fn dual_of(
     }
 }
 
-// The value of a variable that stands so.
+// The value of a variable with this stand.
 fn value_at(program: &SparseProgram, rows: &[Option<WholeRow>], stand: Stand) -> Frac
     requires rows { height program.now < length rows.now }
     requires stand { IsStandOf program.now stand }

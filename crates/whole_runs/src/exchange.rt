@@ -27,7 +27,7 @@ use program_form::SparseProgram;
 use std::alloc::{AllocError, Global};
 use whole_rows::{Entry, Pivot, RowMarks, WholeRow};
 
-// Makes row i, where no exchange has changed it. Mostly one has.
+// Makes row i a row of its own, if no exchange has changed it. Mostly one has.
 #[inline(always)]
 fn touch(
     alloc: Global,
@@ -44,7 +44,7 @@ fn touch(
     Ok(())
 }
 
-// Divides row r by its cell at k, and reads it as the pivot. It is made for that, where no exchange has changed it.
+// Divides row r by its cell at k, and reads it as the pivot. If no exchange has changed it, it is made a row of its own for that.
 fn divide_touched(
     alloc: Global,
     program: &SparseProgram,
@@ -69,8 +69,8 @@ fn divide_touched(
     Ok(())
 }
 
-// The same. A row that no exchange has changed, and whose number at k is 1, isn't made: divided by that its numbers are the same, and the
-// variable that leaves takes place k with its own 1.
+// The same. A row that no exchange has changed, and whose number at k is 1, isn't made. Divided by 1 its numbers stay, and the variable
+// that leaves takes over place k with its own 1.
 fn divide(
     alloc: Global,
     program: &SparseProgram,
@@ -94,7 +94,7 @@ fn divide(
     divide_touched(alloc, program, row, r, k, pivot)
 }
 
-// Takes from row i its cell at k times the pivot row. Large comes where the row is too large for that.
+// Subtracts the pivot row from row i, times row i's cell at k. `Large` comes if the row is too large for that.
 fn take_from(
     alloc: Global,
     program: &SparseProgram,
@@ -117,7 +117,7 @@ fn take_from(
     Ok(())
 }
 
-// Takes from each row but r its cell at k times the pivot row. Rows that the column doesn't list aren't touched.
+// Subtracts the pivot row from each row but r, times that row's cell at k. Rows that the column doesn't list stay.
 fn take_all(
     alloc: Global,
     program: &SparseProgram,
@@ -151,7 +151,7 @@ fn take_all(
     Ok(())
 }
 
-// Divides row r by its cell at k, and takes it from each other row its cell there times.
+// Divides row r by its cell at k. Then subtracts it from each other row, times that row's cell there.
 fn exchange(
     alloc: Global,
     program: &SparseProgram,
@@ -175,8 +175,8 @@ fn exchange(
     Ok(())
 }
 
-// Marks at the place of each entry the rows of word w whose bits are set here. In one function with the run the loop would lack
-// registers, so it isn't inlined.
+// For the place of each entry, marks the rows of word w whose bits are set here. The loop isn't inlined, since in one function with the run
+// it would lack registers.
 #[inline(never)]
 fn join_word(marks: &mut RowMarks, entries: &[Entry], w: usize, bits: u64)
     requires words { (m : ℕ) → m < length entries.now → HasWords marks.old (entry_at entries.now m).place }
@@ -207,8 +207,8 @@ fn join_marks(marks: &mut RowMarks, entries: &[Entry], k: usize)
     }
 }
 
-// The exchange of the run where variable e enters, which stands outside at place k. The answer is where to look for the next variable that
-// enters: none below it does. No program is unbounded, so in a run some row leaves.
+// The exchange of the run if variable e, which is outside the basis at place k, enters. The answer says from which variable on to look for
+// the next one that enters: none below it does. No program is unbounded, so in a run some row leaves.
 pub(crate) fn step(
     alloc: Global,
     program: &SparseProgram,

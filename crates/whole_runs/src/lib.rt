@@ -1,8 +1,8 @@
-//! The exchange run of a blocking program over whole numbers: each row has one denominator, and only variables outside the basis have a
+//! The exchange run of a blocking program over whole numbers. Each row has one denominator, and only variables outside the basis have a
 //! place in it.
 //!
-//! Most runs never need a number above 2^63 - 1 so. Where one does, [`Halt::Large`] says that this way of keeping the rows doesn't serve;
-//! whether an exchange of the run itself is wide is for others to say.
+//! Most runs never need a number above 2^63 - 1 in this way. If one does, [`Halt::Large`] says that this way of keeping the rows isn't
+//! enough. It doesn't say whether an exchange of the run itself is wide.
 #![tactic(auto)]
 
 ghost use Rattle.whole_runs.specs.Ends.{Runs};
@@ -43,9 +43,9 @@ pub struct Ended {
 
 /// Makes the exchange run of a program. It takes 1 unit, and 1 more for each exchange begun.
 ///
-/// `Units` comes only where the run needs more of them. `Large` comes only where whole numbers don't serve the run: at some exchange a row
-/// is too large for what is taken from it, or at the end the dual is wide.
-// Inlined into its caller the loops would lack registers.
+/// `Units` comes only if the run needs more units. `Large` comes only if whole numbers aren't enough for the run: at some exchange a row is
+/// too large for what is subtracted from it, or at the end the dual is wide.
+// if it were inlined into its caller, the loops would lack registers
 #[inline(never)]
 pub fn run_whole(alloc: Global, program: &SparseProgram, units: u64) -> Result<Ended, Halt>
     ensures { Runs result program.now units }

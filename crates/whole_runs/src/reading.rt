@@ -1,4 +1,4 @@
-//! What stands in a row of the table, whether an exchange has changed it or not.
+//! What a row of the table has, whether an exchange has changed it or not.
 
 ghost use Rattle.std.specs.Prelude.{◌≡◌, ℕ, ◌<◌, ◌^◌, List, length, Some, unsigned_abs};
 ghost use Rattle.program_form.specs.Program.{columns, height};
@@ -10,7 +10,7 @@ ghost use Rattle.whole_runs.specs.declared.stands.Stand.{Stand};
 use program_form::{Coefficient, SparseProgram};
 use whole_rows::WholeRow;
 
-// The number of a column among the coefficients of a row, zero where it isn't listed.
+// The number of a column among the coefficients of a row, and zero if it isn't listed.
 pub(crate) fn coefficient_at(coefficients: &[Coefficient], k: usize) -> u64
     ensures { result ≡ number_at coefficients.now k }
 {

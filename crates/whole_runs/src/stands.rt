@@ -1,10 +1,10 @@
-//! How the variables stand: in the basis, or outside it at a place of the rows.
+//! Where the variables are: in the basis, or outside it at a place of the rows.
 
-/// How a variable stands.
+/// Where a variable is.
 #[derive(Clone, Copy, Debug, PartialEq, Eq)]
 pub(crate) enum Stand {
     /// Outside the basis, at this place of the rows.
     Outside(usize),
-    /// In the basis, of this row.
+    /// In the basis, as this row's basic variable.
     Basic(usize),
 }

@@ -61,7 +61,7 @@ pub(crate) fn first_row(
     Ok(WholeRow::over_one(nums, limit as i64, most))
 }
 
-// The costs, by column.
+// The costs, one for each column.
 fn cost_nums(alloc: Global, program: &SparseProgram) -> Result<Vec<i64>, AllocError>
     ensures as_many { IfOk result (λ v. length v.items ≡ columns program.now) }
     ensures each { IfOk result (λ v. (c : ℕ) → slice_index_or v.items c (pos 0) ≡ pos (cost program.now c)) }
@@ -94,7 +94,7 @@ fn cost_row(alloc: Global, program: &SparseProgram) -> Result<WholeRow, AllocErr
     Ok(WholeRow::over_one(nums, 0, greatest_cost(program)))
 }
 
-// The rows of the first table: none of the program's is touched, and the objective row is the last.
+// The rows of the first table. None of the program's rows is changed yet, and the objective row is the last.
 fn first_rows(alloc: Global, program: &SparseProgram) -> Result<Vec<Option<WholeRow>>, AllocError>
     ensures { IfOk result (λ rows. AreFirstRows program.now rows.items) }
 {
@@ -165,7 +165,7 @@ fn mark_all(marks: &mut RowMarks, coefficients: &[Coefficient], i: usize)
     }
 }
 
-// Marks the objective row at each column whose cost isn't zero.
+// Marks the objective row at each column with a nonzero cost.
 fn mark_costs(marks: &mut RowMarks, program: &SparseProgram)
     requires { (c : ℕ) → c < columns program.now → HasWord marks.old c (height program.now) }
     ensures own { (c : ℕ) → c < columns program.now → cost program.now c ≢ 0 → IsMarked marks.new c (height program.now) }
@@ -179,7 +179,7 @@ fn mark_costs(marks: &mut RowMarks, program: &SparseProgram)
     }
 }
 
-// The marks of the first rows, the objective row among them.
+// The marks of the first rows, with the objective row.
 fn first_marks(alloc: Global, program: &SparseProgram) -> Result<RowMarks, AllocError>
     ensures { IfOk result (AreFirstMarks program.now) }
 {

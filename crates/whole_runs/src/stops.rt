@@ -12,11 +12,11 @@ pub enum Halt {
     /// There is no memory for the table.
     #[error("there is no memory for the table")]
     Memory,
-    /// Whole numbers over one denominator a row don't serve: at some exchange a row is too large for what is taken from it, or at the end
-    /// the dual is wide, as its least common denominator or a number over that passes 2^63 - 1.
+    /// Whole numbers over one denominator for each row aren't enough. At some exchange a row is too large for what is subtracted from it.
+    /// Or at the end the dual is wide: its least common denominator, or a number over it, is above 2^63 - 1.
     #[error("a number over its row's denominator, or one of the dual, passes 2^63 - 1")]
     Large,
-    /// The run takes more units than it was given.
+    /// The run needs more units than it was given.
     #[error("the exchange run takes more units than it was given")]
     Units,
 }

@@ -3,18 +3,18 @@
 use crate::stands::Stand;
 use whole_rows::{Entry, Pivot, RowMarks, WholeRow};
 
-/// The tableau of a run. `table_seen` says for which table its rows, basis and stands are.
+/// The tableau of a run. `table_seen` gives the table of its rows, basis and stands.
 #[derive(Drop)]
 pub(crate) struct Tableau {
-    /// The rows, None where no exchange has changed the program's own. The last is the objective row.
+    /// The rows. None means that no exchange has changed the program's own row. The last is the objective row.
     pub(crate) rows: Vec<Option<WholeRow>>,
     /// Which rows may have a number at a place.
     pub(crate) marks: RowMarks,
     /// The basic variable of each row.
     pub(crate) basis: Vec<usize>,
-    /// How each variable stands.
+    /// Where each variable is.
     pub(crate) stands: Vec<Stand>,
-    /// Which variable stands at each place.
+    /// Which variable is at each place.
     pub(crate) outside: Vec<usize>,
 }
 
@@ -23,6 +23,6 @@ pub(crate) struct Tableau {
 pub(crate) struct Lines {
     /// The column of the variable that enters.
     pub(crate) column: Vec<Entry>,
-    /// The row that leaves, divided, as it is taken from the others.
+    /// The row that leaves, divided, in the form in which it is subtracted from the others.
     pub(crate) pivot: Pivot,
 }

@@ -4,7 +4,7 @@ use Rattle.sporadic_model.specs.SetDef.{SetDef}
 use Rattle.sporadic_model.specs.declared.ids.Protocol.TheVariants as protocol
 use Rattle.program_sources.specs.Bounds.{AtMost}
 use Rattle.program_sources.specs.Fitting.{AreFitting, AreLeastFitting}
-use Rattle.fragments.specs.Columns.{may_block}
+use Rattle.blocking_columns.specs.Columns.{may_block}
 use Rattle.program_laws.specs.Programs.{rows_of, source_of, interfering_cost}
 use Rattle.program_laws.proofs.MoreRows.{fitting_with_more}
 use Rattle.window_laws.specs.WindowRows.{window_rows, windowed_source}

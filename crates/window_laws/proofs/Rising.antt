@@ -11,7 +11,7 @@ use Rattle.sporadic_model.specs.SetDef.{SetDef, task_at}
 use Rattle.sporadic_model.specs.Users.{count_of, is_user}
 use Rattle.sporadic_model.specs.Homes.{home_in}
 use Rattle.program_sources.proofs.RecurrenceLaws.{div_ceil_rises}
-use Rattle.fragments.specs.Windows.{requests_in}
+use Rattle.blocking_columns.specs.Windows.{requests_in}
 use Rattle.window_laws.specs.Windows.{time_at, ticks_by, ticks_there, is_enough, window_of}
 use Rattle.window_laws.specs.WindowRows.{meets_there, lacks_window, requests_there, requests_met, window_row}
 use Rattle.window_laws.proofs.Least.{Found, found_from}
@@ -100,8 +100,8 @@ none_of : {A : Type 0} (o : Option A) → is_none o ≡ true → o ≡ None
 none_of None h = refl
 none_of (Some a) h = absurd (cc)
 
--- Where a request at p's home has no window, the requests met are no fewer than those that x makes while the job runs: the bound stands
--- in for that window, and the job makes at least one such request.
+-- If a request at p's home has no window, the requests met are no fewer than those that x makes while the job runs. The bound takes that
+-- window's place, and the job makes at least one such request.
 pub lacking : (set : SetDef) (bounds : ℕ → ℕ) (i x p : ℕ) → lacks_window set bounds i p ≡ true
     → requests_in set bounds i x p ≤ requests_met set bounds i x p
 lacking set bounds i x p lacks =

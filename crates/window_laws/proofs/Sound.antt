@@ -9,7 +9,7 @@ use Rattle.schedule_model.specs.BlockedTicks.{is_dpcp_interference}
 use Rattle.schedule_model.specs.Protocols.{dpcp_rule}
 use Rattle.schedule_laws.proofs.DpcpLaws.{dpcp_one_of_three, dpcp_sound_row}
 use Rattle.program_sources.specs.Valid.{IsValid}
-use Rattle.fragments.specs.Columns.{columns_of}
+use Rattle.blocking_columns.specs.Columns.{columns_of}
 use Rattle.charge_laws.specs.Charges.{dpcp_charge}
 use Rattle.program_laws.specs.Programs.{interfering_cost}
 use Rattle.row_laws.proofs.ChargedTicks.{dpcp_is_charged}

@@ -22,8 +22,8 @@ use Rattle.schedule_laws.proofs.Holders.{open_active}
 use Rattle.schedule_laws.proofs.Issues.{issue_at_most, issue_no_later, open_at_issue}
 use Rattle.schedule_laws.proofs.Segments.{RequestAt, open_segment, open_resource, open_user, asks_some}
 use Rattle.schedule_laws.proofs.Ticks.{one_resource}
-use Rattle.fragments.specs.ColumnDef.{ColumnDef, is_preemption}
-use Rattle.fragments.specs.Windows.{requests_in}
+use Rattle.blocking_columns.specs.ColumnDef.{ColumnDef, is_preemption}
+use Rattle.blocking_columns.specs.Windows.{requests_in}
 use Rattle.charge_laws.specs.Charges.{dpcp_charge}
 use Rattle.charge_laws.specs.Windows.{bound_end, window_end, EndedWithin}
 use Rattle.charge_laws.proofs.DpcpCharging.{HomeBlocked, dpcp_reason}

@@ -1,9 +1,9 @@
 //! Windows of requests under DPCP, the rows that they give, and what is true of both.
 //!
-//! A window is how long a request can be open. It is the least number of ticks that is as long as all that may run at its
-//! resource's home in so many ticks.
+//! A window bounds how long a request can be open. It is the least number of ticks that is at least as long as all requests that may run at
+//! the resource's home in that many ticks.
 //!
-//! Each function here does nothing: its contract is a law, and the lemmas that prove it stand in `proofs/`.
+//! Each function here does nothing: its contract is a law. The lemmas that prove it are in `proofs/`.
 #![tactic(auto)]
 
 ghost use Rattle.std.specs.Prelude.{◌≡◌, ℕ, ◌+◌, ◌<◌, ◌≤◌, List, [], ◌∷◌, length, slice_index, Some};
@@ -25,7 +25,7 @@ ghost use Rattle.schedule_model.specs.Keeping.{KeepsBefore};
 ghost use Rattle.program_sources.specs.Valid.{IsValid};
 ghost use Rattle.program_sources.specs.Bounds.{AtMost, AreWithinDeadlines};
 ghost use Rattle.program_sources.specs.Fitting.{AreFitting, AreLeastFitting};
-ghost use Rattle.fragments.specs.Columns.{columns_of};
+ghost use Rattle.blocking_columns.specs.Columns.{columns_of};
 ghost use Rattle.program_laws.specs.Programs.{source_of};
 ghost use Rattle.charge_laws.specs.Charges.{dpcp_charge};
 ghost use Rattle.charge_laws.specs.Windows.{bound_end, EndedBy, EndedWithin};
@@ -36,22 +36,23 @@ ghost use Rattle.window_laws.specs.Windows.{window_of};
 ghost use Rattle.window_laws.specs.WindowRows.{window_row, windowed_program, windowed_source};
 ghost use Rattle.window_laws.specs.Worked.{two_users};
 
-/// In a lawful schedule of an accepted set, under DPCP, let each job whose release plus bound has passed by the issue of a request be
-/// finished by its own release plus its bound. Then the request is open at no tick that is its window or more past its issue.
+/// Take a request in a lawful schedule of an accepted set, under DPCP. Let each job whose release plus bound has passed by the issue of the
+/// request be finished by its own release plus its bound. Then the request isn't open at any tick that is its window or more after its
+/// issue.
 pub fn requests_end_within_their_windows()
     ensures { (w : Trace) (bound : ℕ → ℕ) (n t j m q b : ℕ) → IsAccepted w.set → AreLawfulJobs (jobs_of w) → KeepsBefore dpcp_rule w n
         → t < n → phase_of w t j ≡ Asking m q → EndedBy w bound (issue_tick_of w t j)
         → window_of w.set bound (task_of w j) q ≡ Some b → t < issue_tick_of w t j + b }
 {}
 
-/// No limit of a row of windows falls where bounds rise: `r` are at most `s`.
+/// No limit of a row of windows falls when bounds rise. Here `r` is at most `s`.
 pub fn limits_of_windows_rise()
     ensures { (set : SetDef) (r s : ℕ → ℕ) (i x p : ℕ) → i < length set.tasks → x < i
         → ((y : ℕ) → y < length set.tasks → r y ≤ s y) → (window_row set i x p).limit r ≤ (window_row set i x p).limit s }
 {}
 
-/// The lists of a task of an accepted set with rows of windows, at bounds within the deadlines, are a program, and its limits rise with
-/// the bounds.
+/// For an accepted set, and at bounds within the deadlines, the lists of a task with its rows of windows are a program. No limit falls when
+/// the bounds rise.
 pub fn programs_with_windows_are_accepted()
     ensures accepted { (set : SetDef) (i : ℕ) (r : List ℕ) → IsAccepted set → i < length set.tasks → AreWithinDeadlines set r
         → IsProgram (windowed_program set i r) }
@@ -59,9 +60,9 @@ pub fn programs_with_windows_are_accepted()
         → HasLimitsAtMost (windowed_program set i r) (windowed_program set i s) }
 {}
 
-/// In a lawful schedule of an accepted set, under DPCP, take a job, and let each job whose release plus bound is less than that job's, and
-/// lies within the rows, be finished by its own release plus its bound. Then the fractions of the job's window meet every row of its
-/// task's program, those of windows too.
+/// Take a job in a lawful schedule of an accepted set, under DPCP. Let each job whose release plus bound is less than this job's, and lies
+/// within the rows, be finished by its own release plus its bound. Then the fractions of this job's window meet every row of its task's
+/// program, those of windows too.
 pub fn fractions_meet_rows_of_windows()
     ensures { (w : Trace) (bounds : List ℕ) (n j : ℕ) → IsAccepted w.set → AreLawfulJobs (jobs_of w) → KeepsBefore dpcp_rule w n
         → j < length w.jobs → EndedWithin w (slice_index bounds) (bound_end w (slice_index bounds) j) n
@@ -70,22 +71,22 @@ pub fn fractions_meet_rows_of_windows()
         (fractions_of dpcp_charge w (slice_index bounds) n j (columns_of protocol.Dpcp w.set (task_of w j))) }
 {}
 
-/// Bounds that fit under DPCP fit with windows too. So no least bound with windows is greater than one that fits under DPCP.
+/// Bounds that fit under DPCP fit with windows too. So no least bound with windows is greater than a bound that fits under DPCP.
 pub fn windows_raise_no_bound()
     ensures fitting { (set : SetDef) (s : List ℕ) → AreFitting (source_of protocol.Dpcp set) s → AreFitting (windowed_source set) s }
     ensures least { (set : SetDef) (r s : List ℕ) → AreLeastFitting (windowed_source set) r → AreFitting (source_of protocol.Dpcp set) s
         → AtMost (length set.tasks) r s }
 {}
 
-/// Of an accepted set, the bounds of a certificate that is valid for the programs with windows, and the values of its duals, are sound:
-/// they hold in every schedule that keeps the rules of DPCP, of whatever lawful jobs.
+/// Take an accepted set, and a certificate that is valid for the programs with windows. Its bounds and the values of its duals are sound:
+/// they hold in every schedule of lawful jobs that keeps the rules of DPCP.
 pub fn valid_certificates_with_windows_are_sound()
     ensures { (set : SetDef) (c : CertificateDef) (values : List ℕ) → IsAccepted set → IsValid (windowed_source set) c
         → AreValues (windowed_source set) c values → Sound dpcp_rule is_dpcp_interference set c.bounds values }
 {}
 
-/// A worked set of two tasks that share a resource: the window of the lower task's request at the bounds 4 and 21, without jitter of the
-/// higher task, and with a jitter of 5 ticks.
+/// A worked set of two tasks that share a resource: the window of the lower task's request at the bounds 4 and 21. The higher task has no
+/// jitter, or a jitter of 5 ticks.
 pub fn a_worked_request_has_its_window()
     ensures exact { window_of (two_users 0) (slice_index (4 ∷ 21 ∷ [])) 1 0 ≡ Some 2 }
     ensures late { window_of (two_users 5) (slice_index (4 ∷ 21 ∷ [])) 1 0 ≡ Some 3 }

@@ -1,5 +1,5 @@
-//! Worked task sets, jobs and schedules, as the texts of their files, for the crates that hold cases alone. Jobs are numbered
-//! from 1, as in the files; `t1` is the highest task of each set. The product calls nothing of it.
+//! Worked task sets, jobs and schedules, as the texts of their files, for the crates of tests. Jobs are numbered from 1, as in the files,
+//! and `t1` is the highest task of each set. The product calls nothing of it.
 
 ghost use Rattle.std.specs.Prelude.{IfOk, Ok};
 ghost use Rattle.taskset_json.specs.Answers.{Reads};
@@ -8,7 +8,7 @@ use sporadic_model::TaskSet;
 use std::alloc::Global;
 use std::test::Fail;
 
-/// The set that a text holds. A text that is refused, or that has 2^31 bytes or more, fails the test.
+/// The set of a text. If the text is refused, or has 2^31 bytes or more, the test fails.
 pub fn set_from(alloc: Global, text: &str) -> Result<TaskSet, Fail>
     ensures { IfOk result (λ set. Reads (Ok set) text.now) }
 {
@@ -18,7 +18,7 @@ pub fn set_from(alloc: Global, text: &str) -> Result<TaskSet, Fail>
     Ok(taskset_json::read(alloc, text.as_bytes())?)
 }
 
-/// Two tasks on two processors that share `q`, which is at home on the second. Certificates of it name the digest of these very
+/// Two tasks on two processors that share `q`, whose home is the second processor. Certificates of it have the digest of exactly these
 /// bytes.
 pub const PAIR: &str =
     r#"{"processors":2,"resources":[{"name":"q","home":2}],"tasks":[{"name":"t1","processor":1,"period":10,"cost":3,"requests":[{"resource":"q","count":1,"length":1}]},{"name":"t2","processor":2,"period":10,"cost":4,"requests":[{"resource":"q","count":1,"length":2}]}]}
@@ -33,7 +33,7 @@ pub const PAIR_LOWER_FIRST: &str = "ticks,P1,P2,q\n1,1,2,\n2,,2,2\n1,1,2,1\n1,1,
 /// The higher task's request is served first.
 pub const PAIR_HIGHER_FIRST: &str = "ticks,P1,P2,q\n1,1,2,\n1,1,,1\n1,1,2,2\n1,,2,2\n1,,2,\n";
 
-/// The resource is taken from `t2` within its request.
+/// `t2` loses the resource within its request.
 pub const PAIR_TAKEN_AWAY: &str = "ticks,P1,P2,q\n1,1,2,\n1,,2,2\n1,1,,1\n";
 
 /// At tick 3 the request of `t2` has ended.
@@ -76,7 +76,7 @@ pub const FIVE_IDLE_ROWS: &str = "ticks,P1,P2,q\n1,2,3,\n3,,3,3\n";
 /// `t2` is served first, and loses `q` within its request.
 pub const FIVE_TAKEN_AWAY: &str = "ticks,P1,P2,q\n1,2,3,\n1,2,,2\n1,1,3,3\n";
 
-/// Two tasks on one processor, of which the lower has the shorter period.
+/// Two tasks on one processor. The lower one has the shorter period.
 pub const TURNS: &str = r#"{"processors":1,"resources":[{"name":"q"}],"tasks":[
 {"name":"t1","processor":1,"period":10,"cost":3,"requests":[{"resource":"q","count":1,"length":1}]},
 {"name":"t2","processor":1,"period":2,"cost":2}]}
@@ -137,7 +137,7 @@ pub const BOOST_BY_ISSUE: &str =
 pub const BOOST_BY_CEILING: &str =
     "ticks,P1,P2,a,b\n1,2,1,,\n1,2,1,1,\n1,3,1,1,\n1,3,,2,3\n1,2,,2,\n";
 
-/// Both resources are at home on the third processor, which has no tasks; `t1` uses both.
+/// The home of both resources is the third processor, which has no tasks. `t1` uses both.
 pub const HOME: &str =
     r#"{"processors":3,"resources":[{"name":"a","home":3},{"name":"b","home":3}],"tasks":[
 {"name":"t1","processor":1,"period":20,"cost":4,"requests":[
@@ -171,7 +171,7 @@ pub const APART: &str =
 
 pub const APART_JOBS: &str = "task,release,script\nt1,1,1 a:1 1\nt2,0,1 b:3 1\n";
 
-/// At tick 2 `t1` is higher than the ceiling of `b`, holds beside `t2` and runs before it.
+/// At tick 2 `t1` is higher than the ceiling of `b`. It holds a resource while `t2` holds one, and runs before it.
 pub const APART_ROWS: &str =
     "ticks,P1,P2,P3,a,b\n1,,2,,,\n1,1,,2,,2\n1,,,1,1,2\n1,1,,2,,2\n1,,,2,,2\n1,,2,,,\n";
 

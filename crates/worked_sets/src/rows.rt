@@ -31,7 +31,7 @@ pub struct TaskRow<'a> {
 pub struct SetRow<'a> {
     /// How many processors it has.
     pub processors: u64,
-    /// The home of each resource, where it has one: a processor, from 1.
+    /// The home of each resource, if it has one: a processor, from 1.
     pub homes: &'a [Option<u64>],
     /// Its tasks, from the highest base priority to the lowest.
     pub tasks: &'a [TaskRow<'a>],
@@ -45,8 +45,8 @@ macro_rules! entry_rows {
     };
 }
 
-/// The row of a task without jitter by its processor, its period, its cost, which is its local limit, and its entries, or in
-/// brackets the number of each entry's resource and the length of a job's one request.
+/// The row of a task without jitter, from its processor, its period, its cost, which is its local limit too, and its entries. Or, in
+/// brackets, the number of each entry's resource and the length of a job's one request.
 #[macro_export]
 macro_rules! task_row {
     ($processor:expr, $period:expr, $cost:expr, [$(($resource:expr, $length:expr)),* $(,)?] $(,)?) => {

@@ -7,7 +7,7 @@ pub const PAIR: SetRow = SetRow {
     tasks: &[task_row!(1, 10, 3, [(0, 1)]), task_row!(2, 10, 4, [(0, 2)])],
 };
 
-/// A task without requests above another one of its processor, which requests what a third does elsewhere.
+/// A task without requests, above another one of its processor. The other one requests a resource that a third task requests elsewhere.
 pub const BESIDE: SetRow = SetRow {
     processors: 2,
     homes: &[None],

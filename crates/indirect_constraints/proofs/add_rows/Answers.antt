@@ -1,7 +1,7 @@
 use Rattle.std.proofs.Common.{◌≡◌, map, subst}
 use Rattle.sporadic_model.specs.declared.ids.Protocol.{Protocol}
-use Rattle.fragments.specs.ColumnDef.{column_seen}
-use Rattle.fragments.specs.Columns.{columns_of}
+use Rattle.blocking_columns.specs.ColumnDef.{column_seen}
+use Rattle.blocking_columns.specs.Columns.{columns_of}
 use Rattle.indirect_constraints.proofs.AskedAtHome.{columns_asked_at_home}
 use Rattle.indirect_constraints.proofs.add_rows.Goals as goal
 

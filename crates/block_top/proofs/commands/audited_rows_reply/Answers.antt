@@ -11,5 +11,5 @@ pub returns-clause-reply : goal.returns-clause-reply
 returns-clause-reply g c =
     replied_work (g.S.Shelf.seen c.args.shelf.now) (g.S.Shelf.seen c.get_rows.new.shelf) (rows_input c.args.jobs.now) c.args.rows.now
     (λ bytes d. Working (audit_of c.args.protocol c.args.digest.now (file_seen c.args.file.now) c.args.jobs.now d)) c.in_ok-rows.rows
-    (IfTied c.args.digest.now (file_seen c.args.file.now) (IsAuditOf c.args.protocol c.args.jobs.now c.in_ok-rows.rows)) c.audited.result
-    c.get_rows.ensures.keeps c.in_ok-rows.ensures.got (λ (a : Answer) is. (is, refl)) c.audited.ensures
+    (IfTied c.args.digest.now (file_seen c.args.file.now) (IsAuditOf c.args.protocol c.args.jobs.now c.in_ok-rows.rows)) c.audit.result
+    c.get_rows.ensures.keeps c.in_ok-rows.ensures.got (λ (a : Answer) is. (is, refl)) c.audit.ensures

@@ -13,5 +13,5 @@ returns-clause-reply g c =
     c.args.certificate.now (λ bytes d. Working (upgrade_of c.args.protocol c.args.digest.now c.args.set.now d))
     (certificate_seen c.in_ok-certificate.certificate)
     (IsJudgement c.args.protocol c.args.set.now (certificate_seen c.in_ok-certificate.certificate)
-    (upgraded_answer c.args.protocol c.args.digest.now (certificate_seen c.in_ok-certificate.certificate))) c.upgraded.result
-    c.get.ensures.keeps c.in_ok-certificate.ensures.got (λ (a : Answer) is. (is, refl)) c.upgraded.ensures
+    (upgraded_answer c.args.protocol c.args.digest.now (certificate_seen c.in_ok-certificate.certificate))) c.upgrade.result
+    c.get.ensures.keeps c.in_ok-certificate.ensures.got (λ (a : Answer) is. (is, refl)) c.upgrade.ensures

@@ -5,8 +5,8 @@ use Rattle.command_inputs.specs.Halts.{reply_seen}
 use Rattle.run_plans.proofs.ConformLaws.{measured_conformance}
 use Rattle.block_top.proofs.work.conformance.Goals as goal
 
-pub conformed-requires-clause-fits : goal.conformed-requires-clause-fits
-conformed-requires-clause-fits c = made_fits c.args.rows.now c.args.jobs.now c.ticks-ticks.ensures.listed c.requires.made
+pub measures_of_text-requires-clause-fits : goal.measures_of_text-requires-clause-fits
+measures_of_text-requires-clause-fits c = made_fits c.args.rows.now c.args.jobs.now c.ticks-ticks.ensures.listed c.requires.made
 
 pub returns-in_ok-lawful_reply-in-Ok : goal.returns-in_ok-lawful_reply-in-Ok
 returns-in_ok-lawful_reply-in-Ok c =

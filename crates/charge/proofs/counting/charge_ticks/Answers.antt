@@ -45,7 +45,7 @@ loop-x-preserved g c =
     + only_if (is_place p o) c.args.more) c.place_in.ensures
     ∙ count_more (g.P.ChargedProtocol.charges c.args.protocol.now) c.args.machine.now (row_in (g.R.RowReader.rows c.args.rows.now).runs)
     (slice_index c.args.bounds.now) c.args.more
-    c.loop-x.x p c.requires.shows only (omega (arith, c.loop-x-test.true, c.tasks_of-x-end.ensures.value)))
+    c.loop-x.x p c.requires.row.shows only (omega (arith, c.loop-x-test.true, c.tasks_of-x-end.ensures.value)))
     (c.in_ok-add_named.ensures _ c.loop-x.invariant)
 
 pub returns : goal.returns
@@ -58,5 +58,5 @@ returns g c =
     tally_agree c.loop-x.ticks _ _
     (λ p. count_all (g.P.ChargedProtocol.charges c.args.protocol.now) c.args.machine.now (row_in (g.R.RowReader.rows c.args.rows.now).runs)
     (slice_index c.args.bounds.now) c.args.more
-    c.loop-x.x p c.requires.shows only c.requires.alike (omega (arith, c.loop-x-test.false, c.tasks_of-x-end.ensures.value)))
+    c.loop-x.x p c.requires.row.shows only c.requires.alike (omega (arith, c.loop-x-test.false, c.tasks_of-x-end.ensures.value)))
     c.loop-x.invariant

@@ -1,6 +1,6 @@
 use Rattle.std.proofs.Common.{◌∷◌, [], ◌++◌, map, length, List}
-use Rattle.fragments.specs.ColumnDef.{column_seen}
-use Rattle.fragments.specs.Columns.{is_lower_local}
+use Rattle.blocking_columns.specs.ColumnDef.{column_seen}
+use Rattle.blocking_columns.specs.Columns.{is_lower_local}
 use Rattle.fragments.specs.Constraints.{ConstraintDef, per, per_pair, per_where}
 use Rattle.closer_laws.specs.CloserRows.{holder_row, other_holder_row, lower_row}
 use Rattle.closer_laws.specs.CloserRows.{local_preemption_row, local_wait_row, local_runner_row}

@@ -1,5 +1,5 @@
 use Rattle.std.proofs.Common.{◌∷◌, [], map}
-use Rattle.fragments.specs.ColumnDef.{column_seen}
+use Rattle.blocking_columns.specs.ColumnDef.{column_seen}
 use Rattle.closer_laws.specs.CloserRows.{local_preemption_row, local_wait_row, local_runner_row}
 use Rattle.closer_fmlp.proofs.rows.add_local_rows.Goals as goal
 

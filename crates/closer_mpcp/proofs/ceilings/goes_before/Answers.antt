@@ -3,7 +3,7 @@ use Rattle.std.specs.List.{list_any}
 use Rattle.std.proofs.lemmas.List.Folds.{list_any_at}
 use Rattle.sporadic_model.specs.declared.ids.ResourceId.{ResourceId}
 use Rattle.sporadic_model.specs.Users.{is_user}
-use Rattle.fragments.proofs.KeptNumbers.{any_of_kept}
+use Rattle.blocking_columns.proofs.KeptNumbers.{any_of_kept}
 use Rattle.closer_mpcp_laws.specs.CloserMpcpRows.{goes_first}
 use Rattle.closer_mpcp.proofs.ceilings.goes_before.Goals as goal
 

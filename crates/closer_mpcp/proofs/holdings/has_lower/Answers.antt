@@ -5,7 +5,7 @@ use Rattle.number_laws.specs.Tests.{any_below}
 use Rattle.sporadic_model.specs.SetDef.{SetDef}
 use Rattle.sporadic_model.specs.declared.ids.TaskId.{TaskId}
 use Rattle.sporadic_model.specs.Users.{is_user}
-use Rattle.fragments.proofs.KeptNumbers.{any_of_kept}
+use Rattle.blocking_columns.proofs.KeptNumbers.{any_of_kept}
 use Rattle.closer_mpcp.specs.declared.places.Place.{Place}
 use Rattle.closer_mpcp.specs.Holdings.{is_lower_at, has_lower}
 use Rattle.closer_mpcp.proofs.holdings.has_lower.Goals as goal

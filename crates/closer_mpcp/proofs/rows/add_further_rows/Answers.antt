@@ -1,7 +1,7 @@
 use Rattle.std.proofs.Common.{◌∷◌, [], ◌++◌, map, length, List}
 use Rattle.std.proofs.lemmas.List.{append_assoc}
-use Rattle.fragments.specs.ColumnDef.{column_seen}
-use Rattle.fragments.specs.Columns.{is_lower_local}
+use Rattle.blocking_columns.specs.ColumnDef.{column_seen}
+use Rattle.blocking_columns.specs.Columns.{is_lower_local}
 use Rattle.fragments.specs.Constraints.{ConstraintDef, per, per_pair, per_where}
 use Rattle.closer_laws.specs.CloserRows.{local_preemption_row}
 use Rattle.closer_mpcp_laws.specs.CloserMpcpRows.{shared_holding_row, resource_holding_row, away_row, shared_interval_row, lower_wait_row}

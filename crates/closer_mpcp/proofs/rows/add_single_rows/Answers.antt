@@ -1,5 +1,5 @@
 use Rattle.std.proofs.Common.{◌∷◌, [], map}
-use Rattle.fragments.specs.ColumnDef.{column_seen}
+use Rattle.blocking_columns.specs.ColumnDef.{column_seen}
 use Rattle.closer_laws.specs.CloserRows.{local_preemption_row}
 use Rattle.closer_mpcp_laws.specs.CloserMpcpRows.{lower_wait_row}
 use Rattle.closer_mpcp.proofs.rows.add_single_rows.Goals as goal

@@ -1,6 +1,6 @@
 use Rattle.std.proofs.Common.{◌≡◌, false, map, nat_lt, sym, ◌∙◌}
 use Rattle.sporadic_model.proofs.Mapped.{list_any-map}
-use Rattle.fragments.specs.ColumnDef.{column_seen}
+use Rattle.blocking_columns.specs.ColumnDef.{column_seen}
 use Rattle.fragments.specs.Constraints.{holds_some}
 use Rattle.fragments.proofs.constraints.add_row_within.Goals as goal
 

@@ -1,7 +1,7 @@
 use Rattle.std.proofs.Common.{◌≡◌, ℕ, ◌<◌, ◌≤◌, length}
 use Rattle.std.specs.Prelude.{slice_index, slice_index_or}
-use Rattle.fragments.specs.declared.columns.Fragment.{Fragment}
-use Rattle.fragments.specs.ColumnDef.{column_seen}
+use Rattle.blocking_columns.specs.declared.columns.Fragment.{Fragment}
+use Rattle.blocking_columns.specs.ColumnDef.{column_seen}
 use Rattle.fragments.proofs.constraints.coefficients.Given as goal
 
 abbrev pub invariant-loop-place : goal.invariant-loop-place

@@ -1,6 +1,6 @@
 use Rattle.std.proofs.Common.{◌≡◌}
 use Rattle.std.specs.List.{AllWithin}
-use Rattle.fragments.specs.ColumnDef.{column_seen}
+use Rattle.blocking_columns.specs.ColumnDef.{column_seen}
 use Rattle.fragments.proofs.constraints.holds.Given as goal
 
 abbrev pub invariant-loop-place : goal.invariant-loop-place

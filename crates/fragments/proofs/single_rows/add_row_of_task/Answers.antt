@@ -1,6 +1,6 @@
 use Rattle.std.proofs.Common.{map, length, arith}
-use Rattle.fragments.specs.ColumnDef.{column_seen}
-use Rattle.fragments.specs.Stretches.{IsStretch}
+use Rattle.blocking_columns.specs.ColumnDef.{column_seen}
+use Rattle.fragments.specs.RowStretch.{IsStretch}
 use Rattle.fragments.proofs.RowStretches.{stretch_of_task, columns_of_task, none_held}
 use Rattle.fragments.proofs.single_rows.add_row_of_task.Goals as goal
 

@@ -1,9 +1,9 @@
 use Rattle.std.proofs.Common.{◌+◌, List, length, map, arith, sym, subst}
 use Rattle.std.specs.Prelude.{slice_index}
-use Rattle.fragments.specs.ColumnDef.{column_seen}
+use Rattle.blocking_columns.specs.ColumnDef.{column_seen}
 use Rattle.fragments.specs.Constraints.{ConstraintDef}
 use Rattle.fragments.proofs.Rows.{no_rows_below}
-use Rattle.fragments.proofs.TaskPlaces.{stretch_between}
+use Rattle.blocking_columns.proofs.TaskPlaces.{stretch_between}
 use Rattle.fragments.proofs.walks.add_per_lower_task.Goals as goal
 
 pub loop-x-init : goal.loop-x-init

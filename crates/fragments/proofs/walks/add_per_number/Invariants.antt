@@ -1,6 +1,6 @@
 use Rattle.std.proofs.Common.{map}
 use Rattle.number_laws.specs.Sums.{collect_below}
-use Rattle.fragments.specs.ColumnDef.{column_seen}
+use Rattle.blocking_columns.specs.ColumnDef.{column_seen}
 use Rattle.fragments.proofs.walks.add_per_number.Given as goal
 
 abbrev pub invariant-loop-number : goal.invariant-loop-number

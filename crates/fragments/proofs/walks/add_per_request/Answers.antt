@@ -1,7 +1,7 @@
 use Rattle.std.proofs.Common.{rules}
 use Rattle.std.specs.Prelude.{slice_index}
-use Rattle.fragments.specs.declared.stretches.TaskPlace.{TaskPlace}
-use Rattle.fragments.proofs.TaskPlaces.{one_more_place}
+use Rattle.blocking_columns.specs.declared.stretches.TaskPlace.{TaskPlace}
+use Rattle.blocking_columns.proofs.TaskPlaces.{one_more_place}
 use Rattle.fragments.proofs.walks.add_per_request.Goals as goal
 
 pub loop-x-preserved : goal.loop-x-preserved

@@ -1,9 +1,9 @@
 use Rattle.std.proofs.Common.{◌≡◌, map, length}
 use Rattle.std.specs.Prelude.{slice_index}
-use Rattle.fragments.specs.ColumnDef.{column_seen}
+use Rattle.blocking_columns.specs.ColumnDef.{column_seen}
 use Rattle.fragments.specs.Constraints.{per_pair}
-use Rattle.fragments.specs.Stretches.{slot, BeginsAt}
-use Rattle.fragments.specs.TaskPlaces.{ArePlacesBelow}
+use Rattle.blocking_columns.specs.Stretches.{slot, BeginsAt}
+use Rattle.blocking_columns.specs.TaskPlaces.{ArePlacesBelow}
 use Rattle.fragments.proofs.walks.add_per_request.Given as goal
 
 abbrev pub invariant-loop-x : goal.invariant-loop-x

@@ -1,5 +1,5 @@
 use Rattle.std.proofs.Common.{map, length}
-use Rattle.fragments.specs.ColumnDef.{column_seen}
+use Rattle.blocking_columns.specs.ColumnDef.{column_seen}
 use Rattle.fragments.specs.Constraints.{per_pair}
 use Rattle.fragments.proofs.walks.add_per_request_at.Given as goal
 

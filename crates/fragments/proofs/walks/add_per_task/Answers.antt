@@ -1,6 +1,6 @@
 use Rattle.std.proofs.Common.{length, arith}
 use Rattle.std.specs.Prelude.{slice_index}
-use Rattle.fragments.proofs.TaskPlaces.{stretch_between}
+use Rattle.blocking_columns.proofs.TaskPlaces.{stretch_between}
 use Rattle.fragments.proofs.walks.add_per_task.Goals as goal
 
 pub add-requires-clause-stretch : goal.add-requires-clause-stretch

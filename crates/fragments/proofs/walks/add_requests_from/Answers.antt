@@ -1,7 +1,7 @@
 use Rattle.std.proofs.Common.{◌+◌, ◌<◌, ◌≤◌, ◌∷◌, [], List, map, length, arith}
-use Rattle.fragments.specs.ColumnDef.{column_seen}
+use Rattle.blocking_columns.specs.ColumnDef.{column_seen}
 use Rattle.fragments.specs.Constraints.{ConstraintDef, per}
-use Rattle.fragments.specs.Stretches.{slot}
+use Rattle.blocking_columns.specs.Stretches.{slot}
 use Rattle.fragments.proofs.Rows.{next_number}
 use Rattle.fragments.proofs.NextRequests.{row_missing, further_rows}
 use Rattle.fragments.proofs.walks.add_requests_from.Goals as goal

@@ -1,7 +1,7 @@
 use Rattle.std.proofs.Common.{ℕ, ◌-◌, ◌≤◌, map, length}
-use Rattle.fragments.specs.ColumnDef.{column_seen}
+use Rattle.blocking_columns.specs.ColumnDef.{column_seen}
 use Rattle.fragments.specs.Constraints.{per}
-use Rattle.fragments.specs.Stretches.{slot, BeginsAt}
+use Rattle.blocking_columns.specs.Stretches.{slot, BeginsAt}
 use Rattle.fragments.proofs.walks.add_requests_from.Given as goal
 
 -- The rows of some first resources are taken, and the columns of the others begin at the place.

@@ -5,7 +5,7 @@ use Rattle.number_laws.specs.Sums.{only_if}
 use Rattle.number_laws.proofs.SumLaws.{only_if-false}
 use Rattle.number_laws.proofs.OnlyIfLaws.{only_if-rises}
 use Rattle.sporadic_model.specs.declared.ids.TaskId.{TaskId}
-use Rattle.fragments.specs.Windows.{requests_in}
+use Rattle.blocking_columns.specs.Windows.{requests_in}
 use Rattle.indirect_constraints.proofs.ByUser.{users_requests, users_once, rest_more}
 use Rattle.indirect_constraints.proofs.holdings.add_requests_of.Goals as goal
 use Rattle.indirect_constraints.proofs.holdings.add_requests_of.Goals.{then-y-i, else-y-i}

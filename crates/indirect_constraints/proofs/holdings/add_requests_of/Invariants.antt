@@ -3,7 +3,7 @@ use Rattle.std.specs.Prelude.{slice_index}
 use Rattle.std.specs.List.{sum_by}
 use Rattle.number_laws.specs.Sums.{only_if}
 use Rattle.sporadic_model.specs.declared.ids.TaskId.{TaskId}
-use Rattle.fragments.specs.Windows.{requests_in}
+use Rattle.blocking_columns.specs.Windows.{requests_in}
 use Rattle.indirect_constraints.proofs.holdings.add_requests_of.Given as goal
 
 abbrev pub invariant-loop-y : goal.invariant-loop-y

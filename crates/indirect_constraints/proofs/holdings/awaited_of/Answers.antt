@@ -2,7 +2,7 @@ use Rattle.std.proofs.Common.{◌≡◌, ℕ, ◌<◌, [], length, drop, arith, 
 use Rattle.std.specs.Prelude.{slice_index}
 use Rattle.std.proofs.lemmas.List.{drop_all, get_or-replicate, with_items_is}
 use Rattle.sporadic_model.specs.declared.ids.ResourceId.{ResourceId}
-use Rattle.fragments.specs.Windows.{requests_in}
+use Rattle.blocking_columns.specs.Windows.{requests_in}
 use Rattle.indirect_constraints.proofs.ByUser.{used_sum, used_few, rest_more}
 use Rattle.indirect_constraints.proofs.holdings.awaited_of.Goals as goal
 

@@ -37,6 +37,18 @@ pub returns-in-FmlpPlusCloser-clause-never_wide : goal.returns-in-FmlpPlusCloser
 returns-in-FmlpPlusCloser-clause-never_wide g c nothing =
     c.analyse_with-in-FmlpPlusCloser.ensures.never_wide (named_no_columns name.FmlpPlusCloser c.args.set.now nothing)
 
+pub returns-in-SpinCloser-clause-never_wide : goal.returns-in-SpinCloser-clause-never_wide
+returns-in-SpinCloser-clause-never_wide g c nothing =
+    c.analyse_with-in-SpinCloser.ensures.never_wide (named_no_columns name.SpinCloser c.args.set.now nothing)
+
+pub returns-in-DpcpCloser-clause-never_wide : goal.returns-in-DpcpCloser-clause-never_wide
+returns-in-DpcpCloser-clause-never_wide g c nothing =
+    c.analyse_with-in-DpcpCloser.ensures.never_wide (named_no_columns name.DpcpCloser c.args.set.now nothing)
+
+pub returns-in-DflpCloser-clause-never_wide : goal.returns-in-DflpCloser-clause-never_wide
+returns-in-DflpCloser-clause-never_wide g c nothing =
+    c.analyse_with-in-DflpCloser.ensures.never_wide (named_no_columns name.DflpCloser c.args.set.now nothing)
+
 pub returns-in-MpcpCloser-clause-never_wide : goal.returns-in-MpcpCloser-clause-never_wide
 returns-in-MpcpCloser-clause-never_wide g c nothing =
     c.analyse_with-in-MpcpCloser.ensures.never_wide (named_no_columns name.MpcpCloser c.args.set.now nothing)

@@ -1,29 +1,38 @@
 use Rattle.std.proofs.Common.{sym, subst}
 use Rattle.program_form.specs.Certificate.{certificate_seen}
 use Rattle.schedule_model.specs.RowDef.{trace_in, ticks_of}
-use Rattle.figure_laws.specs.Audited.{Audits}
+use Rattle.figure_laws.specs.Audited.{IsAudited}
 use Rattle.protocol_names.specs.declared.ProtocolName.{ProtocolName}
 use Rattle.named_laws.specs.Named.{rules_of, interference_of, charges_of, source_of}
 use Rattle.named_protocols.proofs.calls.audit_rows.Goals as goal
 
-pub returns-in-Base-clause-audits : goal.returns-in-Base-clause-audits
-returns-in-Base-clause-audits g c =
-    subst (λ (n : ProtocolName). Audits (rules_of n) (interference_of n) (charges_of n) (source_of n c.args.jobs.now.set)
+pub returns-in-Base : goal.returns-in-Base
+returns-in-Base g c =
+    subst (λ (n : ProtocolName). IsAudited (rules_of n) (interference_of n) (charges_of n) (source_of n c.args.jobs.now.set)
     (certificate_seen c.args.certificate.now) (trace_in c.args.jobs.now (g.R.RowReader.rows c.args.rows.now).runs) (ticks_of (g.R.RowReader.rows c.args.rows.now).runs)
     c.audit_rows.result)
-    (sym c.in-Base.is) c.audit_rows.ensures.audits
+    (sym c.in-Base.is) c.audit_rows.ensures
 
-pub returns-in-Dflp-clause-audits : goal.returns-in-Dflp-clause-audits
-returns-in-Dflp-clause-audits g c = rw c.in-Dflp.is c.audit_rows_with.ensures.audits
+pub returns-in-Dflp : goal.returns-in-Dflp
+returns-in-Dflp g c = rw c.in-Dflp.is c.audit_rows_with.ensures
 
-pub returns-in-Spin-clause-audits : goal.returns-in-Spin-clause-audits
-returns-in-Spin-clause-audits g c = rw c.in-Spin.is c.audit_rows_with-in-Spin.ensures.audits
+pub returns-in-Spin : goal.returns-in-Spin
+returns-in-Spin g c = rw c.in-Spin.is c.audit_rows_with-in-Spin.ensures
 
-pub returns-in-DpcpWindows-clause-audits : goal.returns-in-DpcpWindows-clause-audits
-returns-in-DpcpWindows-clause-audits g c = rw c.in-DpcpWindows.is c.audit_rows_with-in-DpcpWindows.ensures.audits
+pub returns-in-DpcpWindows : goal.returns-in-DpcpWindows
+returns-in-DpcpWindows g c = rw c.in-DpcpWindows.is c.audit_rows_with-in-DpcpWindows.ensures
 
-pub returns-in-FmlpPlusCloser-clause-audits : goal.returns-in-FmlpPlusCloser-clause-audits
-returns-in-FmlpPlusCloser-clause-audits g c = rw c.in-FmlpPlusCloser.is c.audit_rows_with-in-FmlpPlusCloser.ensures.audits
+pub returns-in-FmlpPlusCloser : goal.returns-in-FmlpPlusCloser
+returns-in-FmlpPlusCloser g c = rw c.in-FmlpPlusCloser.is c.audit_rows_with-in-FmlpPlusCloser.ensures
 
-pub returns-in-MpcpCloser-clause-audits : goal.returns-in-MpcpCloser-clause-audits
-returns-in-MpcpCloser-clause-audits g c = rw c.in-MpcpCloser.is c.audit_rows_with-in-MpcpCloser.ensures.audits
+pub returns-in-SpinCloser : goal.returns-in-SpinCloser
+returns-in-SpinCloser g c = rw c.in-SpinCloser.is c.audit_rows_with-in-SpinCloser.ensures
+
+pub returns-in-DpcpCloser : goal.returns-in-DpcpCloser
+returns-in-DpcpCloser g c = rw c.in-DpcpCloser.is c.audit_rows_with-in-DpcpCloser.ensures
+
+pub returns-in-DflpCloser : goal.returns-in-DflpCloser
+returns-in-DflpCloser g c = rw c.in-DflpCloser.is c.audit_rows_with-in-DflpCloser.ensures
+
+pub returns-in-MpcpCloser : goal.returns-in-MpcpCloser
+returns-in-MpcpCloser g c = rw c.in-MpcpCloser.is c.audit_rows_with-in-MpcpCloser.ensures

@@ -23,5 +23,14 @@ returns-in-DpcpWindows g c = rw c.in-DpcpWindows.is c.conform_rows_with-in-DpcpW
 pub returns-in-FmlpPlusCloser : goal.returns-in-FmlpPlusCloser
 returns-in-FmlpPlusCloser g c = rw c.in-FmlpPlusCloser.is c.conform_rows_with-in-FmlpPlusCloser.ensures
 
+pub returns-in-SpinCloser : goal.returns-in-SpinCloser
+returns-in-SpinCloser g c = rw c.in-SpinCloser.is c.conform_rows_with-in-SpinCloser.ensures
+
+pub returns-in-DpcpCloser : goal.returns-in-DpcpCloser
+returns-in-DpcpCloser g c = rw c.in-DpcpCloser.is c.conform_rows_with-in-DpcpCloser.ensures
+
+pub returns-in-DflpCloser : goal.returns-in-DflpCloser
+returns-in-DflpCloser g c = rw c.in-DflpCloser.is c.conform_rows_with-in-DflpCloser.ensures
+
 pub returns-in-MpcpCloser : goal.returns-in-MpcpCloser
 returns-in-MpcpCloser g c = rw c.in-MpcpCloser.is c.conform_rows_with-in-MpcpCloser.ensures

@@ -23,5 +23,14 @@ returns-in-DpcpWindows-clause-keeps c = rw c.in-DpcpWindows.is c.simulate_with-i
 pub returns-in-FmlpPlusCloser-clause-keeps : goal.returns-in-FmlpPlusCloser-clause-keeps
 returns-in-FmlpPlusCloser-clause-keeps c = rw c.in-FmlpPlusCloser.is c.simulate_with-in-FmlpPlusCloser.ensures.keeps
 
+pub returns-in-SpinCloser-clause-keeps : goal.returns-in-SpinCloser-clause-keeps
+returns-in-SpinCloser-clause-keeps c = rw c.in-SpinCloser.is c.simulate_with-in-SpinCloser.ensures.keeps
+
+pub returns-in-DpcpCloser-clause-keeps : goal.returns-in-DpcpCloser-clause-keeps
+returns-in-DpcpCloser-clause-keeps c = rw c.in-DpcpCloser.is c.simulate_with-in-DpcpCloser.ensures.keeps
+
+pub returns-in-DflpCloser-clause-keeps : goal.returns-in-DflpCloser-clause-keeps
+returns-in-DflpCloser-clause-keeps c = rw c.in-DflpCloser.is c.simulate_with-in-DflpCloser.ensures.keeps
+
 pub returns-in-MpcpCloser-clause-keeps : goal.returns-in-MpcpCloser-clause-keeps
 returns-in-MpcpCloser-clause-keeps c = rw c.in-MpcpCloser.is c.simulate_with-in-MpcpCloser.ensures.keeps

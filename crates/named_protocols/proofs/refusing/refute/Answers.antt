@@ -37,6 +37,24 @@ returns-in-FmlpPlusCloser-clause-only c =
     → IsAnswerOf c.refute-in-FmlpPlusCloser.result e (refusal_of (refuting (source_of n c.args.set.now)) c.args.allowance e ends))
     (sym c.in-FmlpPlusCloser.is) c.refute-in-FmlpPlusCloser.ensures.only
 
+pub returns-in-SpinCloser-clause-only : goal.returns-in-SpinCloser-clause-only
+returns-in-SpinCloser-clause-only c =
+    subst (λ (n : ProtocolName). (e : Ending) (ends : EndsIn (refuting (source_of n c.args.set.now)) c.args.allowance e)
+    → IsAnswerOf c.refute-in-SpinCloser.result e (refusal_of (refuting (source_of n c.args.set.now)) c.args.allowance e ends))
+    (sym c.in-SpinCloser.is) c.refute-in-SpinCloser.ensures.only
+
+pub returns-in-DpcpCloser-clause-only : goal.returns-in-DpcpCloser-clause-only
+returns-in-DpcpCloser-clause-only c =
+    subst (λ (n : ProtocolName). (e : Ending) (ends : EndsIn (refuting (source_of n c.args.set.now)) c.args.allowance e)
+    → IsAnswerOf c.refute-in-DpcpCloser.result e (refusal_of (refuting (source_of n c.args.set.now)) c.args.allowance e ends))
+    (sym c.in-DpcpCloser.is) c.refute-in-DpcpCloser.ensures.only
+
+pub returns-in-DflpCloser-clause-only : goal.returns-in-DflpCloser-clause-only
+returns-in-DflpCloser-clause-only c =
+    subst (λ (n : ProtocolName). (e : Ending) (ends : EndsIn (refuting (source_of n c.args.set.now)) c.args.allowance e)
+    → IsAnswerOf c.refute-in-DflpCloser.result e (refusal_of (refuting (source_of n c.args.set.now)) c.args.allowance e ends))
+    (sym c.in-DflpCloser.is) c.refute-in-DflpCloser.ensures.only
+
 pub returns-in-MpcpCloser-clause-only : goal.returns-in-MpcpCloser-clause-only
 returns-in-MpcpCloser-clause-only c =
     subst (λ (n : ProtocolName). (e : Ending) (ends : EndsIn (refuting (source_of n c.args.set.now)) c.args.allowance e)

@@ -1,6 +1,6 @@
 use Rattle.std.proofs.Common.{◌≡◌, ℕ, ◌<◌}
 use Rattle.std.specs.Prelude.{slice_index}
-use Rattle.fragments.specs.Windows.{jobs_in}
+use Rattle.blocking_columns.specs.Windows.{jobs_in}
 use Rattle.protocol_programs.proofs.keeping.keeps_jobs.Given as goal
 
 -- as many jobs of the tasks above x can run

@@ -1,5 +1,5 @@
 use Rattle.std.proofs.Common.{◌≡◌, ◌++◌, map, drop}
-use Rattle.fragments.specs.ColumnDef.{column_seen}
+use Rattle.blocking_columns.specs.ColumnDef.{column_seen}
 use Rattle.program_laws.specs.Programs.{cost_of}
 use Rattle.protocol_programs.proofs.parts.costs.Given as goal
 

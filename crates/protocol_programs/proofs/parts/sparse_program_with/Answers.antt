@@ -1,5 +1,5 @@
 use Rattle.std.proofs.Common.{◌≡◌, map}
-use Rattle.fragments.specs.ColumnDef.{column_seen}
+use Rattle.blocking_columns.specs.ColumnDef.{column_seen}
 use Rattle.program_laws.specs.Programs.{cost_of}
 use Rattle.protocol_programs.proofs.Over.{sparse_is_program}
 use Rattle.protocol_programs.proofs.parts.sparse_program_with.Goals as goal

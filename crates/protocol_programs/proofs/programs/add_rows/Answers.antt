@@ -1,5 +1,5 @@
 use Rattle.std.proofs.Common.{List, ◌++◌, map, subst}
-use Rattle.fragments.specs.ColumnDef.{column_seen}
+use Rattle.blocking_columns.specs.ColumnDef.{column_seen}
 use Rattle.fragments.specs.Constraints.{ConstraintDef}
 use Rattle.direct_constraints.specs.Rows.{common_rows, own_rows}
 use Rattle.preempt_constraints.specs.Rows.{preemption_rows}

@@ -1,6 +1,6 @@
 use Rattle.std.proofs.Common.{map}
 use Rattle.sporadic_model.specs.declared.ids.Protocol.TheVariants as protocol
-use Rattle.fragments.specs.ColumnDef.{column_seen}
+use Rattle.blocking_columns.specs.ColumnDef.{column_seen}
 use Rattle.program_laws.specs.Programs.{rows_of}
 use Rattle.window_laws.specs.WindowRows.{window_rows}
 use Rattle.request_windows.proofs.programs.add_rows.Goals as goal

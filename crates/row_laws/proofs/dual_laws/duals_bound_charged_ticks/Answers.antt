@@ -1,8 +1,8 @@
 use Rattle.std.proofs.Common.{◌≡◌, Some}
 use Rattle.std.specs.List.{Contains}
 use Rattle.sporadic_model.proofs.Laws.{formed_of_accepted}
-use Rattle.fragments.specs.ColumnDef.{ColumnDef}
-use Rattle.fragments.specs.Columns.{columns_where}
+use Rattle.blocking_columns.specs.ColumnDef.{ColumnDef}
+use Rattle.blocking_columns.specs.Columns.{columns_where}
 use Rattle.charge_laws.specs.Fractions.{charged_column}
 use Rattle.row_laws.proofs.Fractions.{rows_are_point}
 use Rattle.row_laws.proofs.Joined.{users_have_lengths, ticks_bounded}

@@ -3,7 +3,7 @@ use Rattle.schedule_model.specs.JobDef.{local_ticks}
 use Rattle.schedule_model.specs.Seen.{segment_seen}
 use Rattle.schedule_model.proofs.script.stays_local_at_most.Given as goal
 
--- What the segments from here on take, beside what is left, is as much as all take, beside the most.
+-- What the segments from here on take, plus the most, is what all take, plus what is left.
 abbrev pub invariant-loop-segment : goal.invariant-loop-segment
 invariant-loop-segment l = local_ticks (map segment_seen (drop l.segment-index l.script)) + l.most
     ≡ local_ticks (map segment_seen l.script) + l.left

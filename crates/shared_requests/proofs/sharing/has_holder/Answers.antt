@@ -3,7 +3,7 @@ use Rattle.std.specs.List.{list_any}
 use Rattle.std.proofs.lemmas.List.Folds.{list_any_at}
 use Rattle.sporadic_model.specs.declared.ids.TaskId.{TaskId}
 use Rattle.sporadic_model.specs.Users.{is_user}
-use Rattle.fragments.proofs.KeptNumbers.{any_of_kept}
+use Rattle.blocking_columns.proofs.KeptNumbers.{any_of_kept}
 use Rattle.shared_requests.specs.Held.{is_holder}
 use Rattle.shared_requests.proofs.sharing.has_holder.Goals as goal
 

@@ -3,8 +3,8 @@ use Rattle.std.specs.List.{list_any}
 use Rattle.std.proofs.lemmas.List.Folds.{list_any_at}
 use Rattle.sporadic_model.specs.declared.ids.TaskId.{TaskId}
 use Rattle.sporadic_model.specs.Users.{is_user}
-use Rattle.fragments.specs.Columns.{have_one_processor}
-use Rattle.fragments.proofs.KeptNumbers.{any_of_kept}
+use Rattle.blocking_columns.specs.Columns.{have_one_processor}
+use Rattle.blocking_columns.proofs.KeptNumbers.{any_of_kept}
 use Rattle.shared_requests.proofs.sharing.is_shared_out.Goals as goal
 
 pub returns-then-is_elsewhere : goal.returns-then-is_elsewhere

@@ -1,6 +1,6 @@
 use Rattle.std.proofs.Common.{◌≡◌, not, false, take}
 use Rattle.std.specs.List.{list_any}
-use Rattle.fragments.specs.Columns.{have_one_processor}
+use Rattle.blocking_columns.specs.Columns.{have_one_processor}
 use Rattle.shared_requests.proofs.sharing.is_shared_out.Given as goal
 
 abbrev pub invariant-loop-y : goal.invariant-loop-y

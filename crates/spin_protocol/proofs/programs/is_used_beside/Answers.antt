@@ -2,7 +2,7 @@ use Rattle.std.proofs.Common.{◌≡◌, ◌==◌, ◌&&◌, not, false, List, t
 use Rattle.std.specs.List.{list_any}
 use Rattle.std.proofs.lemmas.List.Folds.{list_any_at}
 use Rattle.sporadic_model.specs.declared.ids.TaskId.{TaskId}
-use Rattle.fragments.specs.Columns.{have_one_processor}
+use Rattle.blocking_columns.specs.Columns.{have_one_processor}
 use Rattle.spin_protocol.proofs.UsersBeside.{used_beside}
 use Rattle.spin_protocol.proofs.programs.is_used_beside.Goals as goal
 

@@ -1,6 +1,6 @@
 use Rattle.std.proofs.Common.{◌≡◌, ◌==◌, ◌&&◌, not, false, take}
 use Rattle.std.specs.List.{list_any}
-use Rattle.fragments.specs.Columns.{have_one_processor}
+use Rattle.blocking_columns.specs.Columns.{have_one_processor}
 use Rattle.spin_protocol.proofs.programs.is_used_beside.Given as goal
 
 abbrev pub invariant-loop-z : goal.invariant-loop-z

@@ -1,8 +1,8 @@
 use Rattle.std.proofs.Common.{◌≡◌, ◌*◌, ◌≤◌}
 use Rattle.std.specs.Prelude.{slice_index}
 use Rattle.number_laws.specs.Sums.{sum_below, only_if}
-use Rattle.fragments.specs.Columns.{have_one_processor}
-use Rattle.fragments.specs.Windows.{requests_in}
+use Rattle.blocking_columns.specs.Columns.{have_one_processor}
+use Rattle.blocking_columns.specs.Windows.{requests_in}
 use Rattle.spin_protocol.proofs.rows.higher_requests.Given as goal
 
 abbrev pub invariant-loop-h : goal.invariant-loop-h

@@ -1,7 +1,7 @@
 use Rattle.std.proofs.Common.{◌&&◌, length, sym, ◌∙◌, arith}
 use Rattle.number_laws.proofs.TestLaws.{any_below-from}
 use Rattle.sporadic_model.specs.Users.{is_user}
-use Rattle.fragments.specs.Columns.{is_lower_local}
+use Rattle.blocking_columns.specs.Columns.{is_lower_local}
 use Rattle.spin_protocol.proofs.rows.is_used_below.Goals as goal
 
 pub returns-then-is_lower_user : goal.returns-then-is_lower_user

@@ -20,8 +20,8 @@ steady-requires g c =
     let row : RowDef = row_seen c.run.result.now.row in
     let is : row ≡ (run_of all.runs i).row = ap (λ r. r.row) c.run.ensures in
     let m : MachineDef = c.args.machine.now in
-    let here : rows m.tick ≡ row = c.requires.at.here ∙ sym is in
-    let fits : IsRowFor m.list row = rw is (row_fits all m.list i c.requires.at.fits c.requires.at.within) in
+    let here : rows m.tick ≡ row = c.requires.run.at.here ∙ sym is in
+    let fits : IsRowFor m.list row = rw is (row_fits all m.list i c.requires.run.at.fits c.requires.run.at.within) in
     record {
       row = row_can (g.P.BlockingProtocol.interferes c.args.protocol.now) rows m row here c.requires.reached.shows fits
           (g.P.BlockingProtocol.sound_row c.args.protocol.now (under m rows) m.tick c.requires.suits
@@ -37,19 +37,19 @@ take-requires-clause-stretch g c =
     let is : row ≡ (run_of all.runs i).row = ap (λ r. r.row) c.run.ensures in
     let m : MachineDef = c.args.machine.now in
     let n : ℕ = c.span-ticks.result in
-    let here : rows m.tick ≡ row = c.requires.at.here ∙ sym is in
-    let fits : IsRowFor m.list row = rw is (row_fits all m.list i c.requires.at.fits c.requires.at.within) in
+    let here : rows m.tick ≡ row = c.requires.run.at.here ∙ sym is in
+    let fits : IsRowFor m.list row = rw is (row_fits all m.list i c.requires.run.at.fits c.requires.run.at.within) in
     record {
-      at = c.requires.at;
+      at = c.requires.run.at;
       shows = c.requires.reached.shows;
       can = row_stands (g.P.BlockingProtocol.interferes c.args.protocol.now) rows m row here fits
           (g.P.BlockingProtocol.sound_row c.args.protocol.now (under m rows) m.tick c.requires.suits
           (c.in-Ok.ensures rows c.requires.reached.shows here));
       lawful = c.in-Ok.ensures rows c.requires.reached.shows here;
       steady = c.steady.ensures.steady rows n c.requires.reached.shows (omega (arith, c.span-ticks.ensures.most, c.min.ensures))
-          (λ k l. c.requires.stands k (omega (arith, l, c.span-ticks.ensures.most, c.min.ensures)) ∙ sym is);
-      some = c.span-ticks.ensures.some (omega (arith, c.min.ensures, c.steady.ensures.value.some, c.requires.some));
-      early = omega (arith, c.span-ticks.ensures.most, c.min.ensures, c.requires.early);
+          (λ k l. c.requires.run.stands k (omega (arith, l, c.span-ticks.ensures.most, c.min.ensures)) ∙ sym is);
+      some = c.span-ticks.ensures.some (omega (arith, c.min.ensures, c.steady.ensures.value.some, c.requires.run.some));
+      early = omega (arith, c.span-ticks.ensures.most, c.min.ensures, c.requires.run.early);
     }
 
 pub advance_by-requires-clause-row : goal.advance_by-requires-clause-row
@@ -60,8 +60,8 @@ advance_by-requires-clause-row g c =
     let row : RowDef = row_seen c.run.result.now.row in
     let is : row ≡ (run_of all.runs i).row = ap (λ r. r.row) c.run.ensures in
     let m : MachineDef = c.args.machine.now in
-    let here : rows m.tick ≡ row = c.requires.at.here ∙ sym is in
-    let fits : IsRowFor m.list row = rw is (row_fits all m.list i c.requires.at.fits c.requires.at.within) in
+    let here : rows m.tick ≡ row = c.requires.run.at.here ∙ sym is in
+    let fits : IsRowFor m.list row = rw is (row_fits all m.list i c.requires.run.at.fits c.requires.run.at.within) in
     row_can (g.P.BlockingProtocol.interferes c.args.protocol.now) rows m row here c.requires.reached.shows fits
     (g.P.BlockingProtocol.sound_row c.args.protocol.now (under m rows) m.tick c.requires.suits
     (c.in-Ok.ensures rows c.requires.reached.shows here))
@@ -80,10 +80,10 @@ returns-clause-walked g c =
     let is : row ≡ (run_of all.runs i).row = ap (λ r. r.row) c.run.ensures in
     let m : MachineDef = c.args.machine.now in
     let n : ℕ = c.span-ticks.result in
-    let here : rows m.tick ≡ row = c.requires.at.here ∙ sym is in
-    let some : 1 ≤ n = c.span-ticks.ensures.some (omega (arith, c.min.ensures, c.steady.ensures.value.some, c.requires.some)) in
+    let here : rows m.tick ≡ row = c.requires.run.at.here ∙ sym is in
+    let some : 1 ≤ n = c.span-ticks.ensures.some (omega (arith, c.min.ensures, c.steady.ensures.value.some, c.requires.run.some)) in
     let most : n ≤ c.args.left = omega (arith, c.span-ticks.ensures.most, c.min.ensures) in
-    let same : (k : ℕ) → k < n → rows (m.tick + k) ≡ row = λ k l. c.requires.stands k (omega (arith, l, most)) ∙ sym is in
+    let same : (k : ℕ) → k < n → rows (m.tick + k) ≡ row = λ k l. c.requires.run.stands k (omega (arith, l, most)) ∙ sym is in
     let steady : IsSteady (under m rows) m.tick n = c.steady.ensures.steady rows n c.requires.reached.shows
     (omega (arith, c.span-ticks.ensures.most, c.min.ensures)) same in (
       some,

@@ -1,5 +1,5 @@
 use Rattle.std.proofs.Common.{◌∙◌, map, length, sym, arith}
-use Rattle.fragments.specs.ColumnDef.{column_seen}
+use Rattle.blocking_columns.specs.ColumnDef.{column_seen}
 use Rattle.fragments.proofs.RowStretches.{stretch_of_lower, columns_of_lower}
 use Rattle.direct_constraints.specs.Rows.{lower_holder_row}
 use Rattle.direct_constraints.proofs.AskedColumns.{no_lower_holders, lower_holders_alone}

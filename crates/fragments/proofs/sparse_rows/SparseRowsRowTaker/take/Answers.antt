@@ -1,7 +1,7 @@
 use Rattle.std.proofs.Common.{◌≡◌, ◌<◌, length, slice_index_or, ◌∙◌, ap, arith}
 use Rattle.std.proofs.lemmas.List.{length-map, get_or_default}
-use Rattle.fragments.specs.declared.columns.Fragment.{Fragment}
-use Rattle.fragments.specs.ColumnDef.{column_seen}
+use Rattle.blocking_columns.specs.declared.columns.Fragment.{Fragment}
+use Rattle.blocking_columns.specs.ColumnDef.{column_seen}
 use Rattle.fragments.proofs.Nonzero.{row_continued, row_ended}
 use Rattle.fragments.proofs.sparse_rows.SparseRowsRowTaker.take.Goals as goal
 

@@ -1,5 +1,5 @@
 use Rattle.std.proofs.Common.{◌+◌, ◌∙◌, map, length, sym, arith}
-use Rattle.fragments.specs.ColumnDef.{column_seen}
+use Rattle.blocking_columns.specs.ColumnDef.{column_seen}
 use Rattle.fragments.proofs.RowStretches.{stretch_of_lower, columns_of_lower}
 use Rattle.indirect_constraints.specs.Rows.{home_row}
 use Rattle.indirect_constraints.proofs.AskedAtHome.{no_home, home_alone}

@@ -1,41 +1,24 @@
-use Rattle.std.proofs.Common.{◌≡◌, ◌∙◌, List, [], length, map, ap, subst, arith}
-use Rattle.std.proofs.lemmas.List.{length-map}
-use Rattle.sporadic_model.specs.SetDef.{SetDef}
-use Rattle.sporadic_model.specs.Users.{users_of, is_user}
-use Rattle.sporadic_model.specs.Demands.{AreUsers}
+use Rattle.std.specs.Prelude.{Vec}
+use Rattle.std.proofs.Common.{◌∙◌, ◌<◌, All, length, map, ap, sym, subst}
+use Rattle.std.specs.Global.{Global}
+use Rattle.sporadic_model.specs.Users.{is_user}
 use Rattle.sporadic_model.specs.declared.ids.TaskId.{TaskId}
-use Rattle.sporadic_model.proofs.Filtered.{kept_long, kept_at, below_of_ids}
+use Rattle.sporadic_model.proofs.Kept.{ids_kept}
 use Rattle.sporadic_model.proofs.task_set.TaskSet.users.Goals as goal
 
-pub users_at-requires : goal.users_at-requires
-users_at-requires c =
-    let set : SetDef = c.args.self.now in
-    let rows : List (List TaskId) = map (λ row. row.items) c.deref.result.now in
-    let kept : AreUsers set rows =
-    ap (λ l. map (map (λ (i : TaskId). i.0)) (map (λ row. row.items) l)) c.deref.ensures.value
-    ∙ subst (λ s. AreUsers s (map (λ row. row.items) c.self.inside.users.items)) c.self.view_is c.self.invariant.users in
-    let long = kept_long (map (λ (i : TaskId). i.0)) (users_of set) rows (length set.resources) kept in
-    let same = length-map c.deref.result.now (λ row. row.items) in
-    omega arith
+pub row_at-requires : goal.row_at-requires
+row_at-requires c =
+    (ids_kept (λ (v : Vec TaskId Global). v.items) (λ (i : TaskId). i.0) is_user (λ s. length s.tasks) (λ s. length s.resources)
+    c.args.q.0 _ c.args.self.now _ c.deref.result.now c.self.view_is c.deref.ensures.value c.self.invariant.users c.requires).within
 
 pub returns-clause-value : goal.returns-clause-value
 returns-clause-value c =
-    let set : SetDef = c.args.self.now in
-    let rows : List (List TaskId) = map (λ row. row.items) c.deref.result.now in
-    let kept : AreUsers set rows =
-    ap (λ l. map (map (λ (i : TaskId). i.0)) (map (λ row. row.items) l)) c.deref.ensures.value
-    ∙ subst (λ s. AreUsers s (map (λ row. row.items) c.self.inside.users.items)) c.self.view_is c.self.invariant.users in
-    ap (map (λ (i : TaskId). i.0)) c.users_at.ensures
-    ∙ kept_at (map (λ (i : TaskId). i.0)) (users_of set) rows (length set.resources) c.args.q.0 [] kept c.requires
+    ap (map (λ (i : TaskId). i.0)) c.row_at.ensures
+    ∙ (ids_kept (λ (v : Vec TaskId Global). v.items) (λ (i : TaskId). i.0) is_user (λ s. length s.tasks) (λ s. length s.resources)
+    c.args.q.0 _ c.args.self.now _ c.deref.result.now c.self.view_is c.deref.ensures.value c.self.invariant.users c.requires).ids
 
 pub returns-clause-within : goal.returns-clause-within
 returns-clause-within c =
-    let set : SetDef = c.args.self.now in
-    let rows : List (List TaskId) = map (λ row. row.items) c.deref.result.now in
-    let kept : AreUsers set rows =
-    ap (λ l. map (map (λ (i : TaskId). i.0)) (map (λ row. row.items) l)) c.deref.ensures.value
-    ∙ subst (λ s. AreUsers s (map (λ row. row.items) c.self.inside.users.items)) c.self.view_is c.self.invariant.users in
-    let given : map (λ (i : TaskId). i.0) c.users_at.result.now ≡ users_of set c.args.q.0 =
-    ap (map (λ (i : TaskId). i.0)) c.users_at.ensures
-    ∙ kept_at (map (λ (i : TaskId). i.0)) (users_of set) rows (length set.resources) c.args.q.0 [] kept c.requires in
-    below_of_ids (λ (i : TaskId). i.0) (is_user set c.args.q.0) (length set.tasks) c.users_at.result.now given
+    subst (All (λ (i : TaskId). i.0 < length c.args.self.now.tasks)) (sym c.row_at.ensures)
+    (ids_kept (λ (v : Vec TaskId Global). v.items) (λ (i : TaskId). i.0) is_user (λ s. length s.tasks) (λ s. length s.resources)
+    c.args.q.0 _ c.args.self.now _ c.deref.result.now c.self.view_is c.deref.ensures.value c.self.invariant.users c.requires).below

@@ -1,0 +1,11 @@
+pub mod Asked
+pub mod HomeMarks
+pub mod Ceilings
+pub mod ColumnDef
+pub mod Columns
+pub mod Windows
+pub mod Stretches
+pub mod TaskPlaces
+pub mod Links
+pub mod ClassOrder
+pub mod Requested

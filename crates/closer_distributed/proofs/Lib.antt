@@ -1,0 +1,2 @@
+mod Away
+mod FewRows

@@ -1,0 +1,12 @@
+//! The closer analyses of DPCP and of the distributed FIFO protocol, as types: the plain protocols, with programs that have further rows.
+#![tactic(auto)]
+
+mod counting;
+mod dflp;
+mod dpcp;
+mod laws;
+mod rows;
+
+pub use dflp::CloserDflp;
+pub use dpcp::CloserDpcp;
+pub use laws::programs_are_small;

@@ -1,0 +1,9 @@
+pub mod OneHome
+pub mod HomeTaskRow
+pub mod Left
+pub mod LowerRows
+pub mod DpcpWaits
+pub mod DflpWaits
+pub mod Programs
+pub mod Points
+pub mod Sound

@@ -1,0 +1,2 @@
+mod UsersThere
+mod Told

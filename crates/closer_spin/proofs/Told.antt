@@ -1,0 +1,47 @@
+-- What a table says of its test: how many pass, and what sums over those that pass are.
+use Rattle.std.proofs.Common.{◌≡◌, ℕ, ◌+◌, ◌<◌, ◌&&◌, Bool, true, false, List, length, ap, ◌∙◌, inl, inr, nat_lt}
+use Rattle.std.specs.Prelude.{slice_index_or}
+use Rattle.std.specs.List.{Contains}
+use Rattle.std.proofs.lemmas.Bool.{cases_Bool, both_ways, and_parts}
+use Rattle.std.proofs.lemmas.List.Elements.{All-contains_itself}
+use Rattle.number_laws.specs.Sums.{only_if}
+use Rattle.number_laws.specs.Tests.{count_below}
+use Rattle.number_laws.proofs.SumLaws.{sum_below-agree}
+use Rattle.number_laws.proofs.CountLaws.{flag-passes, count_below-agree}
+use Rattle.sporadic_model.specs.SetDef.{SetDef}
+use Rattle.sporadic_model.specs.Users.{count_of}
+use Rattle.blocking_columns.specs.ColumnDef.{ColumnDef}
+use Rattle.fragments.specs.Constraints.{holds_some}
+use Rattle.program_laws.proofs.FewRows.{held}
+use Rattle.spin_charging.specs.SpinPrograms.{higher_requests, upper_requests}
+use Rattle.closer_spin_laws.specs.CloserSpinRows.{is_of_slot, together_row}
+use Rattle.closer_spin.specs.Tables.{Tells}
+
+-- As many pass the test as are told.
+pub told_several : (n : ℕ) (test : ℕ → Bool) (table : List Bool) → Tells n test table
+    → nat_lt 1 (count_below (length table) (λ q. slice_index_or table q false)) ≡ nat_lt 1 (count_below n test)
+told_several n test table told =
+    ap (λ m. nat_lt 1 (count_below m (λ q. slice_index_or table q false))) told.one_each
+    ∙ ap (nat_lt 1) (count_below-agree n (λ q. slice_index_or table q false) test told.each)
+
+pub told_requests : (set : SetDef) (bounds : ℕ → ℕ) (i : ℕ) (test : ℕ → Bool) (table : List Bool)
+    → Tells (length set.resources) test table
+    → upper_requests set bounds i (λ q. slice_index_or table q false) ≡ upper_requests set bounds i test
+told_requests set bounds i test table told =
+    sum_below-agree (length set.resources)
+    (λ q. only_if (slice_index_or table q false) (count_of set i q + higher_requests set bounds i q))
+    (λ q. only_if (test q) (count_of set i q + higher_requests set bounds i q))
+    (λ q l. ap (λ b. only_if b (count_of set i q + higher_requests set bounds i q)) (told.each q l))
+
+-- Where they aren't several, the row of these resources together isn't there.
+pub together_missing : (set : SetDef) (i k : ℕ) (test : ℕ → Bool) (cs : List ColumnDef)
+    → nat_lt 1 (count_below (length set.resources) test) ≡ false → holds_some cs (together_row set i k test) ≡ false
+together_missing set i k test cs few = elim (cases_Bool (holds_some cs (together_row set i k test))) [
+  | inr none ↦ none
+  | inl h ↦
+      let c : (c : ColumnDef) × (Contains cs c) × (0 < (together_row set i k test).coefficient c) =
+      held (Contains cs) cs (together_row set i k test) (All-contains_itself cs) h in
+      let some : nat_lt 1 (count_below (length set.resources) test) ≡ true =
+      (and_parts _ _ (flag-passes (nat_lt 1 (count_below (length set.resources) test) && is_of_slot set k test c.0) c.2)).0 in
+      absurd (both_ways (nat_lt 1 (count_below (length set.resources) test)) few some)
+]

@@ -1,0 +1,18 @@
+use Rattle.std.proofs.Common.{◌++◌, ◌∷◌, [], map}
+use Rattle.blocking_columns.specs.ColumnDef.{column_seen}
+use Rattle.direct_constraints.specs.Rows.{common_rows}
+use Rattle.spin_charging.specs.SpinPrograms.{lower_request_row}
+use Rattle.closer_spin_laws.specs.CloserSpinRows.{closer_spinning_rows, own_spinning_rows, together_rows}
+use Rattle.closer_spin.proofs.programs.add_rows.Goals as goal
+
+pub returns : goal.returns
+returns g c =
+    let set = c.args.set.now in
+    let i = c.args.i.0 in
+    let seen = map column_seen c.args.columns.now in
+    let behind = g.met.T.RowTaker.behind in
+    let rest = closer_spinning_rows set i ++ (own_spinning_rows set i ++ together_rows set i) in
+    behind c.args.taker.now c.add_common.new.taker c.add_all_spinning.new.taker seen (common_rows set i) (lower_request_row ∷ rest)
+    c.args.bounds.now c.in_ok-add_common.ensures.rows
+    (behind c.add_common.new.taker c.add_lower_requests.new.taker c.add_all_spinning.new.taker seen (lower_request_row ∷ []) rest
+    c.args.bounds.now c.in_ok-add_lower_requests.ensures c.in_ok-add_all_spinning.ensures)

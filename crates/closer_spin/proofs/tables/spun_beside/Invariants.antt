@@ -1,0 +1,10 @@
+use Rattle.std.proofs.Common.{◌≡◌, ℕ, ◌<◌, false, length}
+use Rattle.std.specs.Prelude.{slice_index_or}
+use Rattle.closer_spin_laws.specs.CloserSpinRows.{is_spun_beside}
+use Rattle.closer_spin.proofs.tables.spun_beside.Given as goal
+
+abbrev pub invariant-loop-q : goal.invariant-loop-q
+invariant-loop-q l = record {
+  one_each : length l.others.items ≡ l.q;
+  each : (q : ℕ) → q < l.q → slice_index_or l.others.items q false ≡ is_spun_beside l.set l.i.0 l.processor l.without.0 q;
+}

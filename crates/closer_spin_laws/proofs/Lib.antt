@@ -1,0 +1,6 @@
+pub mod Rows
+pub mod Programs
+pub mod FewRows
+pub mod Dominated
+pub mod Points
+pub mod Sound

@@ -1,0 +1,80 @@
+-- The rows that the closer analysis of spin locks has, and its programs. In each, i is the analysed task and k a processor, counted
+-- from 1.
+--
+-- One request of the lower tasks of i's processor is open at a job's release at most, and it is of one resource. It runs and preempts,
+-- or it spins, for one request of k. So whatever resources are taken together, it pays for one request: one of these resources that is
+-- spun for, or one of another that preempts.
+use Rattle.std.specs.Prelude.{ℕ, ◌+◌, ◌==◌, ◌&&◌, not, Bool, nat_lt, List, ◌∷◌, ◌++◌, length, if◌then◌else◌}
+use Rattle.number_laws.specs.Tests.{any_below, count_below}
+use Rattle.program_form.specs.Program.{ProgramDef}
+use Rattle.sporadic_model.specs.SetDef.{SetDef, task_at}
+use Rattle.sporadic_model.specs.Users.{is_user}
+use Rattle.program_sources.specs.Recurrence.{SourceDef}
+use Rattle.blocking_columns.specs.declared.columns.Class.TheVariants as class
+use Rattle.blocking_columns.specs.ColumnDef.{ColumnDef, is_class}
+use Rattle.fragments.specs.Constraints.{ConstraintDef, counting, per, per_pair}
+use Rattle.direct_constraints.specs.Rows.{common_rows}
+use Rattle.program_laws.specs.Programs.{program_with, source_with}
+use Rattle.spin_charging.specs.SpinPrograms.{blocks_by_spinning, lower_request_row, is_from, is_used_below, spinning_row}
+use Rattle.spin_charging.specs.SpinPrograms.{own_spinning_row, spin_columns, upper_requests}
+
+-- Does a task of processor k use q?
+abbrev pub is_used_on : SetDef → ℕ → ℕ → Bool
+is_used_on set k q = any_below (length set.tasks) (λ x. ((task_at set x).processor == k) && is_user set q x)
+
+-- May a lower task of i's processor spin for a request of q by a task of k, which is another processor?
+abbrev pub is_spun_below : SetDef → ℕ → ℕ → ℕ → Bool
+is_spun_below set i k q = (not (k == (task_at set i).processor) && is_used_on set k q) && is_used_below set i q
+
+-- Spinning: each request of q from i's processor spins for at most one request of k, of lower tasks at most one. Where that may be of q,
+-- a lower request of another resource that preempts stands in its place.
+abbrev pub closer_spinning_row : SetDef → ℕ → ℕ → ℕ → ConstraintDef
+closer_spinning_row set i k q = counting
+    (λ c. if is_class class.Preemption c.class then is_spun_below set i k q && not (c.resource == q) else is_from set k q c)
+    (spinning_row set i k q).limit
+
+-- Is it a column of requests from k of a resource that passes, or does it preempt by a request of another one?
+abbrev pub is_of_slot : SetDef → ℕ → (ℕ → Bool) → ColumnDef → Bool
+is_of_slot set k passes c =
+    if is_class class.Preemption c.class then not (passes c.resource) else (((task_at set c.task).processor == k) && passes c.resource)
+
+-- Several resources together: their requests by i and by higher tasks of its processor each spin for at most one request of k, and the
+-- lower request adds one, of these resources or of another. Of one resource Spinning says this.
+abbrev pub together_row : SetDef → ℕ → ℕ → (ℕ → Bool) → ConstraintDef
+together_row set i k passes = counting (λ c. nat_lt 1 (count_below (length set.resources) passes) && is_of_slot set k passes c)
+    (λ bounds. 1 + upper_requests set bounds i passes)
+
+-- Lower spinning: all resources for which lower tasks may spin.
+abbrev pub lower_spinning_row : SetDef → ℕ → ℕ → ConstraintDef
+lower_spinning_row set i k = together_row set i k (is_spun_below set i k)
+
+-- Other lower spinning: all of them but q.
+abbrev pub is_spun_beside : SetDef → ℕ → ℕ → ℕ → ℕ → Bool
+is_spun_beside set i k q r = is_spun_below set i k q && (is_spun_below set i k r && not (r == q))
+
+abbrev pub other_lower_spinning_row : SetDef → ℕ → ℕ → ℕ → ConstraintDef
+other_lower_spinning_row set i k q = together_row set i k (is_spun_beside set i k q)
+
+-- The rows of each processor and resource, and those of several resources together.
+abbrev pub closer_spinning_rows : SetDef → ℕ → List ConstraintDef
+closer_spinning_rows set i = per_pair set.processors (length set.resources) (λ k q. closer_spinning_row set i (k + 1) q)
+
+abbrev pub own_spinning_rows : SetDef → ℕ → List ConstraintDef
+own_spinning_rows set i = per_pair set.processors (length set.resources) (λ k q. own_spinning_row set i (k + 1) q)
+
+abbrev pub together_rows : SetDef → ℕ → List ConstraintDef
+together_rows set i = per set.processors (λ k. lower_spinning_row set i (k + 1))
+    ++ per_pair set.processors (length set.resources) (λ k q. other_lower_spinning_row set i (k + 1) q)
+
+-- The rows of task i: requests, time, lower requests, spinning, own spinning, lower spinning, other lower spinning.
+abbrev pub spin_closer_rows : SetDef → ℕ → List ConstraintDef
+spin_closer_rows set i =
+    common_rows set i ++ (lower_request_row ∷ (closer_spinning_rows set i ++ (own_spinning_rows set i ++ together_rows set i)))
+
+-- The source of these programs for a set: requests may block as under spin locks, and interference is counted as there.
+abbrev pub spin_closer_source : SetDef → SourceDef
+spin_closer_source set = source_with set (blocks_by_spinning set) (spin_closer_rows set) (λ h. (task_at set h).cost)
+
+-- The program of task i at bounds, as contracts name it.
+abbrev pub spin_closer_program : SetDef → ℕ → List ℕ → ProgramDef
+spin_closer_program set i bounds = program_with set (spin_columns set i) (spin_closer_rows set i) bounds

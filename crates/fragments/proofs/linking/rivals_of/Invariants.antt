@@ -1,9 +1,0 @@
-use Rattle.std.proofs.Common.{take}
-use Rattle.fragments.specs.Links.{AreKnownRivals, AreRivalsOf}
-use Rattle.fragments.proofs.linking.rivals_of.Given as goal
-
-abbrev pub invariant-loop-r : goal.invariant-loop-r
-invariant-loop-r l = record {
-  rivals : AreRivalsOf l.set l.i.0 (take l.r-index l.used) l.rivals.items;
-  known : AreKnownRivals l.protocol l.set l.rivals.items;
-}

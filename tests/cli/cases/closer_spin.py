@@ -1,0 +1,84 @@
+"""The closer analysis of spin locks, in each command that takes a protocol."""
+import re
+
+from cases.closer import bounded
+from setting import Case, runs_on
+from sets import FIVE, PAIR, certificate, old, resource, task, task_set, tied
+
+# of each closer kind of rows a set in which one bound falls by that kind alone, or by that kind among them, with the bounds under spin
+# locks and by the closer analysis; and a lawful schedule that meets the smaller bound: its jobs, its rows, and what an audit says
+KINDS = {
+    "closer spinning": (
+        task_set(2, [resource("q"), resource("r")], task("t1", 1, 200, 6, ("q", 3)), task("t2", 2, 300, 4, ("r", 1)), task("t3", 2, 400, 12, ("q", 3), ("r", 5))),
+        [9, 12, 19], [9, 10, 19],
+        "t1,0,1 q:3\nt2,1,4\nt3,0,1 q:3\n", "1,1,3,,\n3,1,,1,\n3,,3,3,\n4,,2,,\n",
+        "kept 11\nt1 4 9 0 3 0 0 0\nt2 10 10 6 6 0 3 3\nt3 7 19 3 3 3 0 0\n"),
+    "lower spinning": (
+        task_set(2, [resource("q"), resource("r")], task("t1", 1, 100, 3), task("t2", 1, 200, 5, ("q", 1), ("r", 1)), task("t3", 2, 200, 12, ("q", 5), ("r", 5))),
+        [14, 18, 14], [9, 18, 14],
+        "t1,1,3\nt2,0,1 q:1\nt3,0,1 q:5\n", "1,2,3,,\n5,,3,3,\n1,2,,2,\n3,1,,,\n",
+        "kept 10\nt1 9 9 6 6 0 5 1\nt2 7 18 5 10 5 0 0\nt3 6 14 0 2 0 0 0\n"),
+    "other lower spinning": (
+        task_set(2, [resource("q"), resource("r"), resource("s")],
+                 task("t1", 1, 200, 3), task("t2", 1, 300, 15, ("q", 1), ("r", 1), ("s", 10)), task("t3", 2, 300, 25, ("q", 10), ("r", 10), ("s", 1))),
+        [34, 39, 37], [14, 39, 37],
+        "t1,1,3\nt2,0,1 q:1\nt3,0,1 q:10\n", "1,2,3,,,\n10,,3,3,,\n1,2,,2,,\n3,1,,,,\n",
+        "kept 15\nt1 14 14 11 11 0 10 1\nt2 12 39 10 21 10 0 0\nt3 11 37 0 12 0 0 0\n"),
+}
+
+LOWER, _, BOUNDS, *_ = KINDS["lower spinning"]
+REST = [[5, 5, 0, 0, 0, 0, 0], [1, 1, 0, 0, 0, 0, 0]]
+# of the higher task: four rows of requests, two of time, lower requests, closer spinning of q and of r, lower spinning
+LOWER_CERTIFICATE = certificate("spin-c", BOUNDS, [[0, 0, 0, 0, 0, 0, 1, 0, 0, 5], *REST], LOWER)
+TIGHT = LOWER.replace('"cost": 3,', '"cost": 3, "deadline": 12,')
+TIGHTER = LOWER.replace('"cost": 3,', '"cost": 3, "deadline": 8,')
+FIVE_CERTIFICATE = certificate("spin-c", [7, 11, 7], [[2, 3, 0, 0, 0, 0], [3, 0, 0, 0], [2, 0, 0, 0]], FIVE)
+
+run = runs_on(LOWER)
+
+
+def with_header(set, lines):
+    """The rows of a set of two processors, with the names of its resources."""
+    return "ticks,P1,P2," + ",".join(re.findall(r'\{"name": "(\w)"\}', set)) + "\n" + lines
+
+
+def audited(kind, set, jobs, rows, says):
+    files = {"set": set, "jobs": "task,release,script\n" + jobs, "rows": with_header(set, rows)}
+    return Case(f"a schedule that meets {kind}", "audit spin-c set cert jobs rows", says, 0, files, before=(("analyse spin-c set", "cert"),))
+
+
+ANALYSES = [
+    *(case for kind, (set, plain, closer, *_) in KINDS.items() for case in (bounded(kind, "spin", plain, set), bounded(kind, "spin-c", closer, set))),
+    run("a set of one resource, as under spin locks", "analyse spin-c", FIVE_CERTIFICATE, 0, FIVE),
+    bounded("what the closer analysis alone shows", "spin-c", BOUNDS, TIGHT),
+    run("and spin locks don't", "analyse spin", "not shown t1 14 12\n", 1, TIGHT),
+    run("what neither shows", "analyse spin-c", "not shown t1 9 8\n", 1, TIGHTER),
+]
+
+CERTIFICATES = [
+    run("a certificate by lower spinning", "check spin-c", "valid\n", cert=LOWER_CERTIFICATE),
+    run("not under spin locks", "check spin", "refused cert otherprotocol\n", 3, cert=LOWER_CERTIFICATE),
+    run("nor with the word of spin locks", "check spin", "invalid dualsize t1\n", 1, cert=LOWER_CERTIFICATE.replace("spin-c", "spin")),
+    run("what closer spinning shows without it", "check spin-c", "valid\n",
+        cert=certificate("spin-c", [13, 18, 14], [[0, 0, 0, 0, 0, 0, 0, 5, 5, 0], *REST], LOWER)),
+    run("no bound below what lower spinning lets be", "check spin-c", "invalid small t1\n", 1,
+        cert=certificate("spin-c", [8, 18, 14], [[0, 0, 0, 0, 0, 0, 1, 0, 0, 5], *REST], LOWER)),
+    run("a dual that leaves spinning to lower requests", "check spin-c", "invalid cover t1 3\n", 1,
+        cert=certificate("spin-c", BOUNDS, [[0, 0, 0, 0, 0, 0, 5, 0, 0, 0], *REST], LOWER)),
+    run("a certificate of another set", "check spin-c", "invalid otherset\n", 1, cert=tied(LOWER_CERTIFICATE, PAIR)),
+    run("a certificate without a digest", "upgrade spin-c", LOWER_CERTIFICATE, old=old(LOWER_CERTIFICATE)),
+    Case("a refusal, confirmed", "confirm spin-c set cert", "confirmed\n", 0, {"set": TIGHTER}, before=(("refute spin-c set", "cert"),)),
+    Case("what spin locks refuse", "confirm spin set cert", "confirmed\n", 0, {"set": TIGHT}, before=(("refute spin set", "cert"),)),
+    run("not by the closer analysis", "refute spin-c", "schedulable\n", 1, TIGHT),
+]
+
+SCHEDULES = [
+    *(audited(kind, set, jobs, rows, says) for kind, (set, _, _, jobs, rows, says) in KINDS.items()),
+]
+
+WORDS = [
+    run("the word with a capital", "analyse spin-C", "refused words\n", 2),
+    run("the word without its dash", "check spinc", "refused words\n", 2, cert=LOWER_CERTIFICATE),
+]
+
+CASES = ANALYSES + CERTIFICATES + SCHEDULES + WORDS
