@@ -474,7 +474,6 @@ var SecondCheck = (function () {
         },
         lower_home_tasks: { row: (view, { x }) => x > view.i && view.is_local(x) && [x], limit: (view) => 1n + view.own_requests(view.own_away()) },
         lower_preemption: { row: (view, { x, way }) => way === PREEMPTION && x > view.i && view.is_local(x) && [0], limit: (view) => 1n + view.own_requests(view.own_away()) },
-        lower_waits: { row: (view, column) => is_open(column) && column.x > view.i && view.home(column.q) === view.processor(view.i) && [0], limit: () => 0n },
     };
 
     const KINDS_OF = {
@@ -486,7 +485,7 @@ var SecondCheck = (function () {
         spin: ["requests", "time", "lower_requests", "spinning", "own_spinning"],
     };
     KINDS_OF["fmlp+-c"] = [...KINDS_OF["fmlp+"], "holders", "other_holders", "lower_tasks", "local_preemption", "local_waits", "local_runners"];
-    KINDS_OF["dpcp-c"] = [...KINDS_OF["dpcp-w"], "home_tasks", "lower_home_tasks", "lower_preemption", "lower_waits"];
+    KINDS_OF["dpcp-c"] = [...KINDS_OF["dpcp-w"], "home_tasks", "lower_home_tasks", "lower_preemption"];
     KINDS_OF["dflp-c"] = [...KINDS_OF.dflp, "home_tasks", "lower_home_tasks", "lower_preemption"];
 
     // The rows of a kind, in rising order of whom each is for: its cells, each a column and how often that counts, and its limit.

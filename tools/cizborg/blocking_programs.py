@@ -345,11 +345,6 @@ class Shape:
         lower = [(c, column) for c, column in self.every if column.task > self.i and self.s.processor[column.task] == self.s.processor[self.i]]
         self.add(lambda r: 1 + self.requests_away(), lower, lambda c: int(c.way == "preemption"))
 
-    def add_lower_waits(self) -> None:
-        """No request of a lower task is waited for on i's processor."""
-        here = [(c, column) for c, column in self.every if column.task > self.i and self.s.home[column.resource] == self.s.processor[self.i]]
-        self.add(lambda r: 0, here, lambda c: int(c.way != "preemption"))
-
     def requests_away(self) -> int:
         """The requests of i that run on other processors."""
         return self.requests() - self.requests_at(self.s.processor[self.i])
@@ -429,5 +424,5 @@ def as_lp(costs: Sequence[int], rows: Sequence[tuple[Row, int]]) -> str:
     lines = ["Maximize", " worth: " + (" + ".join(f"{cost} y{c}" for c, cost in enumerate(costs)) or "0 y0"), "Subject To"]
     lines += [f" r{k}: " + " + ".join(f"{weight} y{c}" for c, weight in row) + f" <= {limit}" for k, (row, limit) in enumerate(rows)]
     return "\n".join(lines + ["End", ""])
-KINDS["dpcp-c"] = (*KINDS["dpcp-w"], Shape.add_home_tasks, Shape.add_lower_home_tasks, Shape.add_lower_preemption, Shape.add_lower_waits)
+KINDS["dpcp-c"] = (*KINDS["dpcp-w"], Shape.add_home_tasks, Shape.add_lower_home_tasks, Shape.add_lower_preemption)
 KINDS["dflp-c"] = (*KINDS["dflp"], Shape.add_home_tasks, Shape.add_lower_home_tasks, Shape.add_lower_preemption)

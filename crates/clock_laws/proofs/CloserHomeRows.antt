@@ -1,8 +1,8 @@
 -- The closer rows of DPCP and of the distributed FIFO protocol in cycles beside those in ticks, and with them whole programs.
-use Rattle.std.proofs.Common.{◌≡◌, ℕ, ◌+◌, ◌<◌, ◌==◌, ◌&&◌, not, nat_lt, List, [], ◌∷◌, ◌++◌, length, refl}
+use Rattle.std.proofs.Common.{◌≡◌, ℕ, ◌+◌, ◌<◌, ◌==◌, ◌&&◌, not, List, [], ◌∷◌, ◌++◌, length, refl}
 use Rattle.std.specs.Prelude.{slice_index}
 use Rattle.number_laws.specs.Sums.{sum_below, only_if}
-use Rattle.sporadic_model.specs.SetDef.{SetDef, task_at}
+use Rattle.sporadic_model.specs.SetDef.{SetDef}
 use Rattle.sporadic_model.specs.Homes.{home_in}
 use Rattle.sporadic_model.specs.declared.ids.Protocol.TheVariants as protocol
 use Rattle.fragments.specs.declared.columns.Class.TheVariants.{Preemption}
@@ -12,7 +12,7 @@ use Rattle.fragments.specs.Constraints.{ConstraintDef, per, per_where}
 use Rattle.window_laws.specs.WindowRows.{windowed_rows}
 use Rattle.dflp_laws.specs.Programs.{dflp_rows, dflp_columns}
 use Rattle.closer_distributed_laws.specs.CloserRows.{requests_away, is_home_wait, home_task_row, lower_task_row, lower_preemption_row}
-use Rattle.closer_distributed_laws.specs.CloserRows.{lower_wait_row, home_rows, dpcp_closer_rows, dflp_closer_rows}
+use Rattle.closer_distributed_laws.specs.CloserRows.{home_rows, dpcp_closer_rows, dflp_closer_rows}
 use Rattle.closer_distributed_laws.specs.CloserRows.{dpcp_closer_source, dflp_closer_source}
 use Rattle.clock_laws.specs.Cycles.{in_cycles, times_each}
 use Rattle.clock_laws.proofs.Sets.{tasks_in, processor_in, count_in, lower_in}
@@ -53,14 +53,6 @@ lower_preemption_in k set bounds i some = counted_same k bounds (λ c. is_class 
     (λ c. is_class Preemption c.class && is_lower_local (in_cycles k set) i c.task) _ _ some
     (λ j c. is_class Preemption c.class && lower_in k set j i c.task) (λ j. 1 + away_in k set i j)
 
-lower_wait_in : (k : ℕ) (set : SetDef) (bounds : ℕ → ℕ) (i : ℕ) → 0 < k
-    → IsRescaledRow k bounds (lower_wait_row set i) (lower_wait_row (in_cycles k set) i)
-lower_wait_in k set bounds i some = counted_same k bounds
-    (λ c. nat_lt i c.task && (not (is_class Preemption c.class) && (home_in set c.resource == (task_at set i).processor)))
-    (λ c. nat_lt i c.task && (not (is_class Preemption c.class) && (home_in set c.resource == (task_at (in_cycles k set) i).processor)))
-    _ _ some
-    (λ j c. nat_lt i c.task && (not (is_class Preemption c.class) && (home_in set c.resource == processor_in k set i j))) refl
-
 home_rows_in : (k : ℕ) (set : SetDef) (bounds : ℕ → ℕ) (i : ℕ) → 0 < k
     → AreRescaled k bounds (home_rows set i) (home_rows (in_cycles k set) i)
 home_rows_in k set bounds i some = appended k bounds tasks fine_tasks (lowers ++ lower_preemption_row set i ∷ [])
@@ -81,11 +73,8 @@ home_rows_in k set bounds i some = appended k bounds tasks fine_tasks (lowers ++
 
 dpcp_closer_rows_in : (k : ℕ) (set : SetDef) (bounds : ℕ → ℕ) (i : ℕ) → 0 < k
     → AreRescaled k bounds (dpcp_closer_rows set i) (dpcp_closer_rows (in_cycles k set) i)
-dpcp_closer_rows_in k set bounds i some = appended k bounds (windowed_rows set i) (windowed_rows (in_cycles k set) i)
-    (home_rows set i ++ lower_wait_row set i ∷ []) (home_rows (in_cycles k set) i ++ lower_wait_row (in_cycles k set) i ∷ [])
-    (windowed_rows_in k set bounds i some)
-    (appended k bounds (home_rows set i) (home_rows (in_cycles k set) i) (lower_wait_row set i ∷ [])
-    (lower_wait_row (in_cycles k set) i ∷ []) (home_rows_in k set bounds i some) (lower_wait_in k set bounds i some, tt))
+dpcp_closer_rows_in k set bounds i some = appended k bounds (windowed_rows set i) (windowed_rows (in_cycles k set) i) (home_rows set i)
+    (home_rows (in_cycles k set) i) (windowed_rows_in k set bounds i some) (home_rows_in k set bounds i some)
 
 pub dpcp_closer_rescaled : (k : ℕ) (set : SetDef) (bounds : List ℕ) (i : ℕ) → 0 < k
     → IsRescaled k ((dpcp_closer_source set).program i bounds) ((dpcp_closer_source (in_cycles k set)).program i (times_each k bounds))

@@ -19,7 +19,7 @@ use Rattle.window_laws.specs.WindowRows.{windowed_rows}
 use Rattle.dflp_laws.specs.Programs.{is_dflp_column, dflp_columns, dflp_rows}
 use Rattle.request_windows.proofs.FewRows.{windowed_rows_at_most}
 use Rattle.dflp_protocol.proofs.FewRows.{dflp_rows_at_most}
-use Rattle.closer_distributed_laws.specs.CloserRows.{home_task_row, lower_task_row, lower_preemption_row, lower_wait_row, home_rows}
+use Rattle.closer_distributed_laws.specs.CloserRows.{home_task_row, lower_task_row, lower_preemption_row, home_rows}
 use Rattle.closer_distributed_laws.specs.CloserRows.{dpcp_closer_rows, dpcp_closer_program, dflp_closer_rows, dflp_closer_program}
 
 lower_of : (set : SetDef) (i x : ℕ) → IsOfTask x (lower_task_row set i x)
@@ -45,21 +45,16 @@ home_there test set i accepted here others =
     )
 
 dpcp_rows_at_most : (set : SetDef) (i : ℕ) → IsAccepted set → i < length set.tasks
-    → length (rows_there (columns_of protocol.Dpcp set i) (dpcp_closer_rows set i)) ≤ 831
-dpcp_rows_at_most set i accepted here =
-    let cs : List ColumnDef = columns_of protocol.Dpcp set i in
-    let last : List ConstraintDef = lower_wait_row set i ∷ [] in
-    omega (
-      arith,
-      there_behind cs (windowed_rows set i) (home_rows set i ++ last),
-      there_behind cs (home_rows set i) last,
-      windowed_rows_at_most set i accepted here,
-      home_there (is_column protocol.Dpcp set i) set i accepted here (columns_are_of_others protocol.Dpcp set i),
-      filter_shorter (holds_some cs) last,
-    )
+    → length (rows_there (columns_of protocol.Dpcp set i) (dpcp_closer_rows set i)) ≤ 830
+dpcp_rows_at_most set i accepted here = omega (
+  arith,
+  there_behind (columns_of protocol.Dpcp set i) (windowed_rows set i) (home_rows set i),
+  windowed_rows_at_most set i accepted here,
+  home_there (is_column protocol.Dpcp set i) set i accepted here (columns_are_of_others protocol.Dpcp set i),
+)
 
 pub dpcp_closer_height : (set : SetDef) (i : ℕ) (r : List ℕ) → IsAccepted set → i < length set.tasks
-    → height (dpcp_closer_program set i r) ≤ 831
+    → height (dpcp_closer_program set i r) ≤ 830
 dpcp_closer_height set i r accepted here = omega (
   arith,
   height_is set (columns_of protocol.Dpcp set i) (dpcp_closer_rows set i) r,

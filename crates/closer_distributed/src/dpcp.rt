@@ -1,6 +1,6 @@
 //! DPCP with windows of requests, and the closer rows behind its own.
 
-ghost use Rattle.std.specs.Prelude.{◌≡◌, ◌<◌, ◌++◌, [], ◌∷◌, map, length, refl, OnOk};
+ghost use Rattle.std.specs.Prelude.{refl};
 ghost use Rattle.sporadic_model.specs.Homes.{EachHasHome};
 ghost use Rattle.sporadic_model.proofs.Laws.{formed_of_accepted};
 ghost use Rattle.sporadic_model.specs.declared.ids.Protocol.TheVariants as protocol;
@@ -11,25 +11,20 @@ ghost use Rattle.schedule_laws.proofs.DpcpLaws.{dpcp_one_of_three, dpcp_sound_ro
 ghost use Rattle.schedule_laws.proofs.DpcpAgreement.{dpcp_rules_read, dpcp_choice_reads};
 ghost use Rattle.schedule_laws.proofs.TickAgreement.{dpcp_interference_agree};
 ghost use Rattle.schedule_laws.proofs.DpcpStretches.{dpcp_stays_lawful};
-ghost use Rattle.program_sources.specs.Bounds.{AreWithinDeadlines};
-ghost use Rattle.fragments.specs.ColumnDef.{column_seen, AreKnown};
 ghost use Rattle.fragments.specs.Columns.{columns_of as written_columns};
-ghost use Rattle.fragments.specs.Stretches.{AreInOrder};
 ghost use Rattle.program_laws.proofs.WrittenPrograms.{interfering_least, interfering_most};
 ghost use Rattle.charge_laws.specs.Charges.{dpcp_charge};
 ghost use Rattle.charge_laws.proofs.DpcpCharging.{dpcp_charge_blocked};
 ghost use Rattle.charge_laws.proofs.Stretches.{dpcp_stays_charged};
 ghost use Rattle.row_laws.proofs.ChargedTicks.{dpcp_is_charged};
 ghost use Rattle.row_laws.proofs.InterferingCosts.{dpcp_interferes_within};
-ghost use Rattle.closer_distributed_laws.specs.CloserRows.{lower_wait_row, home_rows, dpcp_closer_rows, dpcp_closer_source};
+ghost use Rattle.closer_distributed_laws.specs.CloserRows.{dpcp_closer_rows, dpcp_closer_source};
 ghost use Rattle.closer_distributed_laws.proofs.Points.{dpcp_closer_point};
 ghost use Rattle.closer_distributed_laws.proofs.Programs.{dpcp_closer_covered, dpcp_closer_rises, dpcp_closer_is_program};
 
 use crate::rows::add_home_rows;
 use charged_protocols::ChargedProtocol;
-use fragments::{
-    Class, Constraint, Fragment, RowKind, RowTaker, add_row, columns_stand_in_order, home,
-};
+use fragments::{Class, Fragment, RowTaker, columns_stand_in_order};
 use phase_machine::{Judge, Machine};
 use program_form::{Program, SparseProgram};
 use program_sources::ProgramSource;
@@ -84,53 +79,6 @@ impl Judge for CloserDpcp {
     ghost stays_lawful = { λ p. dpcp_stays_lawful };
 }
 
-/// A job never waits on its own processor for a request of a lower task.
-#[derive(Drop)]
-struct LowerWaits;
-
-impl RowKind for LowerWaits {
-    ghost row_of = { λ k set i. lower_wait_row set i };
-
-    ghost fits = { λ k set. Unit {0} };
-
-    ghost over = { λ k set i c. Unit {0} };
-
-    fn coefficient(&self, set: &TaskSet, i: TaskId, column: Fragment) -> u64 {
-        let here = home(set, column.resource) == set.processor(i);
-        if i < column.task && !column.class.is_preemption() && here {
-            1
-        } else {
-            0
-        }
-    }
-}
-
-impl Constraint for LowerWaits {
-    fn limit(&self, _set: &TaskSet, _i: TaskId, _bounds: &[u64]) -> u64 {
-        0
-    }
-}
-
-/// Adds the closer rows behind those that the taker has, over any columns that stand in order.
-fn add_rows<T: RowTaker>(
-    alloc: Global,
-    taker: &mut T,
-    set: &TaskSet,
-    i: TaskId,
-    bounds: &[u64],
-    columns: &[Fragment],
-) -> Result<(), AllocError>
-    requires task { i.0 < length set.now.tasks }
-    requires within { AreWithinDeadlines set.now bounds.now }
-    requires known { AreKnown (length set.now.tasks) (length set.now.resources) columns.now }
-    requires order { AreInOrder columns.now }
-    ensures { OnOk result (T.takes taker.old (map column_seen columns.now)
-        (home_rows set.now i.0 ++ lower_wait_row set.now i.0 ∷ []) bounds.now taker.new) }
-{
-    add_home_rows(alloc, taker, set, i, bounds, columns)?;
-    add_row(alloc, taker, &LowerWaits, set, i, bounds, columns)
-}
-
 impl ProgramParts for CloserDpcp {
     ghost serves = { λ p. EachHasHome };
 
@@ -148,7 +96,7 @@ impl ProgramParts for CloserDpcp {
     ) -> Result<Vec<Fragment>, AllocError> {
         let columns = DpcpWindows.take_rows(alloc, taker, set, i, bounds)?;
         columns_stand_in_order(set, Protocol::Dpcp, i, &columns);
-        add_rows(alloc, taker, set, i, bounds, &columns)?;
+        add_home_rows(alloc, taker, set, i, bounds, &columns)?;
         Ok(columns)
     }
 

@@ -25,7 +25,7 @@ use Rattle.dflp_laws.proofs.Points.{dflp_rows_met}
 use Rattle.closer_distributed_laws.specs.CloserRows.{dpcp_closer_rows, dflp_closer_rows}
 use Rattle.closer_distributed_laws.proofs.HomeTaskRow.{home_task_row_met}
 use Rattle.closer_distributed_laws.proofs.LowerRows.{LowerComesFirst, lower_task_row_met, lower_preemption_row_met}
-use Rattle.closer_distributed_laws.proofs.DpcpWaits.{dpcp_homes_before, dpcp_lower_first, lower_wait_row_met}
+use Rattle.closer_distributed_laws.proofs.DpcpWaits.{dpcp_homes_before, dpcp_lower_first}
 use Rattle.closer_distributed_laws.proofs.DflpWaits.{dflp_lower_first}
 use Rattle.closer_distributed_laws.proofs.Programs.{EachHome, dpcp_closer_each, dflp_closer_each}
 
@@ -61,8 +61,7 @@ dpcp_closer_point w bounds n j premises keeps =
           rows_are_point dpcp_charge (is_column protocol.Dpcp w.set i) (dpcp_closer_rows w.set i) w bounds n j have
           (dpcp_closer_each (TicksMeet dpcp_charge w (slice_index bounds) n j) w.set i
           (windowed_rows_met w bounds n j window keeps premises.ended)
-          (home_rows_met w (slice_index bounds) n j window homes (dpcp_lower_first w n j premises.lawful keeps))
-          (lower_wait_row_met w (slice_index bounds) n j window keeps))
+          (home_rows_met w (slice_index bounds) n j window homes (dpcp_lower_first w n j premises.lawful keeps)))
 
 pub dflp_closer_point : (w : Trace) (bounds : List ℕ) (n j : ℕ) → WithinRows w bounds n j → KeepsBefore dflp_rule w n
     → ArePointOf dpcp_charge (dflp_columns w.set (task_of w j)) (dflp_closer_rows w.set (task_of w j)) w bounds n j

@@ -32,7 +32,7 @@ use Rattle.window_laws.proofs.Programs.{windowed_rows_rise, windowed_rows_small,
 use Rattle.dflp_laws.specs.Programs.{dflp_rows, is_dflp_column, dflp_columns}
 use Rattle.dflp_laws.proofs.Programs.{rows_rise, rows_small, rows_few, dflp_among}
 use Rattle.closer_distributed_laws.specs.CloserRows.{is_away, requests_away, is_home_wait, home_task_row, lower_task_row, lower_preemption_row}
-use Rattle.closer_distributed_laws.specs.CloserRows.{lower_wait_row, home_rows, dpcp_closer_rows, dflp_closer_rows}
+use Rattle.closer_distributed_laws.specs.CloserRows.{home_rows, dpcp_closer_rows, dflp_closer_rows}
 use Rattle.closer_distributed_laws.specs.CloserRows.{dpcp_closer_program, dflp_closer_program, dpcp_closer_source, dflp_closer_source}
 
 -- Is P true of each kind of row that both closer analyses have?
@@ -57,11 +57,8 @@ home_each P set i each =
 
 -- Whatever is true of each plain row and of each closer row is true of all.
 pub dpcp_closer_each : (P : ConstraintDef → Type 0) (set : SetDef) (i : ℕ) → All P (windowed_rows set i) → EachHome P set i
-    → P (lower_wait_row set i) → All P (dpcp_closer_rows set i)
-dpcp_closer_each P set i rows each wait =
-    All-append P (windowed_rows set i) (home_rows set i ++ lower_wait_row set i ∷ []) rows
-    (All-append P (home_rows set i) (lower_wait_row set i ∷ []) (home_each P set i each)
-    (All-cons P (lower_wait_row set i) [] wait (All-nil P)))
+    → All P (dpcp_closer_rows set i)
+dpcp_closer_each P set i rows each = All-append P (windowed_rows set i) (home_rows set i) rows (home_each P set i each)
 
 pub dflp_closer_each : (P : ConstraintDef → Type 0) (set : SetDef) (i : ℕ) → All P (dflp_rows set i) → EachHome P set i
     → All P (dflp_closer_rows set i)
@@ -75,7 +72,7 @@ pub dpcp_closer_rises : (set : SetDef) (i : ℕ) (r s : List ℕ) → i < length
     → HasLimitsAtMost (dpcp_closer_program set i r) (dpcp_closer_program set i s)
 dpcp_closer_rises set i r s here h =
     limits_at_most set (columns_of protocol.Dpcp set i) (dpcp_closer_rows set i) r s
-    (dpcp_closer_each (Rises r s) set i (windowed_rows_rise set i r s here h) (home_rises set i r s) (omega arith))
+    (dpcp_closer_each (Rises r s) set i (windowed_rows_rise set i r s here h) (home_rises set i r s))
 
 dflp_rows_rise : (set : SetDef) (i : ℕ) (r s : List ℕ) → HasJobsAtMost set i r s → All (Rises r s) (dflp_closer_rows set i)
 dflp_rows_rise set i r s h = dflp_closer_each (Rises r s) set i (rows_rise set i r s h) (home_rises set i r s)
@@ -106,15 +103,10 @@ home_rows_small set i r accepted here = record {
   few_away : 1 + requests_away set i ≤ 9223372036854775807
   few_away = omega (arith, home_small set i (is_away set i) accepted here)
 
-wait_small : (set : SetDef) (i : ℕ) (r : List ℕ) → IsSmallRow r (lower_wait_row set i)
-wait_small set i r = small_flags r
-    (λ c. nat_lt i c.task && (not (is_preemption c.class) && (home_in set c.resource == (task_at set i).processor))) (λ bounds. 0)
-    (omega arith)
-
 -- The rows of requests stand among them.
 dpcp_among : (set : SetDef) (i x q : ℕ) → x < length set.tasks → q < length set.resources
     → Contains (dpcp_closer_rows set i) (request_row set i x q)
-dpcp_among set i x q a b = Contains-append_left (windowed_rows set i) (home_rows set i ++ lower_wait_row set i ∷ []) (request_row set i x q)
+dpcp_among set i x q a b = Contains-append_left (windowed_rows set i) (home_rows set i) (request_row set i x q)
     (windowed_among set i x q a b)
 
 dflp_among_all : (set : SetDef) (i x q : ℕ) → x < length set.tasks → q < length set.resources
@@ -138,12 +130,10 @@ pub dpcp_closer_is_program : (set : SetDef) (i : ℕ) (r : List ℕ) → IsAccep
 dpcp_closer_is_program set i r accepted here within =
     is_program set i (columns_of protocol.Dpcp set i) (dpcp_closer_rows set i) r accepted
     (written_where (is_column protocol.Dpcp set i) set i (dpcp_closer_rows set i) r accepted (λ x q a b. dpcp_among set i x q a b)
-    (dpcp_closer_each (IsSmallRow r) set i (windowed_rows_small set i r accepted here within) (home_rows_small set i r accepted here)
-    (wait_small set i r))
+    (dpcp_closer_each (IsSmallRow r) set i (windowed_rows_small set i r accepted here within) (home_rows_small set i r accepted here))
     (omega (
       arith,
-      length-append (windowed_rows set i) (home_rows set i ++ lower_wait_row set i ∷ []),
-      length-append (home_rows set i) (lower_wait_row set i ∷ []),
+      length-append (windowed_rows set i) (home_rows set i),
       windowed_rows_few set i accepted here,
       home_few set i (few set accepted),
     )))

@@ -1,5 +1,5 @@
 -- The programs with closer rows analyse their protocols, so valid certificates over them are sound, and they raise no bound.
-use Rattle.std.proofs.Common.{ℕ, ◌++◌, [], ◌∷◌, List, length}
+use Rattle.std.proofs.Common.{ℕ, List, length}
 use Rattle.program_form.specs.Certificate.{CertificateDef}
 use Rattle.sporadic_model.specs.SetDef.{SetDef, task_at}
 use Rattle.sporadic_model.specs.Accepted.{IsAccepted, IsFormed}
@@ -28,7 +28,7 @@ use Rattle.dflp_laws.specs.Rules.{dflp_rule}
 use Rattle.dflp_laws.specs.Programs.{dflp_columns, dflp_rows, dflp_source}
 use Rattle.dflp_laws.proofs.Laws.{dflp_sound_row}
 use Rattle.dflp_laws.proofs.Placement.{dflp_is_charged}
-use Rattle.closer_distributed_laws.specs.CloserRows.{home_rows, lower_wait_row, dpcp_closer_rows, dflp_closer_rows}
+use Rattle.closer_distributed_laws.specs.CloserRows.{home_rows, dpcp_closer_rows, dflp_closer_rows}
 use Rattle.closer_distributed_laws.specs.CloserRows.{dpcp_closer_source, dflp_closer_source}
 use Rattle.closer_distributed_laws.proofs.Points.{dpcp_closer_point, dflp_closer_point}
 
@@ -68,8 +68,7 @@ dflp_closer_sound set c values accepted valid are =
 -- What fits with windows fits with the closer rows, and so what fits under DPCP.
 pub dpcp_closer_fitting : (set : SetDef) (s : List ℕ) → AreFitting (windowed_source set) s → AreFitting (dpcp_closer_source set) s
 dpcp_closer_fitting set s fits =
-    fitting_with_more set (may_block protocol.Dpcp set) (windowed_rows set) (λ i. home_rows set i ++ lower_wait_row set i ∷ [])
-    (interfering_cost protocol.Dpcp set) s fits
+    fitting_with_more set (may_block protocol.Dpcp set) (windowed_rows set) (home_rows set) (interfering_cost protocol.Dpcp set) s fits
 
 pub dpcp_closer_no_greater : (set : SetDef) (r s : List ℕ) → AreLeastFitting (dpcp_closer_source set) r
     → AreFitting (source_of protocol.Dpcp set) s → AtMost (length set.tasks) r s

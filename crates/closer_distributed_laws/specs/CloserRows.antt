@@ -1,6 +1,6 @@
 -- The rows that the closer analyses of DPCP and of the distributed FIFO protocol have beside those of the plain ones, and their
 -- programs. In each, i is the analysed task.
-use Rattle.std.specs.Prelude.{ℕ, ◌+◌, ◌==◌, ◌&&◌, not, nat_lt, Bool, List, [], ◌∷◌, ◌++◌, length}
+use Rattle.std.specs.Prelude.{ℕ, ◌+◌, ◌==◌, ◌&&◌, not, Bool, List, [], ◌∷◌, ◌++◌, length}
 use Rattle.number_laws.specs.Sums.{only_if}
 use Rattle.program_form.specs.Program.{ProgramDef}
 use Rattle.sporadic_model.specs.SetDef.{SetDef, task_at}
@@ -46,21 +46,15 @@ abbrev pub lower_preemption_row : SetDef → ℕ → ConstraintDef
 lower_preemption_row set i =
     counting (λ c. is_class Preemption c.class && is_lower_local set i c.task) (λ bounds. 1 + requests_away set i)
 
--- Lower waits: on its own processor a job never waits for a request of a lower task.
-abbrev pub lower_wait_row : SetDef → ℕ → ConstraintDef
-lower_wait_row set i = counting
-    (λ c. nat_lt i c.task && (not (is_class Preemption c.class) && (home_in set c.resource == (task_at set i).processor))) (λ bounds. 0)
-
 -- The rows that both closer analyses have: home tasks for each processor, which are numbered from 1, lower tasks for each on i's
 -- processor, and lower preemption.
 abbrev pub home_rows : SetDef → ℕ → List ConstraintDef
 home_rows set i = per set.processors (λ k. home_task_row set i (k + 1))
     ++ (per_where (is_lower_local set i) (length set.tasks) (lower_task_row set i) ++ lower_preemption_row set i ∷ [])
 
--- The rows of a program under DPCP: those of DPCP with windows, then these and lower waits. Under the distributed FIFO protocol: its
--- own, then these.
+-- The rows of a program under DPCP: those of DPCP with windows, then these. Under the distributed FIFO protocol: its own, then these.
 abbrev pub dpcp_closer_rows : SetDef → ℕ → List ConstraintDef
-dpcp_closer_rows set i = windowed_rows set i ++ (home_rows set i ++ lower_wait_row set i ∷ [])
+dpcp_closer_rows set i = windowed_rows set i ++ home_rows set i
 
 abbrev pub dflp_closer_rows : SetDef → ℕ → List ConstraintDef
 dflp_closer_rows set i = dflp_rows set i ++ home_rows set i
