@@ -11,8 +11,8 @@ ghost use Rattle.dual_check.specs.Answers.{HasDenominators, IsWorth, Weighs, Fin
 
 use crate::lacks::lacks_of;
 use crate::sums::value_to;
-use charged_protocols::ChargedProtocol;
 use program_form::{Certificate, Dual, SparseProgram};
+use program_sources::ProgramSource;
 use schedule_answers::Invalid;
 use sporadic_model::{TaskId, TaskSet};
 use std::alloc::{AllocError, Global};
@@ -58,13 +58,13 @@ fn weigh(
 
 /// What each dual is worth for its task's program at the certificate's bounds, or the first that has not one numerator for
 /// each row.
-pub(crate) fn weigh_duals<P: ChargedProtocol>(
+pub(crate) fn weigh_duals<P: ProgramSource>(
     alloc: Global,
     set: &TaskSet,
     protocol: &P,
     certificate: &Certificate,
 ) -> Result<Vec<DualWorth>, Invalid>
-    requires suits { P.suits protocol.now set.now }
+    requires serves { P.serves protocol.now set.now }
     requires within { AreWithinDeadlines set.now certificate.now.bounds.items }
     requires dual_each { vec_len certificate.now.duals ≡ length set.now.tasks }
     requires denominators { HasDenominators (certificate_seen certificate.now) }

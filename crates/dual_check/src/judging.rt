@@ -18,7 +18,7 @@ use dpcp_rules::Dpcp;
 use fmlp_rules::FmlpPlus;
 use mpcp_rules::Mpcp;
 use program_form::Certificate;
-use program_sources::response;
+use program_sources::{ProgramSource, response};
 use schedule_answers::{Invalid, Valid};
 use sporadic_model::{Protocol, TaskId, TaskSet};
 use std::alloc::Global;
@@ -59,14 +59,14 @@ fn value_of(worth: DualWorth) -> u64
 
 /// The values of the duals, or the first task for which its dual's is too great. A task's interference is formed only once
 /// the bounds of the higher tasks are enough, and so at least their costs.
-fn add_up<P: ChargedProtocol>(
+fn add_up<P: ProgramSource>(
     alloc: Global,
     set: &TaskSet,
     protocol: &P,
     certificate: &Certificate,
     worths: &[DualWorth],
 ) -> Result<Vec<u64>, Invalid>
-    requires suits { P.suits protocol.now set.now }
+    requires serves { P.serves protocol.now set.now }
     requires within { AreWithinDeadlines set.now certificate.now.bounds.items }
     requires worths { AreWorths (source_at (P.source protocol.now) set.now)
         (certificate_seen certificate.now) (length set.now.tasks) worths.now }
@@ -86,14 +86,17 @@ fn add_up<P: ChargedProtocol>(
     Ok(values)
 }
 
-/// Tries the tests one after another.
-fn judgement<P: ChargedProtocol>(
+/// Judges a certificate for the programs of a source that serves the set. Each dual's denominator is at least 1.
+///
+/// `Ok` has the values of the duals, in ticks. `Invalid` names the first test that fails, each being tried over all tasks before
+/// the next, and comes as `Memory` for want of memory alone.
+pub fn judge<P: ProgramSource>(
     alloc: Global,
     protocol: &P,
     set: &TaskSet,
     certificate: &Certificate,
 ) -> Result<Valid, Invalid>
-    requires suits { P.suits protocol.now set.now }
+    requires serves { P.serves protocol.now set.now }
     requires denominators { HasDenominators (certificate_seen certificate.now) }
     ensures judges { Judges result (source_at (P.source protocol.now) set.now) (certificate_seen certificate.now) }
     ensures accepts { IsValid (source_at (P.source protocol.now) set.now)
@@ -141,7 +144,7 @@ pub fn check_with<P: ChargedProtocol>(
     set.keeps_the_model();
     charged_protocols_are_analysed::<P>();
     what_passes_is_sound::<P>();
-    judgement(alloc, protocol, set, certificate)
+    judge(alloc, protocol, set, certificate)
 }
 
 /// Judges a certificate for the programs that are written down for the protocol. Under DPCP each resource has a home, and each

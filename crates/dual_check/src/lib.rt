@@ -12,6 +12,6 @@ mod lacks;
 mod laws;
 mod sums;
 
-pub use judging::{check, check_with, has_denominators};
+pub use judging::{check, check_with, has_denominators, judge};
 pub use laws::{failures_are_exact, what_passes_is_sound};
 pub use schedule_answers::{Invalid, Valid};

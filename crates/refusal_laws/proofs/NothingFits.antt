@@ -23,18 +23,24 @@ point_reaches p point is = record {
   reached = (le-div_iff_mul-le {k = point.den} {x = whole_worth p point} {y = worth p (slice_index point.num)} is.positive).0 (omega arith);
 }
 
--- The value of a step is at most the task's place in every fitting vector that is at least the bounds at which it is taken.
+-- What comes up at some bounds is at most the task's place in every fitting vector that is at least these bounds.
+pub comes_up_below : (f : SourceDef) (v s : List ℕ) (i x : ℕ) → i < tasks_of f → ComesUpAbove f → AreFitting f s
+    → AtMost (tasks_of f) v s → ComesUp f v i x → x ≤ slice_index s i
+comes_up_below f v s i x here above fits below comes =
+    let up = above v s i x here below comes in
+    let kept : up.0 ≤ slice_index s i = fits.kept i up.0 here up.1 in
+    omega (arith, kept, up.2)
+
+-- The value of a step is so too.
 pub value_below : (f : SourceDef) (v s : List ℕ) (i value : ℕ) (point : DualDef) → ComesUpAbove f → AreFitting f s
     → AtMost (tasks_of f) v s → IsStepAt f v i value point → value ≤ slice_index s i
 value_below f v s i value point above fits below step =
     let b : ℕ = whole_worth (f.program i v) point in
     let comes : ComesUp f v i (response_with f v i b) =
     record { blocking = b; reached = point_reaches (f.program i v) point step.rows; response = refl } in
-    let up = above v s i (response_with f v i b) step.task below comes in
-    let kept : up.0 ≤ slice_index s i = fits.kept i up.0 step.task up.1 in
-    let least : response_with f v i b ≤ up.0 = up.2 in
+    let least : response_with f v i b ≤ slice_index s i = comes_up_below f v s i (response_with f v i b) step.task above fits below comes in
     let low : value ≤ response_with f v i b = step.low in
-    omega (arith, kept, least, low)
+    omega (arith, least, low)
 
 -- So the bounds with its value stay at most such a vector.
 pub step_below : (f : SourceDef) (v s : List ℕ) (step : StepDef) → length v ≡ tasks_of f → ComesUpAbove f → AreFitting f s

@@ -7,8 +7,8 @@ use Rattle.schedule_answers.specs.Tests.{HasSizes, IsBoundWithin, IsCovered}
 use Rattle.schedule_answers.specs.Failures.{AllPass, IsFirstFailing}
 use Rattle.dual_check.specs.Answers.{Judges, Weighs, Sums, AreWorths, AreEnough, FindsUncovered}
 use Rattle.dual_check.proofs.Steps.{sizes_seen, weighing_ends, all_cover, one_uncovered, adding_ends, valid_where_all_pass}
-use Rattle.dual_check.proofs.judging.judgement.Goals.{then-len-count-via-then-len-count, then-len-count-via-else-len-count+then-len-count-2}
-use Rattle.dual_check.proofs.judging.judgement.Goals as goal
+use Rattle.dual_check.proofs.judging.judge.Goals.{then-len-count-via-then-len-count, then-len-count-via-else-len-count+then-len-count-2}
+use Rattle.dual_check.proofs.judging.judge.Goals as goal
 
 pub returns-then-len-count-clause-judges : goal.returns-then-len-count-clause-judges
 returns-then-len-count-clause-judges g c = λ sizes. elim c.then-len-count.branch [
