@@ -17,7 +17,7 @@ from pathlib import Path
 from commands import BUILT, TOP, run
 from stretched import TICKS, stretch, timed
 
-PROTOCOLS = ["mpcp", "fmlp+", "dpcp", "dflp", "dpcp-w", "spin", "fmlp+-c", "spin-c", "dpcp-c", "dflp-c"]
+PROTOCOLS = ["mpcp", "fmlp+", "dpcp", "dflp", "dpcp-w", "spin", "fmlp+-c", "spin-c", "dpcp-c", "dflp-c", "mpcp-c"]
 
 
 def measure(folder, protocol, ticks):

@@ -28,7 +28,7 @@ from bends import MILD, NUMBERS, ROUGH
 from commands import BUILT, TOP, built
 
 EXAMPLES = TOP / "examples"
-PROTOCOLS = ("mpcp", "fmlp+", "dpcp", "dflp", "dpcp-w", "spin", "fmlp+-c", "spin-c", "dpcp-c", "dflp-c")
+PROTOCOLS = ("mpcp", "fmlp+", "dpcp", "dflp", "dpcp-w", "spin", "fmlp+-c", "spin-c", "dpcp-c", "dflp-c", "mpcp-c")
 # those that ask for the home of each resource
 AT_HOMES = ("dpcp", "dflp", "dpcp-w", "dpcp-c", "dflp-c")
 # of a set: its jobs, how many ticks are simulated, and its rows, where they aren't those that the program makes
@@ -42,12 +42,12 @@ CERT_REASON = rb"(absent|toolong|notjson|shape|shape (root|bounds|dual [0-9]+)|v
 LINE_REASON = rb"(absent|toolong( [0-9]+)?|(fields|number|unknownname|script|overbudget|tooclose|toomany|unknownjob) [0-9]+)"
 ANSWERS = {
     0: {
-        "analyse": rb'\{"bounds":\[[0-9,]+\],"duals":\[.*\],"protocol":"(mpcp|fmlp\+|dpcp|dflp|dpcp-w|spin|fmlp\+-c|spin-c|dpcp-c|dflp-c)","set":"[0-9a-f]{64}","verdict":"schedulable","version":2\}\n',
+        "analyse": rb'\{"bounds":\[[0-9,]+\],"duals":\[.*\],"protocol":"(mpcp|fmlp\+|dpcp|dflp|dpcp-w|spin|fmlp\+-c|spin-c|dpcp-c|dflp-c|mpcp-c)","set":"[0-9a-f]{64}","verdict":"schedulable","version":2\}\n',
         "report": rb"task {28}cpu .*\n(.*\n)+(load [0-9]+ [0-9]+\n)+",
         "check": rb"valid\n",
-        "refute": rb'\{"protocol":"(mpcp|fmlp\+|dpcp|dflp|dpcp-w|spin|fmlp\+-c|spin-c|dpcp-c|dflp-c)","set":"[0-9a-f]{64}","steps":\[.*\],"verdict":"notshown","version":1\}\n',
+        "refute": rb'\{"protocol":"(mpcp|fmlp\+|dpcp|dflp|dpcp-w|spin|fmlp\+-c|spin-c|dpcp-c|dflp-c|mpcp-c)","set":"[0-9a-f]{64}","steps":\[.*\],"verdict":"notshown","version":1\}\n',
         "confirm": rb"confirmed\n",
-        "upgrade": rb'\{"bounds":\[[0-9,]+\],"duals":\[.*\],"protocol":"(mpcp|fmlp\+|dpcp|dflp|dpcp-w|spin|fmlp\+-c|spin-c|dpcp-c|dflp-c)","set":"[0-9a-f]{64}","verdict":"schedulable","version":2\}\n',
+        "upgrade": rb'\{"bounds":\[[0-9,]+\],"duals":\[.*\],"protocol":"(mpcp|fmlp\+|dpcp|dflp|dpcp-w|spin|fmlp\+-c|spin-c|dpcp-c|dflp-c|mpcp-c)","set":"[0-9a-f]{64}","verdict":"schedulable","version":2\}\n',
         "conform": rb"lawful [0-9]+\n(%s [0-9]+ ([0-9]+|-) [0-9]+\n)+" % NAME,
         "simulate": rb"ticks(,[A-Za-z0-9_.-]+)+\n([0-9]+(,[0-9]*)+\n)+",
         "audit": rb"kept [0-9]+\n(%s ([0-9]+|-)( [0-9]+){6}\n)+" % NAME,

@@ -24,7 +24,7 @@ from pathlib import Path
 
 from commands import BUILT, TOP, built, run
 
-PROTOCOLS = ("mpcp", "fmlp+", "dpcp", "dflp", "dpcp-w", "spin", "fmlp+-c", "spin-c", "dpcp-c", "dflp-c")
+PROTOCOLS = ("mpcp", "fmlp+", "dpcp", "dflp", "dpcp-w", "spin", "fmlp+-c", "spin-c", "dpcp-c", "dflp-c", "mpcp-c")
 EXAMPLES = TOP / "examples"
 
 REFUSER = r"""

@@ -39,7 +39,7 @@ from generated_sets import generated, generated_crowded  # noqa: E402
 from sets import resource, set_of, task  # noqa: E402
 from setting import Case  # noqa: E402
 
-PROTOCOLS = ("mpcp", "fmlp+", "dpcp", "dflp", "dpcp-w", "spin", "fmlp+-c", "spin-c", "dpcp-c", "dflp-c")
+PROTOCOLS = ("mpcp", "fmlp+", "dpcp", "dflp", "dpcp-w", "spin", "fmlp+-c", "spin-c", "dpcp-c", "dflp-c", "mpcp-c")
 # few enough that a set which never settles costs little
 ALLOWANCE = "20000"
 

@@ -10,8 +10,9 @@
 "use strict";
 
 var SecondCheck = (function () {
-    const PROTOCOLS = ["mpcp", "fmlp+", "dpcp", "dflp", "dpcp-w", "spin", "fmlp+-c", "spin-c", "dpcp-c", "dflp-c"];
+    const PROTOCOLS = ["mpcp", "fmlp+", "dpcp", "dflp", "dpcp-w", "spin", "fmlp+-c", "spin-c", "dpcp-c", "dflp-c", "mpcp-c"];
     const AT_HOMES = ["dpcp", "dflp", "dpcp-w", "dpcp-c", "dflp-c"];
+    const BY_CEILINGS = ["mpcp", "mpcp-c"];
     const MOST_BYTES = 67108864;
     const MOST_LEVELS = 127;
     const MOST_TICKS = 1000000000n;
@@ -380,9 +381,15 @@ var SecondCheck = (function () {
         requests(x, q) { return this.set.tasks[x].count[q] * this.jobs(x); }
 
         has_path(x, q) {
-            const k = this.processor(x), others = this.beside(x);
-            const is_high = (r) => this.protocol !== "mpcp" || this.seen_ceiling(q, k) <= this.seen_ceiling(r, k);
+            const others = this.beside(x);
+            const is_high = (r) => !BY_CEILINGS.includes(this.protocol) || this.is_as_high(x, q, r);
             return this.own.some((r) => r !== q && is_high(r) && others.some((y) => this.uses(y, r)));
+        }
+
+        // Whether q's ceiling, as x's processor sees it, is no lower than r's.
+        is_as_high(x, q, r) {
+            const k = this.processor(x);
+            return this.seen_ceiling(q, k) <= this.seen_ceiling(r, k);
         }
 
         // Whether requests of q by x may block a job of i directly, indirectly, and by preemption.
@@ -409,9 +416,27 @@ var SecondCheck = (function () {
         }
 
         // How often other tasks of x's processor can hold r while i waits for it, or spin for it while i is there.
-        holds(x, r, by_lower) {
-            const others = this.beside(x), higher = sum_of(others.filter((y) => y < this.i), (y) => this.requests(y, r));
-            return higher + (others.some((y) => y > this.i && this.uses(y, r)) ? by_lower : 0n);
+        holds(x, r, by_lower) { return this.hold(this.beside(x), this.beside(x), r, by_lower); }
+
+        // How often these tasks can: the higher ones of the first, and the lower ones of the second.
+        hold(higher, lower, r, by_lower) {
+            const some = lower.some((y) => y > this.i && this.uses(y, r));
+            return sum_of(higher.filter((y) => y < this.i), (y) => this.requests(y, r)) + (some ? by_lower : 0n);
+        }
+
+        // How often other tasks of x's processor can hold what is shared out while i waits for it, of what x may run one of these before.
+        shared_holds(x, requests) {
+            const others = this.beside(x), lower = this.is_local(x) ? [] : others;
+            const held = this.shared_out().filter((r) => requests.some((q) => q !== r && this.is_as_high(x, q, r)));
+            return sum_of(held, (r) => this.hold(others, lower, r, this.me.count[r]));
+        }
+
+        // How many requests of x can run while i waits for what x's processor holds: one for each of i, and one for each holding elsewhere.
+        runs_beside(x) {
+            const there = this.all.filter((y) => y !== this.i && this.processor(y) === this.processor(x));
+            const away = this.all.filter((y) => this.processor(y) !== this.processor(x)), lower = away.filter((y) => !this.is_local(y));
+            const held = this.shared_out().filter((r) => there.some((y) => this.uses(y, r)));
+            return sum_of(held, (r) => this.me.count[r] + this.hold(away, lower, r, this.me.count[r]));
         }
 
         // For how many ticks a request of q by i can be open; where that passes the deadline, i's bound in place of it.
@@ -498,6 +523,14 @@ var SecondCheck = (function () {
             rows: (view, column) => view.together(column, view.processors().flatMap((k) => view.spun_below(k).map((q, at, spun) => ({ k, among: spun.filter((r) => r !== q), whom: [k, q] })))),
             limit: (view, k, q) => 1n + view.spins_above(view.spun_below(k).filter((r) => r !== q)),
         },
+        shared_holdings: { row: (view, { x, way }) => way === INDIRECT && [x], limit: (view, x) => view.shared_holds(x, view.resources.filter((q) => view.uses(x, q))) },
+        holdings_by_resource: { row: (view, { x, q, way }) => way === INDIRECT && [x, q], limit: (view, x, q) => view.shared_holds(x, [q]) },
+        away_holdings: { row: (view, column) => is_open(column) && [column.x], limit: (view, x) => view.runs_beside(x) },
+        shared_intervals: {
+            row: (view, { x, way }) => way === PREEMPTION && x > view.i && view.is_local(x) && [x],
+            limit: (view) => 1n + view.own_requests(view.shared_out()),
+        },
+        lower_waits: { row: (view, { x, way }) => way === DIRECT && x > view.i && view.is_local(x) && [0], limit: () => 0n },
         local_runners: { row: (view, { x, q, way }) => way === INDIRECT && !view.is_shared_out(x, q) && [0], limit: () => 0n },
         home_tasks: {
             row: (view, column) => is_open(column) && view.processor(column.x) === view.home(column.q) && [view.home(column.q)],
@@ -505,7 +538,7 @@ var SecondCheck = (function () {
         },
         lower_home_tasks: { row: (view, { x }) => x > view.i && view.is_local(x) && [x], limit: (view) => 1n + view.own_requests(view.own_away()) },
         lower_preemption: { row: (view, { x, way }) => way === PREEMPTION && x > view.i && view.is_local(x) && [0], limit: (view) => 1n + view.own_requests(view.own_away()) },
-        lower_waits: { row: (view, column) => is_open(column) && column.x > view.i && view.home(column.q) === view.processor(view.i) && [0], limit: () => 0n },
+        lower_home_waits: { row: (view, column) => is_open(column) && column.x > view.i && view.home(column.q) === view.processor(view.i) && [0], limit: () => 0n },
     };
 
     const KINDS_OF = {
@@ -518,8 +551,9 @@ var SecondCheck = (function () {
     };
     KINDS_OF["fmlp+-c"] = [...KINDS_OF["fmlp+"], "holders", "other_holders", "lower_tasks", "local_preemption", "local_waits", "local_runners"];
     KINDS_OF["spin-c"] = ["requests", "time", "lower_requests", "closer_spinning", "own_spinning", "lower_spinning", "other_lower_spinning"];
-    KINDS_OF["dpcp-c"] = [...KINDS_OF["dpcp-w"], "home_tasks", "lower_home_tasks", "lower_preemption", "lower_waits"];
+    KINDS_OF["dpcp-c"] = [...KINDS_OF["dpcp-w"], "home_tasks", "lower_home_tasks", "lower_preemption", "lower_home_waits"];
     KINDS_OF["dflp-c"] = [...KINDS_OF.dflp, "home_tasks", "lower_home_tasks", "lower_preemption"];
+    KINDS_OF["mpcp-c"] = [...KINDS_OF.mpcp, "shared_holdings", "holdings_by_resource", "away_holdings", "shared_intervals", "local_preemption", "lower_waits"];
 
     // The rows of a kind, in rising order of whom each is for: its cells, each a column and how often that counts, and its limit.
     function rows_of(view, columns, { row, rows, times, limit }) {

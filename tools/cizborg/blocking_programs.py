@@ -152,15 +152,38 @@ def columns_of(s: TaskSet, protocol: str, i: int) -> list[Column]:
     return [Column(x, q, way) for x in others for q in sorted(s.count[x]) for way in ways(s, rules, i, x, q)]
 
 
+def held_by(s: TaskSet, bounds: Bounds, i: int, r: int, higher: Sequence[int], lower: Sequence[int]) -> int:
+    """How often these tasks can hold r while i waits for it: higher ones each as often as they request it, lower ones together once before each request of i."""
+    held = sum(s.count[y][r] * s.jobs(bounds, i, y) for y in higher if y < i and r in s.count[y])
+    return held + (s.count[i][r] if any(y > i and r in s.count[y] for y in lower) else 0)
+
+
+def beside(s: TaskSet, i: int, x: int) -> list[int]:
+    """The tasks of x's processor other than x and i."""
+    return [y for y in range(s.n) if y not in (x, i) and s.processor[y] == s.processor[x]]
+
+
 def holdings(s: TaskSet, bounds: Bounds, i: int, x: int) -> int:
     """How often another task of x's processor can hold what i waits for."""
+    return sum(held_by(s, bounds, i, r, beside(s, i, x), beside(s, i, x)) for r in s.count[i])
+
+
+def shared_holdings(s: TaskSet, bounds: Bounds, i: int, x: int, requests: Sequence[int]) -> int:
+    """How often it can hold what is shared out, of what x may run one of these requests before. No lower task of i's processor holds what i waits for."""
     k = s.processor[x]
-    held = 0
-    for r in s.count[i]:
-        beside = [y for y in range(s.n) if y not in (x, i) and s.processor[y] == k and r in s.count[y]]
-        held += sum(s.count[y][r] * s.jobs(bounds, i, y) for y in beside if y < i)
-        held += s.count[i][r] if any(y > i for y in beside) else 0
-    return held
+    lower = [] if k == s.processor[i] else beside(s, i, x)
+    may_wait = [r for r in s.count[i] if s.is_shared_out(i, r) and any(q != r and s.boost(q, k) <= s.boost(r, k) for q in requests)]
+    return sum(held_by(s, bounds, i, r, beside(s, i, x), lower) for r in may_wait)
+
+
+def run_beside_away_holdings(s: TaskSet, bounds: Bounds, i: int, x: int) -> int:
+    """How many requests of x can run while i waits for what x's processor holds: one for each request of i, and one for each holding elsewhere."""
+    here, k = s.processor[i], s.processor[x]
+    there = [y for y in range(s.n) if y != i and s.processor[y] == k]
+    higher = [y for y in range(i) if s.processor[y] != k]
+    lower = [y for y in range(i + 1, s.n) if s.processor[y] not in (k, here)]
+    may_wait = [r for r in s.count[i] if s.is_shared_out(i, r) and any(r in s.count[y] for y in there)]
+    return sum(s.count[i][r] + held_by(s, bounds, i, r, higher, lower) for r in may_wait)
 
 
 class Shape:
@@ -384,7 +407,7 @@ class Shape:
         lower = [(c, column) for c, column in self.every if column.task > self.i and self.s.processor[column.task] == self.s.processor[self.i]]
         self.add(lambda r: 1 + self.requests_away(), lower, lambda c: int(c.way == "preemption"))
 
-    def add_lower_waits(self) -> None:
+    def add_lower_home_waits(self) -> None:
         """No request of a lower task is waited for on i's processor."""
         here = [(c, column) for c, column in self.every if column.task > self.i and self.s.home[column.resource] == self.s.processor[self.i]]
         self.add(lambda r: 0, here, lambda c: int(c.way != "preemption"))
@@ -392,6 +415,44 @@ class Shape:
     def requests_away(self) -> int:
         """The requests of i that run on other processors."""
         return self.requests() - self.requests_at(self.s.processor[self.i])
+
+    def add_shared_holdings(self) -> None:
+        """Of a task: one request in each holding that is shared out, before which it may run one."""
+        for x in self.others:
+            self.add_shared_holdings_of(x)
+
+    def add_shared_holdings_of(self, x: int) -> None:
+        """The row of x."""
+        self.add(lambda r: shared_holdings(self.s, r, self.i, x, sorted(self.s.count[x])), self.of_task[x], lambda c: int(c.way == "indirect"))
+
+    def add_holdings_by_resource(self) -> None:
+        """Of a task and a resource: one of its requests of the resource in each such holding, before which it may run that."""
+        for x in self.others:
+            for q in sorted(self.s.count[x]):
+                self.add_resource_holdings_of(x, q)
+
+    def add_resource_holdings_of(self, x: int, q: int) -> None:
+        """The row of x and q."""
+        self.add(lambda r: shared_holdings(self.s, r, self.i, x, [q]), self.of_task[x], lambda c: int(c[1:] == (q, "indirect")))
+
+    def add_away_holdings(self) -> None:
+        """Of a task: one request before each of i that its processor may hold up, and one more for each holding elsewhere."""
+        for x in self.others:
+            self.add_away_holdings_of(x)
+
+    def add_away_holdings_of(self, x: int) -> None:
+        """The row of x."""
+        self.add(lambda r: run_beside_away_holdings(self.s, r, self.i, x), self.of_task[x], lambda c: int(c.way != "preemption"))
+
+    def add_shared_intervals(self) -> None:
+        """Of a lower local task: one request that preempts in each interval that a release or a request that is shared out begins."""
+        for x in self.others:
+            if x > self.i and self.s.processor[x] == self.s.processor[self.i]:
+                self.add(lambda r: 1 + self.shared_requests(), self.of_task[x], lambda c: int(c.way == "preemption"))
+
+    def add_lower_waits(self) -> None:
+        """No request of a lower local task is waited for."""
+        self.add(lambda r: 0, self.every, lambda c: int(c.way == "direct" and c.task > self.i and self.s.processor[c.task] == self.s.processor[self.i]))
 
     def shared_requests(self) -> int:
         """The requests of i of what tasks of other processors request too."""
@@ -468,6 +529,15 @@ KINDS["spin-c"] = (
     Shape.add_lower_spinning,
     Shape.add_other_lower_spinning,
 )
+KINDS["mpcp-c"] = (
+    *KINDS["mpcp"],
+    Shape.add_shared_holdings,
+    Shape.add_holdings_by_resource,
+    Shape.add_away_holdings,
+    Shape.add_shared_intervals,
+    Shape.add_local_preemption,
+    Shape.add_lower_waits,
+)
 
 
 def program_of(s: TaskSet, protocol: str, i: int, bounds: Bounds) -> tuple[list[int], list[tuple[Row, int]]]:
@@ -481,5 +551,5 @@ def as_lp(costs: Sequence[int], rows: Sequence[tuple[Row, int]]) -> str:
     lines = ["Maximize", " worth: " + (" + ".join(f"{cost} y{c}" for c, cost in enumerate(costs)) or "0 y0"), "Subject To"]
     lines += [f" r{k}: " + " + ".join(f"{weight} y{c}" for c, weight in row) + f" <= {limit}" for k, (row, limit) in enumerate(rows)]
     return "\n".join(lines + ["End", ""])
-KINDS["dpcp-c"] = (*KINDS["dpcp-w"], Shape.add_home_tasks, Shape.add_lower_home_tasks, Shape.add_lower_preemption, Shape.add_lower_waits)
+KINDS["dpcp-c"] = (*KINDS["dpcp-w"], Shape.add_home_tasks, Shape.add_lower_home_tasks, Shape.add_lower_preemption, Shape.add_lower_home_waits)
 KINDS["dflp-c"] = (*KINDS["dflp"], Shape.add_home_tasks, Shape.add_lower_home_tasks, Shape.add_lower_preemption)

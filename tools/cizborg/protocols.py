@@ -31,6 +31,7 @@ PROTOCOLS = {
         Protocol("spin-c", "spin locks with the closer analysis", False, "spin"),
         Protocol("dpcp-c", "DPCP with the closer analysis", True, "dpcp"),
         Protocol("dflp-c", "the distributed FIFO protocol with the closer analysis", True, "dflp"),
+        Protocol("mpcp-c", "MPCP with the closer analysis", False, "mpcp"),
     )
 }
 WORDS = tuple(PROTOCOLS)

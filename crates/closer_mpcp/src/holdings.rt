@@ -89,7 +89,7 @@ fn is_lower_at(set: &TaskSet, place: Place, i: TaskId, x: TaskId, y: TaskId) -> 
     let lower = i < y;
     match place {
         Place::Beside => lower && is_at(set, Place::Beside, x, y),
-        Place::Away => { lower && is_at(set, Place::Away, x, y) && is_at(set, Place::Away, i, y) }
+        Place::Away => lower && is_at(set, Place::Away, x, y) && is_at(set, Place::Away, i, y),
     }
 }
 

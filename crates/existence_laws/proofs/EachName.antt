@@ -92,7 +92,6 @@ next_chosen name.DflpCloser w t accepted homes lawful before =
     let next : HasDflpChoice w t =
     next_dflp_row w t accepted homes lawful (λ u l. (before u l).sized) (λ u l. (before u l).keeps) in
     record { row = next.row; chosen = next.chosen }
-    record { row = next.row; chosen = next.chosen }
 next_chosen name.MpcpCloser w t accepted homes lawful before =
     let next : HasSharedChoice mpcp w t = next_row_mpcp w t accepted lawful in record { row = next.row; chosen = next.chosen }
 

@@ -1,5 +1,6 @@
 use crate::protocol_tests::are_within;
 use closer_fmlp::{CloserFmlpPlus, program};
+use closer_mpcp::CloserMpcp;
 use program_form::Certificate;
 use response_fixpoint::{Verdict, analyse, analyse_with};
 use sporadic_model::{Protocol, TaskId};
@@ -67,5 +68,60 @@ fn bounds_fall_with_the_closer_analysis(rt: HostRuntime) -> Result<(), Fail> {
         return Err("not shown by the closer analysis".into());
     };
     assert!(rt; bounds_are(&found, &[6, 13]));
+    Ok(())
+}
+
+/// Two tasks on two processors that share a resource. The higher one requests it twice, the lower one once.
+const TWICE: SetRow = SetRow {
+    processors: 2,
+    homes: &[None],
+    tasks: &[
+        task_row!(
+            2,
+            100,
+            15,
+            &[EntryRow {
+                resource: 0,
+                count: 2,
+                length: 5
+            }]
+        ),
+        task_row!(1, 200, 6, [(0, 4)]),
+    ],
+};
+
+// Of the lower task: the rows of requests and time, and behind them that of away holdings. No other task can hold the resource.
+#[test]
+fn limits_what_runs_in_one_wait(rt: HostRuntime) -> Result<(), Fail> {
+    let alloc = rt.alloc();
+    let set = set_of(alloc, TWICE)?;
+    let bounds = &[19, 11];
+    if set.tasks() != 2 || !are_within(&set, bounds) {
+        return Err("out of range".into());
+    }
+    let program = closer_mpcp::program(alloc, &set, TaskId(1), bounds)?;
+    assert_eq!(rt; program.columns(), 1);
+    assert_eq!(rt; program.rows(), 3);
+    for (r, limit) in [2, 15, 1].iter().enumerate() {
+        if r < program.rows() as usize {
+            assert_eq!(rt; program.limit(r as u32), *limit);
+        }
+    }
+    Ok(())
+}
+
+// Under MPCP both requests of the higher task may block the lower one: 6 + 5 + 5. By the closer analysis one does.
+#[test]
+fn bounds_fall_with_the_closer_analysis_of_mpcp(rt: HostRuntime) -> Result<(), Fail> {
+    let alloc = rt.alloc();
+    let set = set_of(alloc, TWICE)?;
+    let Ok(Verdict::Schedulable(plain)) = analyse(&rt, alloc, &set, Protocol::Mpcp, MOST) else {
+        return Err("not shown under MPCP".into());
+    };
+    assert!(rt; bounds_are(&plain, &[19, 16]));
+    let Ok(Verdict::Schedulable(found)) = analyse_with(&rt, alloc, &set, &CloserMpcp, MOST) else {
+        return Err("not shown by the closer analysis".into());
+    };
+    assert!(rt; bounds_are(&found, &[19, 11]));
     Ok(())
 }

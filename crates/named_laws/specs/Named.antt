@@ -104,12 +104,12 @@ plain_of name.FmlpPlusCloser = Some (name.Base protocol.FmlpPlus)
 plain_of name.SpinCloser = Some name.Spin
 plain_of name.DpcpCloser = Some name.DpcpWindows
 plain_of name.DflpCloser = Some name.Dflp
+plain_of name.MpcpCloser = Some (name.Base protocol.Mpcp)
 
 -- Is the first a closer analysis of the second, or of a closer analysis of it?
 abbrev pub IsCloserThan : ProtocolName → ProtocolName → Type 0
 IsCloserThan closer plain = (plain_of closer ≡ Some plain) ⊎ ((between : ProtocolName) × (plain_of closer ≡ Some between)
     × (plain_of between ≡ Some plain))
-plain_of name.MpcpCloser = Some (name.Base protocol.Mpcp)
 
 -- Does every schedule that keeps the protocol's rules, of whatever lawful jobs of the set, keep these bounds and values?
 abbrev pub SoundUnder : ProtocolName → SetDef → List ℕ → List ℕ → Type 0

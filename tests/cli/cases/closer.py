@@ -39,6 +39,32 @@ KINDS = {
         [14, 14, 30], [11, 14, 30]),
 }
 
+# the same under MPCP
+CEILED = (task("t1", 3, 100, 5, ("q", 1)), task("t2", 1, 110, 5, ("s", 1), ("u", 1)), task("t3", 1, 300, 10, ("q", 1), ("r", 1)))
+OTHERS = (task("t5", 2, 500, 10, ("r", 1)), task("t6", 2, 600, 10, ("q", 1)))
+FOUR = [resource("q"), resource("r"), resource("s"), resource("u")]
+AWAY = task_set(2, [resource("q")], task("t1", 2, 100, 15, ("q", 5, 2)), task("t2", 1, 200, 6, ("q", 4)))
+MPCP_KINDS = {
+    "shared holdings": (task_set(3, FOUR, *CEILED, task("t4", 2, 400, 31, ("s", 4), ("u", 4)), *OTHERS), [6, 16, 26, 36, 44, 53], [6, 16, 22, 36, 44, 53]),
+    "holdings by resource": (
+        task_set(3, FOUR, task("t1", 3, 100, 5, ("q", 1), ("u", 1)), task("t2", 1, 110, 5, ("s", 1)), task("t3", 1, 300, 10, ("q", 1), ("r", 1)),
+                 task("t4", 2, 400, 31, ("s", 4, 2), ("u", 1)), *OTHERS),
+        [8, 12, 26, 36, 44, 53], [8, 12, 23, 36, 44, 53]),
+    "away holdings": (AWAY, [19, 16], [19, 11]),
+    "shared intervals": (
+        task_set(2, [resource("q"), resource("r")], task("t1", 1, 100, 4, ("r", 1, 2)), task("t2", 2, 200, 6, ("q", 4)), task("t3", 2, 300, 6, ("r", 2, 2))),
+        [8, 10, 14], [8, 8, 14]),
+    "local preemption": (
+        task_set(1, [resource("q")], task("t1", 1, 100, 5), task("t2", 1, 200, 13, ("q", 3)), task("t3", 1, 300, 5, ("q", 4))),
+        [12, 22, 23], [9, 22, 23]),
+    "lower waits": (
+        task_set(2, [resource("q")], task("t1", 2, 100, 10, ("q", 1)), task("t2", 1, 100, 10, ("q", 1)), task("t3", 1, 200, 30, ("q", 5, 5))),
+        [15, 26, 41], [15, 21, 41]),
+}
+MPCP_PAIR = certificate("mpcp-c", [5, 5], [[2, 0, 0, 0], [1, 0, 0]])
+AWAY_LATE = AWAY.replace('"cost": 6,', '"cost": 6, "deadline": 11,')
+AWAY_TOO_LATE = AWAY.replace('"cost": 6,', '"cost": 6, "deadline": 10,')
+
 run = runs_on(PAIR)
 
 
@@ -50,6 +76,7 @@ def bounded(shows, protocol, bounds, set):
 
 ANALYSES = [
     *(case for kind, (text, plain, closer) in KINDS.items() for case in (bounded(kind, "fmlp+", plain, text), bounded(kind, "fmlp+-c", closer, text))),
+    *(case for kind, (text, plain, closer) in MPCP_KINDS.items() for case in (bounded(kind, "mpcp", plain, text), bounded(kind, "mpcp-c", closer, text))),
     run("a resource of one processor", "analyse fmlp+-c", ALONE_CERTIFICATE, 0, ALONE),
     run("the same under FMLP+", "analyse fmlp+", certificate("fmlp+", [9, 13], [[3, 0, 0, 0, 0], []], ALONE), 0, ALONE),
     run("what the closer analysis alone shows", "analyse fmlp+-c", certificate("fmlp+-c", [6, 13], [[0, 0, 0, 0, 0, 0, 3, 0, 0], []], TIGHT), 0, TIGHT),
@@ -58,6 +85,10 @@ ANALYSES = [
     bounded("the example", "fmlp+-c", [5, 16, 37, 60, 36], SHIPPED),
     run("the example under FMLP+", "analyse fmlp+", "not shown control 35 16\n", 1, SHIPPED),
     run("under MPCP", "analyse mpcp", "not shown control 19 16\n", 1, SHIPPED),
+    bounded("the example", "mpcp-c", [5, 16, 40, 60, 36], SHIPPED),
+    bounded("what the closer analysis alone shows", "mpcp-c", [19, 11], AWAY_LATE),
+    run("and MPCP doesn't", "analyse mpcp", "not shown t2 16 11\n", 1, AWAY_LATE),
+    run("a pair on two processors, as under MPCP", "analyse mpcp-c", MPCP_PAIR),
     run("and under spin locks", "analyse spin", "not shown sample 8 5\n", 1, SHIPPED),
 ]
 
@@ -77,12 +108,21 @@ CERTIFICATES = [
     run("a refusal", "refute fmlp+-c", refusal("fmlp+-c", TIGHTER, step(1, 6, 0, 1)), 0, TIGHTER),
     run("confirmed", "confirm fmlp+-c", "confirmed\n", 0, TIGHTER, cert=refusal("fmlp+-c", TIGHTER, step(1, 6, 0, 1))),
     run("a point at which t1 waits", "confirm fmlp+-c", "invalid step 1 row 6\n", 1, TIGHTER, cert=refusal("fmlp+-c", TIGHTER, step(1, 6, 1, 0))),
+    run("MPCP's of a pair", "check mpcp-c", "valid\n", cert=MPCP_PAIR),
+    run("not under MPCP", "check mpcp", "refused cert otherprotocol\n", 3, cert=MPCP_PAIR),
+    Case("what the closer analysis of MPCP shows", "check mpcp-c set cert", "valid\n", 0, {"set": AWAY_LATE}, before=(("analyse mpcp-c set", "cert"),)),
+    Case("what it refuses", "confirm mpcp-c set cert", "confirmed\n", 0, {"set": AWAY_TOO_LATE}, before=(("refute mpcp-c set", "cert"),)),
     run("what FMLP+ refuses", "confirm fmlp+-c", "invalid step 1 row 6\n", 1, TIGHT, cert=refusal("fmlp+-c", TIGHT, step(1, 9, 1, 1))),
 ]
 
 SCHEDULES = [
     run("what FMLP+ allows", "conform fmlp+-c", PAIR_MEASURED, 0, jobs=PAIR_JOBS, rows=PAIR_ROWS),
     Case("the schedule that FMLP+ chooses", "simulate fmlp+-c set jobs 5", PAIR_SIMULATED, 0, {"set": PAIR, "jobs": PAIR_JOBS}),
+    run("what MPCP allows", "conform mpcp-c", "lawful 5\nt1 1 3 0\nt2 1 5 1\n", 0, jobs=PAIR_JOBS, rows=PAIR_SIMULATED),
+    run("and what not", "conform mpcp-c", "broken 1 grant\n", 1, jobs=PAIR_JOBS, rows=PAIR_ROWS),
+    Case("the schedule that MPCP chooses", "simulate mpcp-c set jobs 5", PAIR_SIMULATED, 0, {"set": PAIR, "jobs": PAIR_JOBS}),
+    run("what MPCP charged beside what is proved", "audit mpcp-c", "kept 5\nt1 3 5 0 2 0 0 0\nt2 5 5 1 1 1 0 0\n", 0,
+        cert=MPCP_PAIR, jobs=PAIR_JOBS, rows=PAIR_SIMULATED),
     run("what was charged beside what is proved", "audit fmlp+-c", "kept 5\nt1 5 5 2 2 2 0 0\nt2 4 5 0 1 0 0 0\n", 0,
         cert=PAIR_CERTIFICATE, jobs=PAIR_JOBS, rows=PAIR_ROWS),
 ]
