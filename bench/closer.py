@@ -1,10 +1,10 @@
 #!/usr/bin/env python3
 """Shows by how much closer analyses lower the bounds of drawn sets, how many more sets they show, and what they cost in time.
 
-    python3 bench/closer.py [--seed N] [--sets N] [--jobs N] [--load LEAST MOST] [--words WORD,..] [--program FILE] [PROCESSORS..]
+    python3 bench/closer.py [--seed N] [--sets N] [--jobs N] [--load LEAST MOST] [--words WORD,..] [--bounds-alone] [--program FILE] [PROCESSORS..]
 
 Sets are drawn as the literature has them: 4, 8 and 16 processors, or as many as PROCESSORS says, with four tasks each; periods of 10 to 100
-ms in microseconds, with equal weight of their logarithms; the load of each processor between 0.4 and 0.6, dealt to its tasks by UUniFast;
+ms in microseconds, with equal weight of their logarithms; the load of each processor between 0.2 and 0.7, dealt to its tasks by UUniFast;
 twice as many resources as processors, of which a task requests two or three. Lengths are of 1 to 15, 1 to 100 or 5 to 1280 us. In a fourth
 family, of 1 to 100 us, half of the resources are used on one processor alone. --sets says how many sets of each family each number of
 processors gets.
@@ -16,7 +16,8 @@ closer word and a family:
     lower           how many bounds are lower, in percent
     middle, most    by how much of the bound, in the middle of those that are lower and at most
     blocking        by how much all blocking together falls at the plain word's bounds. The closer word's is what the multipliers of its
-                    certificate are worth there, so it falls by no less than that
+                    certificate are worth there, so it falls by no less than that. With --bounds-alone it is left out: that takes most
+                    of the script's time
     time            processor time of the closer analyses over that of the plain ones, of the sets with the most tasks
 
 The script ends with status 70 where a bound is greater under a closer word, or a set is shown by the plain word alone, which is proved never
@@ -118,8 +119,15 @@ def analysed(program, word, path):
     return Analysed(process.returncode, certificate, used.ru_utime + used.ru_stime)
 
 
-def blocking_of(s, word, certificate, bounds):
-    """What the certificate's multipliers say that all blocking together is at these bounds."""
+def own_blocking(s, word, bounds):
+    """All blocking together at the bounds that the word's analysis ends with: what cost and interference leave of them."""
+    return sum(bounds) - sum(s.cost) - sum(s.interference(word, bounds, i) for i in range(s.n))
+
+
+def blocking_at(s, word, certificate, bounds):
+    """What the certificate's multipliers say that all blocking together is at other bounds."""
+    if certificate["bounds"] == bounds:
+        return own_blocking(s, word, bounds)
     whole = 0
     for i, dual in enumerate(certificate["duals"]):
         limits = Shape(s, word, i).limits(bounds)
@@ -127,7 +135,7 @@ def blocking_of(s, word, certificate, bounds):
     return whole
 
 
-def compared(parts, word, plain, closer):
+def compared(parts, word, plain, closer, is_with_blocking):
     """The set under the word and under the plain word of its rules. The script stops where the plain one says more."""
     if plain.status == Status.DONE != closer.status:
         raise Stop(f"{word} doesn't show a set that the plain word shows", Status.LACKING)
@@ -137,16 +145,17 @@ def compared(parts, word, plain, closer):
     if any(less > bound for less, bound in zip(closer.certificate["bounds"], bounds)):
         raise Stop(f"a bound is greater under {word}", Status.LACKING)
     s = TaskSet(parts)
-    blocking = tuple(blocking_of(s, w, one.certificate, bounds) for w, one in ((PROTOCOLS[word].rules, plain), (word, closer)))
-    return Compared(s.n, plain, closer, blocking)
+    if not is_with_blocking:
+        return Compared(s.n, plain, closer, (0, 0))
+    return Compared(s.n, plain, closer, (own_blocking(s, PROTOCOLS[word].rules, bounds), blocking_at(s, word, closer.certificate, bounds)))
 
 
-def compared_words(program, path, parts, words):
+def compared_words(program, path, parts, words, is_with_blocking):
     """The set under each of these closer words."""
     path.write_text(json.dumps(parts))
     asked = dict.fromkeys(w for word in words for w in (PROTOCOLS[word].rules, word))
     answers = {word: analysed(program, word, path) for word in asked}
-    return {word: compared(parts, word, answers[PROTOCOLS[word].rules], answers[word]) for word in words}
+    return {word: compared(parts, word, answers[PROTOCOLS[word].rules], answers[word], is_with_blocking) for word in words}
 
 
 def percent(part, whole):
@@ -184,8 +193,9 @@ def main():
     words.add_argument("--seed", type=int, default=1)
     words.add_argument("--sets", type=int, default=20, help="how many sets of each family and number of processors")
     words.add_argument("--jobs", type=int, default=1, help="how many sets are analysed at a time")
-    words.add_argument("--load", metavar=("LEAST", "MOST"), type=float, nargs=2, default=(0.4, 0.6))
+    words.add_argument("--load", metavar=("LEAST", "MOST"), type=float, nargs=2, default=(0.2, 0.7))
     words.add_argument("--words", default="")
+    words.add_argument("--bounds-alone", action="store_true")
     words.add_argument("--program", metavar="FILE", default=BUILT)
     given = words.parse_args()
     program, draw, asked = built(given.program), seeded(given.seed), closer_words(given.words)
@@ -194,7 +204,7 @@ def main():
         for family in FAMILIES:
             sets = [drawn(processors, family, given.load, draw) for processors in given.processors for _ in range(given.sets)]
             paths = [Path(folder) / f"{number}.json" for number in range(len(sets))]
-            found = list(pool.map(lambda path, parts: compared_words(program, path, parts, asked), paths, sets))
+            found = list(pool.map(lambda path, parts: compared_words(program, path, parts, asked, not given.bounds_alone), paths, sets))
             for word in asked:
                 print(line_of(word, family, [one[word] for one in found]), flush=True)
     return Status.DONE
