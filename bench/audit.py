@@ -15,9 +15,8 @@ import tempfile
 from pathlib import Path
 
 from commands import BUILT, TOP, run
+from cizborg.protocols import WORDS
 from stretched import TICKS, stretch, timed
-
-PROTOCOLS = ["mpcp", "fmlp+", "dpcp", "dflp", "dpcp-w", "spin", "fmlp+-c", "spin-c", "dpcp-c", "dflp-c", "mpcp-c"]
 
 
 def measure(folder, protocol, ticks):
@@ -50,9 +49,9 @@ def main():
         taken = {}
         for factor in (1, 100):
             stretch(folder, factor)
-            for protocol in PROTOCOLS:
+            for protocol in WORDS:
                 taken[protocol, factor] = measure(folder, protocol, TICKS * factor)
-        for protocol in [protocol for protocol in PROTOCOLS if taken[protocol, 1] and taken[protocol, 100]]:
+        for protocol in [protocol for protocol in WORDS if taken[protocol, 1] and taken[protocol, 100]]:
             print(f"{protocol:6} audit of 100 million ticks / of one million = {taken[protocol, 100] / taken[protocol, 1]:.2f}")
 
 

@@ -171,10 +171,11 @@ def line_of(word, family, sets):
     most = max(one.tasks for one in sets)
     spent, other = (sum(getattr(one, name).seconds for one in twice if one.tasks == most) for name in ("closer", "plain"))
     shown = [sum(getattr(one, name).status == Status.DONE for one in sets) for name in ("plain", "closer")]
-    middle = percent(statistics.median(falls), 1) if falls else "-"
+    middle, most_fallen = (percent(number(falls), 1) if falls else "-" for number in (statistics.median, max))
+    time = f"{spent / other:.2f}" if other else "-"
     return (
-        f"{word:8} {family:18} {len(sets):5} {shown[0]:6} {shown[1]:6} {percent(len(falls), len(pairs)):>7} {middle:>7} {percent(max(falls, default=0), 1):>7} "
-        f"{percent(before - after, before):>8} {spent / other if other else 0:5.2f}"
+        f"{word:8} {family:18} {len(sets):5} {shown[0]:6} {shown[1]:6} {percent(len(falls), len(pairs)):>7} {middle:>7} {most_fallen:>7} "
+        f"{percent(before - after, before):>8} {time:>5}"
     )
 
 

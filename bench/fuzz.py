@@ -26,15 +26,14 @@ from pathlib import Path
 
 from bends import MILD, NUMBERS, ROUGH
 from commands import BUILT, TOP, built
+from cizborg.protocols import AT_HOMES, WORDS
 
 EXAMPLES = TOP / "examples"
-PROTOCOLS = ("mpcp", "fmlp+", "dpcp", "dflp", "dpcp-w", "spin", "fmlp+-c", "spin-c", "dpcp-c", "dflp-c", "mpcp-c")
-# those that ask for the home of each resource
-AT_HOMES = ("dpcp", "dflp", "dpcp-w", "dpcp-c", "dflp-c")
 # of a set: its jobs, how many ticks are simulated, and its rows, where they aren't those that the program makes
 SCHEDULES = {"pair.json": ("pair-jobs.csv", 50, "pair-rows.csv"), "plant.json": ("plant-jobs.csv", 100000, None)}
 
 # the texts that each status may come with; of a text that isn't whole there is none, since nothing here spoils standard output
+WORD = b"(%s)" % b"|".join(re.escape(word.encode()) for word in WORDS)
 NAME = rb"[A-Za-z0-9_.-]{1,32}"
 PLACE = rb"(root|(resource|task) [0-9]+|request [0-9]+ [0-9]+)"
 SET_REASON = rb"(absent|toolong|notjson|notask|shape %s|size (processors|tasks|resources|requests)|(name|twicename|processor|period|deadline|cost|local|resource|twicerequest|count|length|home|nohome) %s)" % (PLACE, PLACE)
@@ -42,12 +41,12 @@ CERT_REASON = rb"(absent|toolong|notjson|shape|shape (root|bounds|dual [0-9]+)|v
 LINE_REASON = rb"(absent|toolong( [0-9]+)?|(fields|number|unknownname|script|overbudget|tooclose|toomany|unknownjob) [0-9]+)"
 ANSWERS = {
     0: {
-        "analyse": rb'\{"bounds":\[[0-9,]+\],"duals":\[.*\],"protocol":"(mpcp|fmlp\+|dpcp|dflp|dpcp-w|spin|fmlp\+-c|spin-c|dpcp-c|dflp-c|mpcp-c)","set":"[0-9a-f]{64}","verdict":"schedulable","version":2\}\n',
+        "analyse": rb'\{"bounds":\[[0-9,]+\],"duals":\[.*\],"protocol":"%s","set":"[0-9a-f]{64}","verdict":"schedulable","version":2\}\n' % WORD,
         "report": rb"task {28}cpu .*\n(.*\n)+(load [0-9]+ [0-9]+\n)+",
         "check": rb"valid\n",
-        "refute": rb'\{"protocol":"(mpcp|fmlp\+|dpcp|dflp|dpcp-w|spin|fmlp\+-c|spin-c|dpcp-c|dflp-c|mpcp-c)","set":"[0-9a-f]{64}","steps":\[.*\],"verdict":"notshown","version":1\}\n',
+        "refute": rb'\{"protocol":"%s","set":"[0-9a-f]{64}","steps":\[.*\],"verdict":"notshown","version":1\}\n' % WORD,
         "confirm": rb"confirmed\n",
-        "upgrade": rb'\{"bounds":\[[0-9,]+\],"duals":\[.*\],"protocol":"(mpcp|fmlp\+|dpcp|dflp|dpcp-w|spin|fmlp\+-c|spin-c|dpcp-c|dflp-c|mpcp-c)","set":"[0-9a-f]{64}","verdict":"schedulable","version":2\}\n',
+        "upgrade": rb'\{"bounds":\[[0-9,]+\],"duals":\[.*\],"protocol":"%s","set":"[0-9a-f]{64}","verdict":"schedulable","version":2\}\n' % WORD,
         "conform": rb"lawful [0-9]+\n(%s [0-9]+ ([0-9]+|-) [0-9]+\n)+" % NAME,
         "simulate": rb"ticks(,[A-Za-z0-9_.-]+)+\n([0-9]+(,[0-9]*)+\n)+",
         "audit": rb"kept [0-9]+\n(%s ([0-9]+|-)( [0-9]+){6}\n)+" % NAME,
@@ -90,7 +89,7 @@ def example(name):
 def base_commands(program, folder):
     """Each command over examples that it accepts. Certificates come from the program itself, and so do schedules where there are none."""
     found = [Command("study 0 1", {})]
-    for protocol in PROTOCOLS:
+    for protocol in WORDS:
         for name in ("pair.json", "plant.json", "three.json", "overloaded.json"):
             text = example(name)
             if protocol in AT_HOMES and b"home" not in text and b"resources" in text:
@@ -139,7 +138,7 @@ def bent(command, rng):
     files, words = dict(command.files), list(command.words)
     if not files or rng.randrange(40) == 0:
         at = rng.randrange(len(words))
-        words[at] = rng.choice([*PROTOCOLS, "set", "", "-1", "08", "+1", str(rng.choice(NUMBERS)), words[at] + " ", words[at] * 2])
+        words[at] = rng.choice([*WORDS, "set", "", "-1", "08", "+1", str(rng.choice(NUMBERS)), words[at] + " ", words[at] * 2])
     bends = rng.choice([MILD, MILD + ROUGH])
     for _ in range(rng.choice([1, 1, 1, 2, 3, 8]) if files else 0):
         name = rng.choice(list(files))

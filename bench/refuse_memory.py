@@ -23,8 +23,8 @@ import tempfile
 from pathlib import Path
 
 from commands import BUILT, TOP, built, run
+from cizborg.protocols import WORDS
 
-PROTOCOLS = ("mpcp", "fmlp+", "dpcp", "dflp", "dpcp-w", "spin", "fmlp+-c", "spin-c", "dpcp-c", "dflp-c", "mpcp-c")
 EXAMPLES = TOP / "examples"
 
 REFUSER = r"""
@@ -136,9 +136,9 @@ def over_pair(program, folder, protocol):
 def commands_of(program, folder):
     """Words of each command that the program has, over the examples."""
     plant = str(EXAMPLES / "plant.json")
-    every = [[command, protocol, plant] for protocol in PROTOCOLS for command in ("analyse", "report")]
+    every = [[command, protocol, plant] for protocol in WORDS for command in ("analyse", "report")]
     every += [["analyse", "mpcp", str(EXAMPLES / "overloaded.json")], ["analyse", "fmlp+", str(EXAMPLES / "none.json")], ["--help"], ["study", "0", "1"]]
-    every += [words for protocol in PROTOCOLS for words in over_pair(program, folder, protocol)]
+    every += [words for protocol in WORDS for words in over_pair(program, folder, protocol)]
     for words in every:
         if words == ["--help"] or subprocess.run([program, *words], capture_output=True).returncode != 2:
             yield words

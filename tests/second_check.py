@@ -32,14 +32,14 @@ from pathlib import Path
 TOP = Path(__file__).resolve().parent.parent
 BUILT = TOP / "crates" / "block_cli" / "out" / "block_cli"
 sys.path[1:1] = [str(TOP / "tests" / "cli")]
-sys.path.append(str(TOP / "bench"))
+sys.path += [str(TOP / "bench"), str(TOP / "tools")]
 
 from bends import MILD, NUMBERS, ROUGH  # noqa: E402
+from cizborg.protocols import WORDS  # noqa: E402
 from generated_sets import generated, generated_crowded  # noqa: E402
 from sets import resource, set_of, task  # noqa: E402
 from setting import Case  # noqa: E402
 
-PROTOCOLS = ("mpcp", "fmlp+", "dpcp", "dflp", "dpcp-w", "spin", "fmlp+-c", "spin-c", "dpcp-c", "dflp-c", "mpcp-c")
 # few enough that a set which never settles costs little
 ALLOWANCE = "20000"
 
@@ -71,7 +71,7 @@ def judgement_of(case: Case) -> Judgement | None:
     words = case.words.split() if isinstance(case.words, str) else case.words
     is_plain = isinstance(case.says, str) and not (case.out or case.faults or case.memory or case.before)
     files = {name: as_bytes(text) for name, text in case.files.items() if isinstance(text, (str, bytes))}
-    if not is_plain or len(words) < 3 or words[2] not in files or words[1] not in PROTOCOLS:
+    if not is_plain or len(words) < 3 or words[2] not in files or words[1] not in WORDS:
         return None
     if words[0] in ("check", "confirm") and len(words) == 4 and words[3] in files:
         return Judgement(words[0], words[1], files[words[2]], files[words[3]])
@@ -216,7 +216,7 @@ def bent_set(judgement: Judgement, draw: random.Random) -> Judgement:
 
 def bent_protocol(judgement: Judgement, draw: random.Random) -> Judgement:
     """It is judged under another protocol, for which it is made out in most cases."""
-    other = draw.choice(PROTOCOLS)
+    other = draw.choice(WORDS)
     named = [f'"protocol":"{word}"'.encode() for word in (judgement.protocol, other)]
     return Judgement(judgement.command, other, judgement.set, judgement.cert.replace(*named) if draw.randrange(6) else judgement.cert)
 
@@ -303,7 +303,7 @@ def main() -> None:
         folder = Path(name)
         found = table_differences(node, folder)
         sets = known_sets() + generated_sets(draw, given.sets)
-        asked = [(number, text, protocol) for number, text in enumerate(sets) for protocol in PROTOCOLS]
+        asked = [(number, text, protocol) for number, text in enumerate(sets) for protocol in WORDS]
         with concurrent.futures.ThreadPoolExecutor(given.jobs) as pool:
             made = list(pool.map(lambda one: certified(program, folder, *one), asked))
         written = shipped() + [one for one in made if one]
