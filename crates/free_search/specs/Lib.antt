@@ -1,0 +1,2 @@
+pub mod RowView
+pub mod Tables

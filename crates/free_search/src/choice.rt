@@ -1,0 +1,126 @@
+//! Which variable enters the basis, and which row leaves it.
+
+ghost use Rattle.std.specs.Prelude.{◌≡◌, ◌⊎◌, ℕ, ◌<◌, length, IfOk, IfSome, pos, ◌<ℤ◌};
+ghost use Rattle.whole_rows.specs.Rows.{num_at};
+ghost use Rattle.free_search.specs.Tables.{HavePlaces, row_at};
+
+use crate::row::FreeRow;
+use std::alloc::{AllocError, Global};
+use std::cmp::Ordering;
+use whole_numbers::Signed;
+
+// The one of two places whose variable is less.
+fn lesser(best: Option<usize>, other: usize, outside: &[usize]) -> usize
+    requires other { other < length outside.now }
+    requires best { IfSome best (λ k. k < length outside.now) }
+    ensures { result < length outside.now }
+{
+    match best {
+        Some(place) => {
+            if outside[place] < outside[other] {
+                place
+            } else {
+                other
+            }
+        }
+        None => other,
+    }
+}
+
+/// The place of the least variable whose number is above 0: of the one that enters.
+pub(crate) fn entering(nums: &[Signed], outside: &[usize]) -> Option<usize>
+    requires { length outside.now ≡ length nums.now }
+    ensures { IfSome result (λ k. k < length nums.now) }
+{
+    let mut least = None;
+    for k in 0..nums.len() {
+        if nums[k].is_above_zero() {
+            least = Some(lesser(least, k, outside));
+        }
+    }
+    least
+}
+
+// The number of row i at place k.
+fn num_of(rows: &[FreeRow], i: usize, k: usize) -> &Signed
+    requires row { i < length rows.now }
+    requires place { (n : ℕ) × (k < n) × HavePlaces n rows.now }
+    ensures { result.now ≡ num_at (row_at rows.now i) k }
+{
+    rows[i].num(k)
+}
+
+// Whether row i comes before row j where the variable at place k enters: its ratio is less, or as great and its basic variable less. In
+// a ratio the denominators cancel.
+fn comes_before(
+    alloc: Global,
+    rows: &[FreeRow],
+    basis: &[usize],
+    k: usize,
+    i: usize,
+    j: usize,
+) -> Result<bool, AllocError>
+    requires row { i < length rows.now }
+    requires other { j < length rows.now }
+    requires place { (n : ℕ) × (k < n) × HavePlaces n rows.now }
+    requires basis { length basis.now ≡ length rows.now }
+{
+    let ratio = rows[i]
+        .limit()
+        .size()
+        .times(alloc, num_of(rows, j, k).size())?;
+    let other = rows[j]
+        .limit()
+        .size()
+        .times(alloc, num_of(rows, i, k).size())?;
+    Ok(match ratio.compare(&other) {
+        Ordering::Less => true,
+        Ordering::Equal => basis[i] < basis[j],
+        Ordering::Greater => false,
+    })
+}
+
+// The one of two rows that comes before the other.
+fn earlier(
+    alloc: Global,
+    rows: &[FreeRow],
+    basis: &[usize],
+    k: usize,
+    best: Option<usize>,
+    i: usize,
+) -> Result<usize, AllocError>
+    requires row { i < length rows.now }
+    requires best { IfSome best (λ r. r < length rows.now) }
+    requires place { (n : ℕ) × (k < n) × HavePlaces n rows.now }
+    requires basis { length basis.now ≡ length rows.now }
+    ensures { IfOk result (λ r. (r ≡ i) ⊎ (best ≡ Some r)) }
+{
+    match best {
+        Some(r) => {
+            let comes = comes_before(alloc, rows, basis, k, i, r)?;
+            Ok(if comes { i } else { r })
+        }
+        None => Ok(i),
+    }
+}
+
+/// The row that leaves where the variable at place k enters. None where no row has a number above 0 there.
+pub(crate) fn leaving(
+    alloc: Global,
+    rows: &[FreeRow],
+    basis: &[usize],
+    k: usize,
+) -> Result<Option<usize>, AllocError>
+    requires place { (n : ℕ) × (k < n) × HavePlaces n rows.now }
+    requires basis { length basis.now ≡ length rows.now }
+    ensures within { IfOk result (λ found. IfSome found (λ r. r < length rows.now)) }
+    ensures above { IfOk result (λ found. IfSome found (λ r. pos 0 <ℤ num_at (row_at rows.now r) k)) }
+{
+    let mut best = None;
+    for i in 0..rows.len() {
+        if num_of(rows, i, k).is_above_zero() {
+            best = Some(earlier(alloc, rows, basis, k, best, i)?);
+        }
+    }
+    Ok(best)
+}

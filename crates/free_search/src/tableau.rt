@@ -1,0 +1,117 @@
+//! The table of a run, and its exchanges.
+
+ghost use Rattle.std.specs.Prelude.{◌≡◌, ℕ, ◌<◌, length, IfOk, OnOk, pos, ◌<ℤ◌};
+ghost use Rattle.whole_rows.specs.Rows.{num_at};
+ghost use Rattle.free_search.specs.Tables.{HavePlaces, HasSizes, row_at};
+
+use crate::row::{FreeRow, Pivot};
+use std::alloc::{AllocError, Global};
+use std::mem::swap;
+
+/// The table of a run. A variable of the basis has no place in its rows.
+#[derive(Drop)]
+pub(crate) struct Tableau {
+    /// The rows of the program.
+    pub(crate) rows: Vec<FreeRow>,
+    /// The objective row.
+    pub(crate) objective: FreeRow,
+    /// The basic variable of each row.
+    pub(crate) basis: Vec<usize>,
+    /// The variable at each place.
+    pub(crate) outside: Vec<usize>,
+}
+
+// Takes the pivot row away from a row, its cell at place k times.
+fn take_from(alloc: Global, row: &mut FreeRow, k: usize, pivot: &Pivot) -> Result<(), AllocError>
+    requires { k < length row.old.nums }
+    ensures { length row.new.nums ≡ length row.old.nums }
+{
+    if row.num(k).is_zero() {
+        return Ok(());
+    }
+    row.take(alloc, k, pivot)
+}
+
+// Divides row r by its number at place k, and reads it as the pivot.
+fn divide(alloc: Global, rows: &mut [FreeRow], k: usize, r: usize) -> Result<Pivot, AllocError>
+    requires row { r < length rows.old }
+    requires place { (n : ℕ) × (k < n) × HavePlaces n rows.old }
+    requires above { pos 0 <ℤ num_at (row_at rows.old r) k }
+    ensures { (n : ℕ) → HavePlaces n rows.old → HavePlaces n rows.new }
+{
+    rows[r].enter(alloc, k)?;
+    Pivot::of(alloc, &rows[r])
+}
+
+// Takes the pivot row away from row i, its cell at place k times, unless it is row r itself.
+fn take_row(
+    alloc: Global,
+    rows: &mut [FreeRow],
+    i: usize,
+    k: usize,
+    r: usize,
+    pivot: &Pivot,
+) -> Result<(), AllocError>
+    requires row { i < length rows.old }
+    requires place { (n : ℕ) × (k < n) × HavePlaces n rows.old }
+    ensures { (n : ℕ) → HavePlaces n rows.old → HavePlaces n rows.new }
+{
+    if i == r {
+        return Ok(());
+    }
+    take_from(alloc, &mut rows[i], k, pivot)
+}
+
+// Takes the pivot row away from each row but r, its cell at place k times.
+fn take_all(
+    alloc: Global,
+    rows: &mut [FreeRow],
+    k: usize,
+    r: usize,
+    pivot: &Pivot,
+) -> Result<(), AllocError>
+    requires { (n : ℕ) × (k < n) × HavePlaces n rows.old }
+    ensures { (n : ℕ) → HavePlaces n rows.old → HavePlaces n rows.new }
+{
+    for i in 0..rows.len() {
+        take_row(alloc, rows, i, k, r, pivot)?;
+    }
+    Ok(())
+}
+
+// Divides row r by its number at place k, and takes it away from the others. Gives it as the pivot.
+fn exchange_rows(
+    alloc: Global,
+    rows: &mut [FreeRow],
+    k: usize,
+    r: usize,
+) -> Result<Pivot, AllocError>
+    requires row { r < length rows.old }
+    requires place { (n : ℕ) × (k < n) × HavePlaces n rows.old }
+    requires above { pos 0 <ℤ num_at (row_at rows.old r) k }
+    ensures { (n : ℕ) → HavePlaces n rows.old → HavePlaces n rows.new }
+{
+    let pivot = divide(alloc, rows, k, r)?;
+    take_all(alloc, rows, k, r, &pivot)?;
+    Ok(pivot)
+}
+
+/// The exchange where the variable at place k enters and row r leaves.
+pub(crate) fn exchange(
+    alloc: Global,
+    tableau: &mut Tableau,
+    k: usize,
+    r: usize,
+) -> Result<(), AllocError>
+    requires place { k < length tableau.old.outside.items }
+    requires row { r < length tableau.old.rows.items }
+    requires above { pos 0 <ℤ num_at (row_at tableau.old.rows.items r) k }
+    requires sizes { HasSizes (length tableau.old.outside.items) tableau.old }
+    ensures sizes { OnOk result (HasSizes (length tableau.old.outside.items) tableau.new) }
+    ensures rows { OnOk result (length tableau.new.rows.items ≡ length tableau.old.rows.items) }
+{
+    let pivot = exchange_rows(alloc, &mut tableau.rows, k, r)?;
+    take_from(alloc, &mut tableau.objective, k, &pivot)?;
+    swap(&mut tableau.outside[k], &mut tableau.basis[r]);
+    Ok(())
+}

@@ -1,0 +1,114 @@
+-- What the answers of settling mean.
+use Rattle.std.specs.Prelude.{◌≡◌, ◌⊎◌, ℕ, ◌<◌, Bool, List, length, map, Result, Ok, Err, IfOk}
+use Rattle.program_form.specs.Certificate.{DualDef, dual_seen, certificate_seen}
+use Rattle.sporadic_model.specs.SetDef.{SetDef}
+use Rattle.sporadic_model.specs.declared.ids.TaskId.{TaskId}
+use Rattle.schedule_model.specs.RowDef.{Trace}
+use Rattle.schedule_model.specs.declared.rule.Rule.{Rule}
+use Rattle.program_sources.specs.Recurrence.{SourceDef}
+use Rattle.program_sources.specs.Fitting.{AreFitting}
+use Rattle.soundness_laws.specs.Sound.{Sound}
+use Rattle.soundness_laws.specs.Analyses.{AreValues}
+use Rattle.refusal_laws.specs.Steps.{StepDef, Holds, step_at}
+use Rattle.refusal_laws.specs.Seen.{steps_seen}
+use Rattle.response_fixpoint.specs.Answers.{Answers, IsSmallDual}
+use Rattle.response_fixpoint.specs.Rounds.{Ending, Schedulable, NotShown, Wide, Allowance, EndsIn}
+use Rattle.response_fixpoint.specs.Runs.{rounds_of}
+use Rattle.refusal_cert.specs.Refuting.{refuting}
+use Rattle.refusal_cert.specs.Answers.{Refutes}
+use Rattle.refusal_cert.specs.declared.answer.Answer.TheVariants as refutation
+use Rattle.refusal_laws.specs.declared.refusal.Refusal.{Refusal}
+use Rattle.settling.specs.Rising.{IsProvedLeast}
+use Rattle.settling.specs.declared.answer.Settled.{Settled}
+use Rattle.settling.specs.declared.answer.Settled.TheVariants as settled
+use Rattle.settling.specs.declared.answer.SettleStop.{SettleStop}
+use Rattle.settling.specs.declared.answer.SettleStop.TheVariants as stop
+
+-- Are all numbers of each step's point below 2^63?
+abbrev pub HasSmallPoints : List StepDef → Type 0
+HasSmallPoints steps = (k : ℕ) → k < length steps → IsSmallDual (step_at steps k).point
+
+-- Is the answer right: are the bounds the least that fit, with a valid certificate, or does the refusal hold, so that nothing fits?
+abbrev pub IsRight : Settled → SourceDef → Type 0
+IsRight (settled.Schedulable certificate) f = IsProvedLeast f (certificate_seen certificate)
+IsRight (settled.Refused refusal) f = (Holds f (steps_seen refusal)) × ((s : List ℕ) → AreFitting f s → ⊥)
+
+abbrev pub IsSchedulable : Settled → Type 0
+IsSchedulable (settled.Schedulable certificate) = Unit {0}
+IsSchedulable (settled.Refused refusal) = ⊥
+
+-- Do the rounds of an analysis end at a task that isn't shown?
+abbrev pub IsNotShown : SourceDef → ℕ → Type 0
+IsNotShown f allowance = (i : ℕ) × (value : ℕ) × EndsIn (rounds_of f) allowance (NotShown i value)
+
+-- Do the rounds of refusals end wide?
+abbrev pub IsWideToRefute : SourceDef → ℕ → Type 0
+IsWideToRefute f allowance = (i : ℕ) × EndsIn (refuting f) allowance (Wide i)
+
+-- Do the rounds leave the set open: do they end wide, or at a task that isn't shown where the rounds of refusals end wide?
+abbrev pub IsLeftOpen : SourceDef → ℕ → Type 0
+IsLeftOpen f allowance = ((i : ℕ) × EndsIn (rounds_of f) allowance (Wide i))
+    ⊎ ((IsNotShown f allowance) × IsWideToRefute f allowance)
+
+-- What is answered by steps of a search: a refusal that holds, with small points, or none.
+abbrev pub RefusesSo : Result Settled SettleStop → SourceDef → Type 0
+RefusesSo (Ok (settled.Schedulable certificate)) f = ⊥
+RefusesSo (Ok (settled.Refused refusal)) f = (IsRight (settled.Refused refusal) f) × HasSmallPoints (steps_seen refusal)
+RefusesSo (Err e) f = Unit {0}
+
+-- What is answered where the analysis is wide.
+abbrev pub GivesWide : Result Settled SettleStop → SourceDef → Type 0
+GivesWide (Ok (settled.Schedulable certificate)) f = IsRight (settled.Schedulable certificate) f
+GivesWide (Ok (settled.Refused refusal)) f = (IsRight (settled.Refused refusal) f) × HasSmallPoints (steps_seen refusal)
+GivesWide (Err e) f = Unit {0}
+
+-- What is answered where the analysis doesn't show the set.
+abbrev pub GivesRefusal : Result Settled SettleStop → SourceDef → ℕ → Type 0
+GivesRefusal (Ok (settled.Schedulable certificate)) f allowance = ⊥
+GivesRefusal (Ok (settled.Refused refusal)) f allowance = (IsRight (settled.Refused refusal) f)
+    × ((Refutes (Ok (refutation.Refused refusal)) f allowance)
+    ⊎ ((IsWideToRefute f allowance) × HasSmallPoints (steps_seen refusal)))
+GivesRefusal (Err (stop.Wide task)) f allowance = IsWideToRefute f allowance
+GivesRefusal (Err stop.Allowance) f allowance = (IsWideToRefute f allowance) ⊎ EndsIn (refuting f) allowance Allowance
+GivesRefusal (Err stop.Memory) f allowance = Unit {0}
+
+-- Where an answer comes. Where the rounds of an analysis leave nothing open, it is theirs, or that of the rounds of refusals. Want of
+-- memory says nothing.
+abbrev pub Settles : Result Settled SettleStop → SourceDef → ℕ → Type 0
+Settles (Ok (settled.Schedulable certificate)) f allowance =
+    (EndsIn (rounds_of f) allowance (Schedulable certificate.bounds.items (map dual_seen certificate.duals.items)))
+    ⊎ ((i : ℕ) × EndsIn (rounds_of f) allowance (Wide i))
+Settles (Ok (settled.Refused refusal)) f allowance =
+    ((IsNotShown f allowance) × Refutes (Ok (refutation.Refused refusal)) f allowance)
+    ⊎ ((IsLeftOpen f allowance) × HasSmallPoints (steps_seen refusal))
+Settles (Err (stop.Wide task)) f allowance = IsLeftOpen f allowance
+Settles (Err stop.Allowance) f allowance = (EndsIn (rounds_of f) allowance Allowance)
+    ⊎ (IsLeftOpen f allowance) ⊎ ((IsNotShown f allowance) × EndsIn (refuting f) allowance Allowance)
+Settles (Err stop.Memory) f allowance = Unit {0}
+
+-- Where it comes, and is it right?
+abbrev pub AnswersSo : Result Settled SettleStop → SourceDef → ℕ → Type 0
+AnswersSo r f allowance = (Settles r f allowance) × IfOk r (λ settled. IsRight settled f)
+
+-- Is this an ending at a task that isn't shown, or a wide one?
+abbrev pub IsUnshown : Ending → Type 0
+IsUnshown e = (i : ℕ) × (value : ℕ) × (e ≡ NotShown i value)
+
+abbrev pub IsWide : Ending → Type 0
+IsWide e = (i : ℕ) × (e ≡ Wide i)
+
+-- Which endings of the analysis does an answer leave? A certificate is the one that the analysis gives, unless that is wide. Want of
+-- memory says nothing.
+abbrev pub Keeps : Result Settled SettleStop → Ending → Type 0
+Keeps (Ok (settled.Schedulable certificate)) e =
+    (e ≡ Schedulable certificate.bounds.items (map dual_seen certificate.duals.items)) ⊎ IsWide e
+Keeps (Ok (settled.Refused refusal)) e = (IsUnshown e) ⊎ IsWide e
+Keeps (Err (stop.Wide task)) e = (IsUnshown e) ⊎ IsWide e
+Keeps (Err stop.Allowance) e = (e ≡ Allowance) ⊎ (IsUnshown e) ⊎ IsWide e
+Keeps (Err stop.Memory) e = Unit {0}
+
+-- Are the bounds of the certificate sound, with the values of its duals, under a protocol with these rules and this interference?
+abbrev pub IsSound : (Rule → Trace → ℕ → Type 0) → (Trace → ℕ → ℕ → Bool) → SourceDef → Settled → Type 0
+IsSound keeps interferes f (settled.Schedulable certificate) = (values : List ℕ) → AreValues f (certificate_seen certificate) values
+    → Sound keeps interferes f.set certificate.bounds.items values
+IsSound keeps interferes f (settled.Refused refusal) = Unit {0}

@@ -1,0 +1,20 @@
+//! Settling task sets: least bounds or a refusal also where an analysis is wide.
+//!
+//! A search proposes points and duals of programs. Nothing that it finds is believed: each point is tested exactly before it raises a
+//! bound, a certificate is judged before it is answered, and a refusal is confirmed.
+#![tactic(auto)]
+
+mod answer;
+mod certificates;
+mod finding;
+mod reached;
+mod refusals;
+mod rising;
+mod search;
+mod settling;
+mod steps;
+mod values;
+
+pub use answer::{SettleStop, Settled};
+pub use search::{Exchanges, Search};
+pub use settling::{settle_by, settle_with};

@@ -1,0 +1,73 @@
+//! Refusals by rounded points. None is answered that isn't confirmed.
+
+ghost use Rattle.std.specs.Prelude.{◌≡◌, ℕ, ◌<◌, List, IfOk, IsTrue};
+ghost use Rattle.program_form.specs.Certificate.{dual_seen};
+ghost use Rattle.program_sources.specs.Recurrence.{source_at};
+ghost use Rattle.refusal_laws.specs.Seen.{steps_seen};
+ghost use Rattle.settling.specs.Answers.{HasSmallPoints, RefusesSo};
+
+use crate::answer::{SettleStop, Settled};
+use crate::certificates::is_small;
+use crate::finding::Points;
+use crate::rising::{Risen, rise};
+use crate::search::Search;
+use program_sources::ProgramSource;
+use refusal_confirm::{Fault, confirm, has_denominators};
+use refusal_laws::Refusal;
+use sporadic_model::{TaskId, TaskSet};
+use std::alloc::Global;
+use std::thread::Threads;
+
+/// Has each point only numbers of 63 bits?
+fn has_small_points(refusal: &Refusal) -> bool
+    ensures { IsTrue result → HasSmallPoints (steps_seen refusal.now) }
+{
+    for k in 0..refusal.steps.len() {
+        if !is_small(&refusal.steps[k].point) {
+            return false;
+        }
+    }
+    true
+}
+
+/// Answers the refusal, where it holds. Where it doesn't, settling stops at this task.
+pub(crate) fn answer_confirmed<R: Threads + Sync, P: ProgramSource + Sync>(
+    rt: &R,
+    alloc: Global,
+    set: &TaskSet,
+    protocol: &P,
+    refusal: Refusal,
+    task: TaskId,
+) -> Result<Settled, SettleStop>
+    requires serves { P.serves protocol.now set.now }
+    ensures { RefusesSo result (source_at (P.source protocol.now) set.now) }
+{
+    if !has_denominators(&refusal) || !has_small_points(&refusal) {
+        return Err(SettleStop::Wide(task));
+    }
+    match confirm(rt, alloc, set, protocol, &refusal) {
+        Ok(()) => Ok(Settled::Refused(refusal)),
+        Err(Fault::Memory) => Err(SettleStop::Memory),
+        Err(_) => Err(SettleStop::Wide(task)),
+    }
+}
+
+/// A refusal by points that are rounded down. Where they come to none, settling stops at this task.
+pub(crate) fn refuse_by_rounded_points<R: Threads + Sync, P: ProgramSource + Sync, S: Search>(
+    rt: &R,
+    alloc: Global,
+    set: &TaskSet,
+    protocol: &P,
+    search: &S,
+    task: TaskId,
+    allowance: u64,
+) -> Result<Settled, SettleStop>
+    requires serves { P.serves protocol.now set.now }
+    ensures { RefusesSo result (source_at (P.source protocol.now) set.now) }
+{
+    match rise(alloc, set, protocol, search, Points::Rounded, allowance) {
+        Ok(Risen::Late(Some(refusal))) => answer_confirmed(rt, alloc, set, protocol, refusal, task),
+        Ok(_) => Err(SettleStop::Wide(task)),
+        Err(stop) => Err(stop),
+    }
+}

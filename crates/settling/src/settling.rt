@@ -1,0 +1,154 @@
+ghost use Rattle.std.specs.Prelude.{◌≡◌, ℕ, ◌↔◌, List, IfOk};
+ghost use Rattle.program_sources.specs.Recurrence.{source_at};
+ghost use Rattle.program_sources.specs.Fitting.{AreFitting};
+ghost use Rattle.response_fixpoint.specs.Rounds.{Ending, EndsIn};
+ghost use Rattle.response_fixpoint.specs.Runs.{rounds_of};
+ghost use Rattle.settling.specs.Answers.{AnswersSo, GivesRefusal, GivesWide};
+ghost use Rattle.settling.specs.Answers.{Settles, IsRight, IsSchedulable, IsSound, Keeps};
+
+use crate::answer::{SettleStop, Settled};
+use crate::finding::Points;
+use crate::refusals::{answer_confirmed, refuse_by_rounded_points};
+use crate::rising::{Risen, rise};
+use crate::search::{Exchanges, Search};
+use charged_protocols::{ChargedProtocol, charged_protocols_are_analysed};
+use program_sources::ProgramSource;
+use refusal_cert::{Answer, RefuteStop, refute};
+use response_fixpoint::{Stop, Verdict, analyse_with, the_rounds_have_one_ending};
+use soundness_laws::analysed_protocols_are_sound;
+use sporadic_model::{TaskId, TaskSet};
+use std::alloc::Global;
+use std::thread::Threads;
+
+/// Settles a set whose analysis is wide at this task.
+#[tactic(auto, using(crate::proofs::AnswerLaws::wide_of))]
+fn settle_wide<R: Threads + Sync, P: ProgramSource + Sync, S: Search>(
+    rt: &R,
+    alloc: Global,
+    set: &TaskSet,
+    protocol: &P,
+    search: &S,
+    task: TaskId,
+    allowance: u64,
+) -> Result<Settled, SettleStop>
+    requires serves { P.serves protocol.now set.now }
+    ensures { GivesWide result (source_at (P.source protocol.now) set.now) }
+{
+    match rise(alloc, set, protocol, search, Points::Exact, allowance) {
+        Ok(Risen::Least(certificate)) => Ok(Settled::Schedulable(certificate)),
+        Ok(Risen::Late(Some(refusal))) => answer_confirmed(rt, alloc, set, protocol, refusal, task),
+        Ok(Risen::Late(None)) => {
+            refuse_by_rounded_points(rt, alloc, set, protocol, search, task, allowance)
+        }
+        Err(stop) => Err(stop),
+    }
+}
+
+/// Refuses a set that the analysis doesn't show.
+fn refuse<R: Threads + Sync, P: ProgramSource + Sync, S: Search>(
+    rt: &R,
+    alloc: Global,
+    set: &TaskSet,
+    protocol: &P,
+    search: &S,
+    allowance: u64,
+) -> Result<Settled, SettleStop>
+    requires serves { P.serves protocol.now set.now }
+    requires none { (s : List ℕ) → AreFitting (source_at (P.source protocol.now) set.now) s → ⊥ }
+    ensures { GivesRefusal result (source_at (P.source protocol.now) set.now) allowance }
+{
+    match refute(alloc, set, protocol, allowance) {
+        Ok(Answer::Refused(refusal)) => Ok(Settled::Refused(refusal)),
+        Ok(Answer::Schedulable) => unreachable!(),
+        Err(RefuteStop::Wide(task)) => {
+            refuse_by_rounded_points(rt, alloc, set, protocol, search, task, allowance)
+        }
+        Err(RefuteStop::Allowance) => Err(SettleStop::Allowance),
+        Err(RefuteStop::Memory) => Err(SettleStop::Memory),
+    }
+}
+
+/// The answer, where it comes.
+fn settle<R: Threads + Sync, P: ProgramSource + Sync, S: Search>(
+    rt: &R,
+    alloc: Global,
+    set: &TaskSet,
+    protocol: &P,
+    search: &S,
+    allowance: u64,
+) -> Result<Settled, SettleStop>
+    requires serves { P.serves protocol.now set.now }
+    ensures { AnswersSo result (source_at (P.source protocol.now) set.now) allowance }
+{
+    match analyse_with(rt, alloc, set, protocol, allowance) {
+        Ok(Verdict::Schedulable(certificate)) => Ok(Settled::Schedulable(certificate)),
+        Ok(Verdict::NotShown { .. }) => refuse(rt, alloc, set, protocol, search, allowance),
+        Err(Stop::Wide(task)) => settle_wide(rt, alloc, set, protocol, search, task, allowance),
+        Err(Stop::Allowance) => Err(SettleStop::Allowance),
+        Err(Stop::Memory) => Err(SettleStop::Memory),
+    }
+}
+
+/// Settles a task set over any source of programs, by any search: see [`settle_with`].
+pub fn settle_by<R: Threads + Sync, P: ProgramSource + Sync, S: Search>(
+    rt: &R,
+    alloc: Global,
+    set: &TaskSet,
+    protocol: &P,
+    search: &S,
+    allowance: u64,
+) -> Result<Settled, SettleStop>
+    requires serves { P.serves protocol.now set.now }
+
+    // Where each answer comes: it is that of the analysis, or of a refutation, unless these are wide.
+    ensures settles { Settles result (source_at (P.source protocol.now) set.now) allowance }
+
+    // What is kept of each ending of the analysis.
+    ensures keeps { (e : Ending)
+        → EndsIn (rounds_of (source_at (P.source protocol.now) set.now)) allowance e → Keeps result e }
+
+    // Schedulable: the least fitting bounds, with a valid certificate. Refused: the refusal holds, and nothing fits. So each comes exactly
+    // there.
+    ensures right { IfOk result (λ settled. IsRight settled (source_at (P.source protocol.now) set.now)) }
+    ensures exactly { IfOk result (λ settled. IsSchedulable settled
+        ↔ ((s : List ℕ) × AreFitting (source_at (P.source protocol.now) set.now) s)) }
+{
+    the_rounds_have_one_ending();
+    settle(rt, alloc, set, protocol, search, allowance)
+}
+
+/// Settles a task set: least bounds with a certificate, or a refusal, whichever it is.
+///
+/// The analysis is made first, so that its answer stays where it has one. A set that it doesn't show is refuted. Where either is wide, a
+/// search over numbers of any size proposes points and duals, and bounds rise from the costs by points that are tested. Where no bound
+/// rises any more, they are the least that fit, and the duals make a certificate, which is judged. Where a value passes its task's latest
+/// bound, steps with points of 63 bits make a refusal, which is confirmed.
+///
+/// `allowance` is the number of units for the analysis, as many for the refutation, and as many for each walk of a search: a task takes
+/// one in each round, and one more for each exchange. `SettleStop::Wide` names a task whose program isn't settled, and comes only where
+/// the analysis, or the refutation of a set that isn't shown, is wide. `SettleStop::Allowance` comes where one of them, or a search,
+/// wants more units; `SettleStop::Memory` comes for want of memory alone.
+pub fn settle_with<R: Threads + Sync, P: ChargedProtocol + Sync>(
+    rt: &R,
+    alloc: Global,
+    set: &TaskSet,
+    protocol: &P,
+    allowance: u64,
+) -> Result<Settled, SettleStop>
+    requires suits { P.suits protocol.now set.now }
+    ensures settles { Settles result (source_at (P.source protocol.now) set.now) allowance }
+    ensures keeps { (e : Ending)
+        → EndsIn (rounds_of (source_at (P.source protocol.now) set.now)) allowance e → Keeps result e }
+    ensures right { IfOk result (λ settled. IsRight settled (source_at (P.source protocol.now) set.now)) }
+    ensures exactly { IfOk result (λ settled. IsSchedulable settled
+        ↔ ((s : List ℕ) × AreFitting (source_at (P.source protocol.now) set.now) s)) }
+
+    // The bounds of a certificate hold in every schedule that keeps the protocol's rules, of whatever lawful jobs.
+    ensures sound { IfOk result (λ settled.
+        IsSound (P.keeps protocol.now) (P.interferes protocol.now) (source_at (P.source protocol.now) set.now) settled) }
+{
+    set.keeps_the_model();
+    charged_protocols_are_analysed::<P>();
+    analysed_protocols_are_sound::<P>();
+    settle_by(rt, alloc, set, protocol, &Exchanges, allowance)
+}
