@@ -37,7 +37,7 @@ class Compare(ToolCase):
                 self.assertEqual([(task["task"], task["bound"], task["slack"]) for task in one["tasks"]], figures)
                 self.assertEqual((one["answer"], one["status"], one["relaxed"], one["aside"]), ("schedulable", 0, [], []))
         # 27900 of 50000 are left to panel under each of these; under the others valve keeps 2600, 1100 or 1600 of 5000
-        self.assertEqual(found["most_slack"], ["dpcp", "dflp", "dpcp-w"])
+        self.assertEqual(found["most_slack"], ["dpcp", "dflp", "dpcp-w", "dpcp-c", "dflp-c"])
 
     def test_tasks_behind_the_first_that_is_not_shown(self) -> None:
         # b waits for one job of a: 5 + 3 = 8 ticks, and 7 are left to it
