@@ -118,7 +118,7 @@ class Completions(ToolCase):
         self.assertEqual(self.bash("block", "set", "t"), ["tables"])
         self.assertEqual(self.bash("./block", "analyse", "fmlp+", "t"), ["two.json"])
         self.assertEqual(self.bash("block", "--help", ""), [])
-        self.assertEqual(self.bash("block", "--try", "check", "fm"), ["fmlp+"])
+        self.assertEqual(self.bash("block", "--try", "check", "fm"), ["fmlp+", "fmlp+-c"])
         self.assertEqual(self.bash("block", "--try", "check", "fmlp+", "t"), ["two.json"])
         registered = subprocess.run(["bash", "--norc", "-c", f'source "{self.text}"; complete -p block block_cli'], capture_output=True)
         self.assertEqual(registered.returncode, 0)
