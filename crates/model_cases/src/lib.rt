@@ -2,6 +2,8 @@
 #![tactic(auto)]
 
 #[cfg(test)]
+mod any_size_tests;
+#[cfg(test)]
 mod building_tests;
 #[cfg(test)]
 mod closer_tests;
@@ -21,6 +23,8 @@ mod refusal_tests;
 mod rounds_tests;
 #[cfg(test)]
 mod set_tests;
+#[cfg(test)]
+mod settling_tests;
 #[cfg(test)]
 mod simplex_tests;
 #[cfg(test)]
