@@ -15,6 +15,8 @@ pub data Form : Type 0 where
   Analyse : ProtocolName → List ℕ → ℕ → Form
   -- the protocol, the set, the allowance
   Refute : ProtocolName → List ℕ → ℕ → Form
+  -- the protocol, the set, the allowance
+  Settle : ProtocolName → List ℕ → ℕ → Form
   -- the protocol, the set, the certificate
   Check : ProtocolName → List ℕ → List ℕ → Form
   -- the protocol, the set, the certificate of refusal
@@ -44,6 +46,7 @@ abbrev pub form_of_three : List ℕ → List ℕ → List ℕ → Option Form
 form_of_three command second last =
     if bytes_eq command (codes "analyse") then option_map (λ p. Analyse p last DEFAULT_ALLOWANCE) (name_of second)
     else if bytes_eq command (codes "refute") then option_map (λ p. Refute p last DEFAULT_ALLOWANCE) (name_of second)
+    else if bytes_eq command (codes "settle") then option_map (λ p. Settle p last DEFAULT_ALLOWANCE) (name_of second)
     else if bytes_eq command (codes "report") then option_map (λ p. Report p last) (name_of second)
     else if bytes_eq command (codes "study") then study_form (number_between 0 (2 ^ 64 - 1) second) (number_between 1 MOST_SETS last)
     else None
@@ -61,6 +64,7 @@ abbrev pub form_of_four : List ℕ → List ℕ → List ℕ → List ℕ → Op
 form_of_four command protocol name last =
     if bytes_eq command (codes "analyse") then option_map (λ a. Analyse a.0 name a.1) (allowed protocol last)
     else if bytes_eq command (codes "refute") then option_map (λ a. Refute a.0 name a.1) (allowed protocol last)
+    else if bytes_eq command (codes "settle") then option_map (λ a. Settle a.0 name a.1) (allowed protocol last)
     else if bytes_eq command (codes "check") then option_map (λ p. Check p name last) (name_of protocol)
     else if bytes_eq command (codes "confirm") then option_map (λ p. Confirm p name last) (name_of protocol)
     else if bytes_eq command (codes "upgrade") then option_map (λ p. Upgrade p name last) (name_of protocol)

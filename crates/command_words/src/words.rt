@@ -64,6 +64,8 @@ pub enum TiedWork<'a> {
     Analyse { allowance: u64 },
     /// Show by a certificate of refusal that no bounds of the set fit, within this many units.
     Refute { allowance: u64 },
+    /// Settle the set: find its least bounds, or show that none fit, within this many units.
+    Settle { allowance: u64 },
     /// Judge the certificate.
     Check { certificate: &'a str },
     /// Judge the certificate of refusal.
@@ -113,6 +115,9 @@ fn command_of_three<'a>(command: &str, second: &str, set: &'a str) -> Option<Com
         "refute" => Work::Tied(TiedWork::Refute {
             allowance: DEFAULT_ALLOWANCE,
         }),
+        "settle" => Work::Tied(TiedWork::Settle {
+            allowance: DEFAULT_ALLOWANCE,
+        }),
         "report" => Work::Plain(PlainWork::Report),
         "study" => return study_of(second, set),
         _ => return None,
@@ -148,6 +153,9 @@ fn command_of_four<'a>(
             allowance: allowance_of(last)?,
         },
         "refute" => TiedWork::Refute {
+            allowance: allowance_of(last)?,
+        },
+        "settle" => TiedWork::Settle {
             allowance: allowance_of(last)?,
         },
         "check" => TiedWork::Check { certificate: last },
