@@ -56,7 +56,7 @@ abbrev analysis_lists : (call : Call) (protocol : ProtocolName) (name bytes : Li
     → ReadsSome call protocol name set → IsBest (source_of protocol set) c
     → ListsOnClocks call protocol name (certificate_text (word_of protocol) (sha256 bytes) c)
 analysis_lists call protocol name bytes set c read best =
-    let text = text_is_read protocol bytes c (writable protocol set c read.text.accepted best) in
+    let text = text_is_read protocol bytes c (writable protocol set c read.text.accepted best.valid best.small) in
     lists_on_clocks call protocol name (certificate_text (word_of protocol) (sha256 bytes) c) set c text.0 read best.valid text.1
     (ap (λ (f : FileDef). f.certificate) text.3)
 

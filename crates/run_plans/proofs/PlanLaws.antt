@@ -12,7 +12,7 @@ use Rattle.outside_ports.specs.declared.whole.TheConstants.{GREATEST_INPUT_BYTES
 use Rattle.outside_ports.specs.declared.shelf.ShelfFault.TheVariants.{Absent}
 use Rattle.command_inputs.specs.Known.{Answer, Input, refused, Known, past, readings_after, IsStopped, IsRead, Shown, shown_by, told}
 use Rattle.command_inputs.specs.Known.{FitAll, AreInputs}
-use Rattle.run_plans.specs.Plans.{Work, Plan, Working, Reading, IsWorking}
+use Rattle.run_plans.specs.Plans.{Work, Plan, Working, Reading, IsWorking, HasOneAnswer}
 use Rattle.run_plans.specs.Plans.{IsOutcomeOf, IsReadFaultOf, EndsWell, AsksAll, AsksPart}
 use Rattle.run_plans.specs.Outcome.{IsReplyOf}
 
@@ -263,7 +263,7 @@ ReadsOnce input = (bytes : List ℕ) (r s : Result input.Value input.Refusal) �
 
 -- Has the work one answer, with such a status, which is 0 or 1 under its condition?
 pub record IsLawfulWork (work : Work) : Type 0 where
-  pub one : (a b : Answer) → work.answers a → work.answers b → a ≡ b
+  pub one : work.one → (a b : Answer) → work.answers a → work.answers b → a ≡ b
   pub plain : (a : Answer) → work.answers a → IsPlain a
   pub well : work.ends → (a : Answer) → work.answers a → (a.status ≡ 0) ⊎ (a.status ≡ 1)
 
@@ -345,16 +345,17 @@ stopped_once inputs input name a b once (inr (inr (bytes, refusal, has, last, as
     let both : Err refusal ≡ Err found = same_reading input once bytes other (Err refusal) (Err found) same reads reads' in
     is ∙ ap (λ r. refused input.word (input.reason r)) (same_err refusal found (Err refusal) (Err found) refl refl both) ∙ sym is'
 
--- Named inputs have one outcome.
-pub one_of_plan : (inputs : Inputs) (p : Plan) → IsLawful p → (a b : Answer) → IsOutcomeOf (told inputs) p a
+-- Named inputs have one outcome, where the plan has one answer.
+pub one_of_plan : (inputs : Inputs) (p : Plan) → IsLawful p → HasOneAnswer (told inputs) p → (a b : Answer) → IsOutcomeOf (told inputs) p a
     → IsOutcomeOf (told inputs) p b → a ≡ b
-one_of_plan inputs (Working work) lawful a b out out' = lawful.one a b out.0 out'.0
-one_of_plan inputs (Reading input name next) lawful a b (inl stopped) (inl stopped') =
+one_of_plan inputs (Working work) lawful one a b out out' = lawful.one one a b out.0 out'.0
+one_of_plan inputs (Reading input name next) lawful one a b (inl stopped) (inl stopped') =
     stopped_once inputs input name a b lawful.0 stopped stopped'
-one_of_plan inputs (Reading input name next) lawful a b (inl stopped) (inr (bytes, value, read, last, out)) =
+one_of_plan inputs (Reading input name next) lawful one a b (inl stopped) (inr (bytes, value, read, last, out)) =
     absurd (not_stopped inputs input name bytes value a lawful.0 read stopped)
-one_of_plan inputs (Reading input name next) lawful a b (inr (bytes, value, read, last, out)) other =
-    one_of_plan inputs (next bytes value) (lawful.1 bytes value) a b out (rest_of inputs input name next bytes value b lawful.0 read other)
+one_of_plan inputs (Reading input name next) lawful one a b (inr (bytes, value, read, last, out)) other =
+    one_of_plan inputs (next bytes value) (lawful.1 bytes value) (one bytes value read) a b out
+    (rest_of inputs input name next bytes value b lawful.0 read other)
 
 -- The statuses of answers.
 pub stopped_not_zero : (k : Known) (input : Input) (name : List ℕ) (a : Answer) → IsStopped k input name a → a.status ≡ 0 → ⊥

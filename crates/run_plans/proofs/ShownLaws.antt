@@ -104,7 +104,7 @@ found_valid known protocol name cert a (inr (bytes, set, read, none, inr (text, 
       also = subst (λ (d : List ℕ). IsRead known (cert_input protocol) cert text (record { certificate = file.certificate; digest = d })) own.0 also;
       last = last tt;
       asked = asked;
-      valid = valid_at_zero protocol set file.certificate a own.1 zero;
+      valid = (valid_at_zero protocol set file.certificate checked_answer a own.1 zero).0;
     }
 
 -- A set that was read under a name.

@@ -7,14 +7,14 @@ use Rattle.run_plans.specs.Commands.{IfOfSet}
 use Rattle.run_plans.specs.Run.{IsWideEnding, IsAllowanceEnding}
 use Rattle.run_plans.proofs.PlanLaws.{IsPlain, IsLawfulWork, plain_is, plain_of_status, not_zero, at_most_one}
 
--- A work that ends with status 0 or 1 whatever it works on.
+-- A work that ends with status 0 or 1 whatever it works on, with one answer.
 abbrev pub always : (Answer → Type 0) → Work
-always answers = record { answers = answers; ends = Unit {0} }
+always answers = record { answers = answers; ends = Unit {0}; one = Unit {0} }
 
 pub always_lawful : (answers : Answer → Type 0) → ((a b : Answer) → answers a → answers b → a ≡ b)
     → ((a : Answer) → answers a → (a.status ≡ 0) ⊎ (a.status ≡ 1)) → IsLawfulWork (always answers)
 always_lawful answers one status = record {
-  one = one;
+  one = λ always. one;
   plain = λ a is. plain_of_status a (status a is);
   well = λ ends a is. status a is;
 }
@@ -30,7 +30,7 @@ one_judged : {E : Type 0} (holds : Type 0) (says : Answer → Type 0) (fails : E
     → IsLawfulWork (always says) → ((e : E) → fails e → holds → ⊥) → ((d e : E) → fails d → fails e → d ≡ e) → (a b : Answer)
     → (holds × says a) ⊎ ((e : E) × fails e × (a ≡ failing e))
     → (holds × says b) ⊎ ((e : E) × fails e × (b ≡ failing e)) → a ≡ b
-one_judged holds says fails failing own apart once a b (inl (h, is)) (inl (h', is')) = own.one a b is is'
+one_judged holds says fails failing own apart once a b (inl (h, is)) (inl (h', is')) = own.one tt a b is is'
 one_judged holds says fails failing own apart once a b (inl (h, is)) (inr (e, f, is')) = absurd (apart e f h)
 one_judged holds says fails failing own apart once a b (inr (e, f, is)) (inl (h, is')) = absurd (apart e f h)
 one_judged holds says fails failing own apart once a b (inr (d, f, is)) (inr (e, g, is')) = is ∙ ap failing (once d e f g) ∙ sym is'
@@ -57,7 +57,7 @@ one_tied : (digest named : List ℕ) (says : Answer → Type 0) → IsLawfulWork
 one_tied digest named says own a b (inl (other, is)) (inl (other', is')) = is ∙ sym is'
 one_tied digest named says own a b (inl (other, is)) (inr (same, is')) = absurd (other same)
 one_tied digest named says own a b (inr (same, is)) (inl (other, is')) = absurd (other same)
-one_tied digest named says own a b (inr (same, is)) (inr (same', is')) = own.one a b is is'
+one_tied digest named says own a b (inr (same, is)) (inr (same', is')) = own.one tt a b is is'
 
 tied_status : (digest named : List ℕ) (says : Answer → Type 0) → IsLawfulWork (always says) → (a : Answer) → IfOfSet digest named says a
     → (a.status ≡ 0) ⊎ (a.status ≡ 1)

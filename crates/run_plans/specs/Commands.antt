@@ -27,13 +27,14 @@ use Rattle.study_gen.specs.declared.counting.StudyCounts.{StudyCounts}
 use Rattle.command_inputs.specs.Known.{Answer}
 use Rattle.run_plans.specs.Plans.{Work, Plan, Working, Reading}
 use Rattle.protocol_names.specs.Names.{word_of}
-use Rattle.command_words.specs.Words.{Form, Analyse, Refute, Check, Confirm, Upgrade, Report, FullReport, Conform, Simulate, Study, Audit}
+use Rattle.command_words.specs.Words.{Form, Analyse, Refute, Settle, Check, Confirm, Upgrade, Report, FullReport, Conform, Simulate, Study, Audit}
 use Rattle.reply_texts.specs.Texts.{not_shown_text, wide_text, allowance_text, lawful_text, broken_text, valid_text}
 use Rattle.reply_texts.specs.Texts.{other_set_text, invalid_text, study_text, kept_text}
 use Rattle.named_laws.specs.Audited.{figures_under}
 use Rattle.command_inputs.specs.Inputs.{set_input, cert_input, old_cert_input, refusal_input, jobs_input, rows_input}
 use Rattle.command_inputs.specs.RefusalDef.{RefusalDef}
 use Rattle.run_plans.specs.Refuting.{refutation_of, IsConfirmation}
+use Rattle.run_plans.specs.Settling.{settlement_of}
 
 -- What goes out where the rounds of the set end so, whose bytes have this digest.
 abbrev pub ending_answer : ProtocolName → List ℕ → SetDef → Ending → Answer
@@ -55,6 +56,7 @@ analysis_of protocol digest set allowance = record {
   answers = IsAnalysis protocol digest set allowance;
   ends = ((i : ℕ) → EndsIn (rounds_of (source_of protocol set)) allowance (Wide i) → ⊥)
       × (EndsIn (rounds_of (source_of protocol set)) allowance Allowance → ⊥);
+  one = Unit {0};
 }
 
 -- The answer of a table, which there is of every set.
@@ -62,7 +64,7 @@ abbrev pub IsTable : SetDef → Answer → Type 0
 IsTable set answer = answer ≡ record { status = 0; text = table_text set }
 
 abbrev pub table_of : SetDef → Work
-table_of set = record { answers = IsTable set; ends = Unit {0} }
+table_of set = record { answers = IsTable set; ends = Unit {0}; one = Unit {0} }
 
 -- The answer on a certificate: this one where it is valid, else its first failure.
 abbrev pub invalid_answer : SetDef → Invalid → Answer
@@ -96,13 +98,13 @@ abbrev pub IsCheck : ProtocolName → SetDef → CertificateDef → Answer → T
 IsCheck protocol set c answer = IsJudgement protocol set c checked_answer answer
 
 abbrev pub check_of : ProtocolName → List ℕ → SetDef → FileDef → Work
-check_of protocol digest set file = record { answers = IfTied digest file (IsCheck protocol set); ends = Unit {0} }
+check_of protocol digest set file = record { answers = IfTied digest file (IsCheck protocol set); ends = Unit {0}; one = Unit {0} }
 
 abbrev pub IsFullTable : ProtocolName → SetDef → CertificateDef → Answer → Type 0
 IsFullTable protocol set c answer = IsJudgement protocol set c (reported_answer protocol set c) answer
 
 abbrev pub full_table_of : ProtocolName → List ℕ → SetDef → FileDef → Work
-full_table_of protocol digest set file = record { answers = IfTied digest file (IsFullTable protocol set); ends = Unit {0} }
+full_table_of protocol digest set file = record { answers = IfTied digest file (IsFullTable protocol set); ends = Unit {0}; one = Unit {0} }
 
 -- Reading a certificate for the protocol, and working on it.
 abbrev pub with_certificate : ProtocolName → List ℕ → (FileDef → Work) → Plan
@@ -113,7 +115,7 @@ abbrev pub upgraded_answer : ProtocolName → List ℕ → CertificateDef → An
 upgraded_answer protocol digest c = record { status = 0; text = certificate_text (word_of protocol) digest c }
 
 abbrev pub upgrade_of : ProtocolName → List ℕ → SetDef → CertificateDef → Work
-upgrade_of protocol digest set c = record { answers = IsJudgement protocol set c (upgraded_answer protocol digest c); ends = Unit {0} }
+upgrade_of protocol digest set c = record { answers = IsJudgement protocol set c (upgraded_answer protocol digest c); ends = Unit {0}; one = Unit {0} }
 
 abbrev pub upgrading : ProtocolName → List ℕ → List ℕ → SetDef → Plan
 upgrading protocol cert digest set = Reading (old_cert_input protocol) cert (λ bytes c. Working (upgrade_of protocol digest set c))
@@ -140,6 +142,7 @@ abbrev pub conformance_of : ProtocolName → JobsDef → RowsDef → Work
 conformance_of protocol jobs rows = record {
   answers = IsConformance (rules_of protocol) (interference_of protocol) (trace_in jobs rows.runs) (ticks_of rows.runs);
   ends = Unit {0};
+  one = Unit {0};
 }
 
 -- Reading the rows of a schedule of these jobs, and judging them.
@@ -157,7 +160,7 @@ IsSimulation protocol list n answer = (runs : List RunDef) × IsSimulated (choic
 
 -- Simulating these jobs, which there always is.
 abbrev pub simulation_of : ProtocolName → JobsDef → ℕ → Work
-simulation_of protocol list n = record { answers = IsSimulation protocol list n; ends = Unit {0} }
+simulation_of protocol list n = record { answers = IsSimulation protocol list n; ends = Unit {0}; one = Unit {0} }
 
 -- Reading jobs of this set, and simulating them.
 abbrev pub simulating_jobs : ProtocolName → List ℕ → ℕ → SetDef → Plan
@@ -170,7 +173,7 @@ IsStudyAnswer seed sets answer = (c : StudyCounts) × IsStudy seed sets c
 
 -- Making and counting sets, which always ends.
 abbrev pub study_of : ℕ → ℕ → Work
-study_of seed sets = record { answers = IsStudyAnswer seed sets; ends = Unit {0} }
+study_of seed sets = record { answers = IsStudyAnswer seed sets; ends = Unit {0}; one = Unit {0} }
 
 -- The figures of all tasks over n rows.
 abbrev pub kept_answer : ProtocolName → CertificateDef → Trace → ℕ → Answer
@@ -187,7 +190,7 @@ abbrev pub IsAuditOf : ProtocolName → JobsDef → RowsDef → CertificateDef �
 IsAuditOf protocol jobs rows c answer = IsAudit protocol c (trace_in jobs rows.runs) (ticks_of rows.runs) answer
 
 abbrev pub audit_of : ProtocolName → List ℕ → FileDef → JobsDef → RowsDef → Work
-audit_of protocol digest file jobs rows = record { answers = IfTied digest file (IsAuditOf protocol jobs rows); ends = Unit {0} }
+audit_of protocol digest file jobs rows = record { answers = IfTied digest file (IsAuditOf protocol jobs rows); ends = Unit {0}; one = Unit {0} }
 
 -- Reading the rows of a schedule of these jobs; before them jobs of this set; and before these a certificate.
 abbrev pub auditing_rows : ProtocolName → List ℕ → FileDef → List ℕ → JobsDef → Plan
@@ -207,7 +210,7 @@ abbrev pub IsTiedConfirmation : ProtocolName → List ℕ → SetDef → Refusal
 IsTiedConfirmation protocol digest set file answer = IfOfSet digest file.digest (IsConfirmation protocol set file.steps) answer
 
 abbrev pub confirmation_of : ProtocolName → List ℕ → SetDef → RefusalDef → Work
-confirmation_of protocol digest set file = record { answers = IsTiedConfirmation protocol digest set file; ends = Unit {0} }
+confirmation_of protocol digest set file = record { answers = IsTiedConfirmation protocol digest set file; ends = Unit {0}; one = Unit {0} }
 
 -- Reading a refusal for the protocol, and judging it.
 abbrev pub confirming : ProtocolName → List ℕ → List ℕ → SetDef → Plan
@@ -220,6 +223,8 @@ plan_of (Analyse protocol name allowance) =
     Reading (set_input protocol) name (λ bytes set. Working (analysis_of protocol (sha256 bytes) set allowance))
 plan_of (Refute protocol name allowance) =
     Reading (set_input protocol) name (λ bytes set. Working (refutation_of protocol (sha256 bytes) set allowance))
+plan_of (Settle protocol name allowance) =
+    Reading (set_input protocol) name (λ bytes set. Working (settlement_of protocol (sha256 bytes) set allowance))
 plan_of (Check protocol set cert) =
     Reading (set_input protocol) set (λ bytes tasks. with_certificate protocol cert (check_of protocol (sha256 bytes) tasks))
 plan_of (Confirm protocol set cert) = Reading (set_input protocol) set (λ bytes tasks. confirming protocol cert (sha256 bytes) tasks)

@@ -6,7 +6,7 @@ use Rattle.outside_ports.specs.declared.whole.TheConstants.{GREATEST_INPUT_BYTES
 use Rattle.reply_texts.specs.Texts.{no_form_text}
 use Rattle.command_inputs.specs.Known.{Answer, Known, Shown, told, shown_by}
 use Rattle.command_words.specs.Words.{form_of}
-use Rattle.run_plans.specs.Plans.{Plan, IsOutcomeOf, IsReadFaultOf}
+use Rattle.run_plans.specs.Plans.{Plan, HasOneAnswer, IsOutcomeOf, IsReadFaultOf}
 use Rattle.run_plans.specs.Commands.{plan_of}
 
 -- The words have none of the forms.
@@ -21,6 +21,10 @@ IsOutcomeBy known words answer =
 -- The outcome of words, where these are the named inputs.
 abbrev pub IsOutcome : Inputs → List (List ℕ) → Answer → Type 0
 IsOutcome inputs words answer = IsOutcomeBy (told inputs) words answer
+
+-- Have the words one outcome at most for these inputs? All have, but those of `settle` for a set that the rounds leave open.
+abbrev pub HasOneOutcome : Inputs → List (List ℕ) → Type 0
+HasOneOutcome inputs words = MatchOption (form_of words) (Unit {0}) (λ form. HasOneAnswer (told inputs) (plan_of form))
 
 -- A reply of a plan: that an input could not be read, for which the shelf's count of faults rose; or an outcome.
 abbrev pub IsReplyOf : Shown → Plan → Answer → Type 0

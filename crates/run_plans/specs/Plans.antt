@@ -4,10 +4,11 @@ use Rattle.std.specs.Prelude.{◌≡◌, ℕ, ◌⊎◌, List, [], ◌∷◌, Ok
 use Rattle.outside_ports.specs.Past.{Asked, wholly}
 use Rattle.command_inputs.specs.Known.{Answer, Input, Known, past, read_fault, IsStopped, IsRead}
 
--- The work on what was read: what it answers, and the condition under which that has status 0 or 1.
+-- The work on what was read: what it answers, and the conditions under which that has status 0 or 1, and is the only answer.
 pub record Work : Type 1 where
   pub answers : Answer → Type 0
   pub ends : Type 0
+  pub one : Type 0
 
 -- What a command does: it reads named inputs, one after another, each given the bytes and values of those before it;
 -- then it works.
@@ -57,3 +58,9 @@ abbrev pub EndsWell : Known → Plan → Type 0
 EndsWell known (Working work) = work.ends
 EndsWell known (Reading input name next) =
     (bytes : List ℕ) × (value : input.Value) × (IsRead known input name bytes value) × (EndsWell known (next bytes value))
+
+-- Is there one answer at most, whatever the inputs are read as?
+abbrev pub HasOneAnswer : Known → Plan → Type 0
+HasOneAnswer known (Working work) = work.one
+HasOneAnswer known (Reading input name next) =
+    (bytes : List ℕ) (value : input.Value) → IsRead known input name bytes value → HasOneAnswer known (next bytes value)

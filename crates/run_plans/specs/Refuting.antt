@@ -36,6 +36,7 @@ refutation_of protocol digest set allowance = record {
   answers = IsRefutation protocol digest set allowance;
   ends = ((i : ℕ) → EndsIn (refuting (source_of protocol set)) allowance (Wide i) → ⊥)
       × (EndsIn (refuting (source_of protocol set)) allowance Allowance → ⊥);
+  one = Unit {0};
 }
 
 -- The answer on a refusal: that it holds, or its first fault.

@@ -16,11 +16,14 @@ use Rattle.refusal_cert.specs.Refuting.{refuting}
 use Rattle.named_laws.specs.Named.{source_of}
 use Rattle.command_inputs.specs.Known.{Answer, Known, refused, IsRead, Shown, shown, shown_by, told}
 use Rattle.run_plans.specs.Plans.{IsWorking, EndsWell, AsksAll, AsksPart}
-use Rattle.command_words.specs.Words.{Form, Analyse, Refute, form_of}
-use Rattle.command_words.specs.Spelled.{analyse_words, refute_words, check_words, confirm_words, audit_words}
+use Rattle.command_words.specs.Words.{Form, Analyse, Refute, Settle, form_of}
+use Rattle.command_words.specs.Spelled.{analyse_words, refute_words, check_words, confirm_words, upgrade_words, audit_words}
 use Rattle.command_inputs.specs.Inputs.{set_input}
 use Rattle.run_plans.specs.Commands.{plan_of}
-use Rattle.run_plans.specs.Outcome.{refused_words, IsOutcome, IsReply}
+use Rattle.run_plans.specs.Outcome.{refused_words, IsOutcome, HasOneOutcome, IsReply}
+use Rattle.run_plans.specs.Settling.{SettlingEnds}
+use Rattle.run_plans.specs.Settled.{IsSettling}
+use Rattle.run_plans.specs.Upgraded.{IsProvedUpgrade}
 use Rattle.run_plans.specs.Headline.{Call, Asks, HasInputs, RanOut, Analyses, IsHeadline, Checks, IsSoundCheck, IsProvedAnalysis, IsProvedCheck}
 use Rattle.run_plans.specs.Bounding.{IsBounding}
 use Rattle.run_plans.specs.OnClocks.{IsOnClocks}
@@ -86,8 +89,8 @@ abbrev pub IsComplete : Call → Type 0
 IsComplete call = (inputs : Inputs) (form : Form) → IsCompletePremise call inputs form
     → (((call.status ≡ 0) ⊎ (call.status ≡ 1)) × GivesOutcome call inputs) ⊎ RanOut call
 
--- The words are those of `analyse`, or of `refute`, and the named input may be a set whose rounds end so: those of an analysis, or
--- those that refuse.
+-- The words are those of `analyse`, of `refute` or of `settle`, and the named input may be a set whose rounds end so: those of an
+-- analysis, or those of refusals.
 pub record RoundsEnd (known : Known) (form : Form) (IsEnding : Ending → Type 0) : Type 0 where
   pub protocol : ProtocolName
   pub name : List ℕ
@@ -97,7 +100,8 @@ pub record RoundsEnd (known : Known) (form : Form) (IsEnding : Ending → Type 0
   pub read : IsRead known (set_input protocol) name bytes set
   pub ending : Ending
   pub ends : ((form ≡ Analyse protocol name allowance) × EndsIn (rounds_of (source_of protocol set)) allowance ending)
-      ⊎ ((form ≡ Refute protocol name allowance) × EndsIn (refuting (source_of protocol set)) allowance ending)
+      ⊎ (((form ≡ Refute protocol name allowance) × EndsIn (refuting (source_of protocol set)) allowance ending)
+      ⊎ ((form ≡ Settle protocol name allowance) × SettlingEnds (source_of protocol set) allowance ending))
   pub is : IsEnding ending
 
 abbrev pub IsWideEnding : Ending → Type 0
@@ -105,6 +109,11 @@ IsWideEnding e = (i : ℕ) × (e ≡ Wide i)
 
 abbrev pub IsAllowanceEnding : Ending → Type 0
 IsAllowanceEnding e = e ≡ Allowance
+
+-- Did units run out: in the rounds, or in the search of `settle`, which is made where these are wide?
+abbrev pub IsShortEnding : Form → Ending → Type 0
+IsShortEnding form e = (IsAllowanceEnding e)
+    ⊎ (((protocol : ProtocolName) × (name : List ℕ) × (allowance : ℕ) × (form ≡ Settle protocol name allowance)) × IsWideEnding e)
 
 -- What is true of every call.
 pub record IsRun (call : Call) : Type 0 where
@@ -118,15 +127,17 @@ pub record IsRun (call : Call) : Type 0 where
   pub want : call.status ≡ 7 → RanOut call
   -- No input is read but those that the words name; or memory ran out.
   pub asked : AsksInOrder call ⊎ RanOut call
-  -- Each outcome comes exactly where it is the outcome for the call's inputs, except where a fault comes or memory ran out.
-  pub exactly : (inputs : Inputs) (answer : Answer) → HasInputs call inputs → IsOutcome inputs call.words answer
-      → Gives call answer ⊎ ((call.status ≡ 4) ⊎ RanOut call)
-  -- Status 5 comes only for words of `analyse` or of `refute`, where the rounds end in a run that is too wide, and so of `analyse`
-  -- not for a set that requests nothing; status 6 only where they end with the allowance.
+  -- Each outcome comes exactly where it is the outcome for the call's inputs, except where a fault comes or memory ran out. Where
+  -- `settle` may have several, one of them comes (`answers`).
+  pub exactly : (inputs : Inputs) (answer : Answer) → HasInputs call inputs → HasOneOutcome inputs call.words
+      → IsOutcome inputs call.words answer → Gives call answer ⊎ ((call.status ≡ 4) ⊎ RanOut call)
+  -- Status 5 comes only for words of `analyse`, `refute` or `settle`, where the rounds end wide: in a run that is too wide, or, in the
+  -- rounds of refusals, at a point that can't be written in 63 bits. So `analyse` isn't wide for a set that requests nothing. Status 6
+  -- comes only where the rounds end with the allowance, or the search of `settle` does.
   pub wide : call.status ≡ 5 → (form : Form) × (form_of call.words ≡ Some form) × RoundsEnd (shown_by (shelf_of call)) form IsWideEnding
   pub never_wide : (protocol : ProtocolName) (set : SetDef) → Analyses call protocol set → RequestsNothing set → call.status ≢ 5
   pub allowance : call.status ≡ 6 → (form : Form) × (form_of call.words ≡ Some form)
-      × RoundsEnd (shown_by (shelf_of call)) form IsAllowanceEnding
+      × RoundsEnd (shown_by (shelf_of call)) form (IsShortEnding form)
   pub complete : IsComplete call
   pub headline : (protocol : ProtocolName) (set : SetDef) → (a : Analyses call protocol set) → IsHeadline call protocol (sha256 a.read.bytes) set
   -- And what `check` accepts is sound.
@@ -148,3 +159,8 @@ pub record IsRun (call : Call) : Type 0 where
       → call.status ≡ 0 → IsProvedRefutation call protocol name
   pub confirmed : (protocol : ProtocolName) (name cert : List ℕ) → call.words ≡ confirm_words protocol name cert
       → call.status ≡ 0 → IsProvedConfirmation call protocol name cert
+  -- What `settle` writes with status 0 is a valid certificate of the least bounds, and with status 1 a refusal that holds.
+  pub settled : IsSettling call
+  -- And what `upgrade` writes with status 0 is a valid certificate, with the digest of the set's bytes.
+  pub upgraded : (protocol : ProtocolName) (name cert : List ℕ) → call.words ≡ upgrade_words protocol name cert
+      → call.status ≡ 0 → IsProvedUpgrade call protocol name cert

@@ -1,15 +1,19 @@
 //! Laws of calls. Each function does nothing, and what it ensures holds for all calls of which what a run promises is so.
 
-ghost use Rattle.std.specs.Prelude.{◌≡◌, ◌≢◌};
+ghost use Rattle.std.specs.Prelude.{◌≡◌, ◌≢◌, ℕ, List};
+ghost use Rattle.outside_ports.specs.Names.{Inputs};
 ghost use Rattle.sporadic_model.specs.SetDef.{SetDef};
 ghost use Rattle.sporadic_model.specs.declared.ids.Protocol.TheVariants as protocol;
 ghost use Rattle.protocol_names.specs.declared.ProtocolName.{ProtocolName};
 ghost use Rattle.protocol_names.specs.declared.ProtocolName.TheVariants as name;
 ghost use Rattle.named_laws.specs.Named.{IsCloserThan};
+ghost use Rattle.command_words.specs.Spelled.{settle_words};
+ghost use Rattle.run_plans.specs.Outcome.{HasOneOutcome};
 ghost use Rattle.run_plans.specs.Headline.{Call};
 ghost use Rattle.run_plans.specs.Run.{IsRun};
-ghost use Rattle.run_plans.specs.Checked.{ChecksWhatWasWritten, ChecksForAnotherSet, FindsValid, FindsOtherSet};
-ghost use Rattle.run_plans.specs.Confirmed.{ConfirmsWhatWasWritten, FindsConfirmed, ChecksAndConfirms};
+ghost use Rattle.run_plans.specs.Checked.{ChecksWhatWasWritten, ChecksWhatWasSettled, ChecksWhatWasUpgraded};
+ghost use Rattle.run_plans.specs.Checked.{ChecksForAnotherSet, FindsValid, FindsOtherSet};
+ghost use Rattle.run_plans.specs.Confirmed.{ConfirmsWhatWasWritten, ConfirmsWhatWasSettled, FindsConfirmed, ChecksAndConfirms};
 ghost use Rattle.run_plans.specs.Twice.{AreSteady, IsCompleteCall};
 ghost use Rattle.run_plans.specs.Compared.{AnalyseOneSet, RaisesNoBound};
 
@@ -29,6 +33,30 @@ pub fn checked_for_another_set()
 /// the set, answers `confirmed`; or a count of faults rises, or memory runs out.
 pub fn refuted_then_confirmed()
     ensures { (first second : Call) → IsRun first → IsRun second → ConfirmsWhatWasWritten first second → FindsConfirmed second }
+{}
+
+/// Of two calls: where the first settles a set and writes a certificate, with status 0, the second, which checks the written bytes for
+/// the same bytes of the set, answers `valid`; or a count of faults rises, or memory runs out.
+pub fn settled_then_checked()
+    ensures { (first second : Call) → IsRun first → IsRun second → ChecksWhatWasSettled first second → FindsValid second }
+{}
+
+/// The same where it writes a refusal, with status 1, and the second confirms it: the answer is `confirmed`.
+pub fn settled_then_confirmed()
+    ensures { (first second : Call) → IsRun first → IsRun second → ConfirmsWhatWasSettled first second → FindsConfirmed second }
+{}
+
+/// Of two calls: where the first upgrades a certificate of a set, with status 0, the second, which checks the written bytes for the same
+/// bytes of the set, answers `valid`; or a count of faults rises, or memory runs out.
+pub fn upgraded_then_checked()
+    ensures { (first second : Call) → IsRun first → IsRun second → ChecksWhatWasUpgraded first second → FindsValid second }
+{}
+
+/// All words but those of `settle` have one outcome at most, whatever the inputs are.
+pub fn other_words_have_one_outcome()
+    ensures { (inputs : Inputs) (words : List (List ℕ))
+        → ((protocol : ProtocolName) (set : List ℕ) (more : List (List ℕ)) → words ≡ settle_words protocol set more → ⊥)
+        → HasOneOutcome inputs words }
 {}
 
 /// No two calls exist of which one finds a certificate valid and the other a refusal confirmed, for the same protocol and the same bytes
