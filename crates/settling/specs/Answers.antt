@@ -1,5 +1,5 @@
 -- What the answers of settling mean.
-use Rattle.std.specs.Prelude.{◌≡◌, ◌⊎◌, ℕ, ◌<◌, Bool, List, length, map, Result, Ok, Err, IfOk}
+use Rattle.std.specs.Prelude.{◌≡◌, ◌⊎◌, ℕ, ◌<◌, ◌≤◌, ◌^◌, Bool, List, All, length, map, Result, Ok, Err, IfOk}
 use Rattle.program_form.specs.Certificate.{DualDef, dual_seen, certificate_seen}
 use Rattle.sporadic_model.specs.SetDef.{SetDef}
 use Rattle.sporadic_model.specs.declared.ids.TaskId.{TaskId}
@@ -27,6 +27,32 @@ use Rattle.settling.specs.declared.answer.SettleStop.TheVariants as stop
 -- Are all numbers of each step's point below 2^63?
 abbrev pub HasSmallPoints : List StepDef → Type 0
 HasSmallPoints steps = (k : ℕ) → k < length steps → IsSmallDual (step_at steps k).point
+
+-- Can a text of refusals hold the step? Its task and value have 64 bits. Its point has a denominator of at least 1, and no number above
+-- 2^63 - 1.
+pub record IsSmallStep (step : StepDef) : Type 0 where
+  pub task : step.task < 2 ^ 64
+  pub value : step.value < 2 ^ 64
+  pub positive : 1 ≤ step.point.den
+  pub point : IsSmallDual step.point
+
+abbrev pub HasSmallSteps : List StepDef → Type 0
+HasSmallSteps steps = All IsSmallStep steps
+
+-- Has a refusal that is answered only such steps?
+abbrev pub RefusesBySmallSteps : Settled → Type 0
+RefusesBySmallSteps (settled.Schedulable certificate) = Unit {0}
+RefusesBySmallSteps (settled.Refused refusal) = HasSmallSteps (steps_seen refusal)
+
+-- Does a wide stop name a task of the set?
+abbrev pub StopsWithin : SetDef → SettleStop → Type 0
+StopsWithin set (stop.Wide task) = task.0 < length set.tasks
+StopsWithin set stop.Allowance = Unit {0}
+StopsWithin set stop.Memory = Unit {0}
+
+abbrev pub NamesTask : SetDef → Result Settled SettleStop → Type 0
+NamesTask set (Ok settled) = Unit {0}
+NamesTask set (Err stop) = StopsWithin set stop
 
 -- Is the answer right: are the bounds the least that fit, with a valid certificate, or does the refusal hold, so that nothing fits?
 abbrev pub IsRight : Settled → SourceDef → Type 0

@@ -4,7 +4,7 @@ ghost use Rattle.program_sources.specs.Fitting.{AreFitting};
 ghost use Rattle.response_fixpoint.specs.Rounds.{Ending, EndsIn};
 ghost use Rattle.response_fixpoint.specs.Runs.{rounds_of};
 ghost use Rattle.settling.specs.Answers.{AnswersSo, GivesRefusal, GivesWide};
-ghost use Rattle.settling.specs.Answers.{Settles, IsRight, IsSchedulable, IsSound, Keeps};
+ghost use Rattle.settling.specs.Answers.{Settles, IsRight, IsSchedulable, IsSound, Keeps, NamesTask, RefusesBySmallSteps};
 
 use crate::answer::{SettleStop, Settled};
 use crate::finding::Points;
@@ -112,6 +112,10 @@ pub fn settle_by<R: Threads + Sync, P: ProgramSource + Sync, S: Search>(
     ensures right { IfOk result (λ settled. IsRight settled (source_at (P.source protocol.now) set.now)) }
     ensures exactly { IfOk result (λ settled. IsSchedulable settled
         ↔ ((s : List ℕ) × AreFitting (source_at (P.source protocol.now) set.now) s)) }
+
+    // What is answered can be written: a wide stop names a task of the set, and the numbers of a refusal's steps are small.
+    ensures names { NamesTask set.now result }
+    ensures small_steps { IfOk result (λ settled. RefusesBySmallSteps settled) }
 {
     the_rounds_have_one_ending();
     settle(rt, alloc, set, protocol, search, allowance)
@@ -142,6 +146,8 @@ pub fn settle_with<R: Threads + Sync, P: ChargedProtocol + Sync>(
     ensures right { IfOk result (λ settled. IsRight settled (source_at (P.source protocol.now) set.now)) }
     ensures exactly { IfOk result (λ settled. IsSchedulable settled
         ↔ ((s : List ℕ) × AreFitting (source_at (P.source protocol.now) set.now) s)) }
+    ensures names { NamesTask set.now result }
+    ensures small_steps { IfOk result (λ settled. RefusesBySmallSteps settled) }
 
     // The bounds of a certificate hold in every schedule that keeps the protocol's rules, of whatever lawful jobs.
     ensures sound { IfOk result (λ settled.
