@@ -28,6 +28,7 @@ begins_tied : (P : Plan → Type 0) (protocol : ProtocolName) (name : List ℕ) 
     → ((next : List ℕ → SetDef → Plan) → P (Reading (set_input protocol) name next)) → P (plan_of (tied_form protocol name w))
 begins_tied P protocol name (tied.Analyse allowance) holds = holds _
 begins_tied P protocol name (tied.Refute allowance) holds = holds _
+begins_tied P protocol name (tied.Settle allowance) holds = holds _
 begins_tied P protocol name (tied.Check certificate) holds = holds _
 begins_tied P protocol name (tied.Confirm refusal) holds = holds _
 begins_tied P protocol name (tied.Upgrade certificate) holds = holds _

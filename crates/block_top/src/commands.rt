@@ -15,6 +15,7 @@ ghost use Rattle.command_inputs.specs.Halts.{reply_seen};
 ghost use Rattle.run_plans.specs.Replies.{AnswersPlan};
 
 use crate::auditing::audit;
+use crate::deciding::settlement;
 use crate::judging::{judgement, proved_table};
 use crate::refusing::{confirmation, refutation};
 use crate::study::study_counts;
@@ -264,6 +265,7 @@ fn tied_reply<R: Threads + Sync, S: Shelf>(
     match work {
         TiedWork::Analyse { allowance } => analysis(rt, alloc, &digest, &set, protocol, allowance),
         TiedWork::Refute { allowance } => refutation(alloc, &digest, &set, protocol, allowance),
+        TiedWork::Settle { allowance } => settlement(rt, alloc, &digest, &set, protocol, allowance),
         TiedWork::Check { certificate } => {
             judgement_reply(alloc, shelf, protocol, &digest, &set, certificate)
         }

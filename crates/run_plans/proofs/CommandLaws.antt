@@ -199,5 +199,5 @@ pub only_short : (k : Known) (form : Form) (a : Answer) → IsOutcomeOf k (plan_
 only_short k form a out six =
     rounds_end k form a 6 (IsShortEnding form) (λ e tells. inl (told_short e a tells six))
     (λ p name m digest set is settles. (
-      let end = short_settlement p digest set m a settles six in
-      (end.0, end.1, elim end.2 [ inl short ↦ inl short | inr wide ↦ inr ((p, name, m, is), wide) ]))) out six (omega arith)
+    let end = short_settlement p digest set m a settles six in
+    (end.0, end.1, elim end.2 [ inl short ↦ inl short | inr wide ↦ inr ((p, name, m, is), wide) ]))) out six (omega arith)

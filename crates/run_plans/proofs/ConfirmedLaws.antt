@@ -1,10 +1,9 @@
 -- What `refute` and `settle` write is found confirmed, and no set is both accepted and refused.
-use Rattle.std.proofs.Common.{◌≡◌, ℕ, ◌≤◌, List, [], ◌∷◌, length, refl, sym, ◌∙◌, subst, inl, inr, Some, Ok}
+use Rattle.std.proofs.Common.{◌≡◌, ℕ, List, [], ◌∷◌, refl, sym, ◌∙◌, subst, arith, inl, inr, Some, Ok}
 use Rattle.std.specs.Prelude.{Option}
 use Rattle.std.proofs.lemmas.Option.{same_Some}
 use Rattle.outside_ports.specs.Names.{Inputs, bytes_of, IsNamed}
 use Rattle.outside_ports.specs.Past.{Asked, wholly}
-use Rattle.outside_ports.specs.declared.whole.TheConstants.{GREATEST_INPUT_BYTES}
 use Rattle.sha2.specs.Sha256.{sha256}
 use Rattle.program_sources.specs.Valid.{IsValid}
 use Rattle.refusal_laws.specs.Steps.{StepDef, Holds}

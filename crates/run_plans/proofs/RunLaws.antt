@@ -21,7 +21,7 @@ use Rattle.program_sources.specs.Fitting.{AreFitting}
 use Rattle.command_inputs.specs.Known.{Answer, refused, Shown, shown_by, told, AreInputs}
 use Rattle.run_plans.specs.Plans.{Working, IsWorking, HasOneAnswer, IsOutcomeOf, AsksAll, AsksPart}
 use Rattle.command_words.specs.Words.{Form, Analyse, Refute, Settle, Check, Confirm, Upgrade, Audit, form_of}
-use Rattle.command_words.specs.Spelled.{analyse_words, refute_words, settle_words, check_words, confirm_words, upgrade_words}
+use Rattle.command_words.specs.Spelled.{analyse_words, refute_words, settle_words, check_words, confirm_words}
 use Rattle.command_words.proofs.SpelledLaws.{analyse_has_form, analyse_is_form, refute_has_form, check_is_form, confirm_is_form}
 use Rattle.command_words.proofs.SpelledLaws.{settle_has_form, upgrade_is_form, audit_is_form}
 use Rattle.command_inputs.specs.Inputs.{set_input}
@@ -41,8 +41,7 @@ use Rattle.run_plans.proofs.OnClocks.{analysis_on_clocks, check_on_clocks, not_o
 use Rattle.run_plans.proofs.KeptLaws.{proved_audit}
 use Rattle.run_plans.proofs.RefusedLaws.{proved_refutation, proved_confirmation}
 use Rattle.run_plans.specs.Refused.{IsProvedRefutation, IsProvedConfirmation}
-use Rattle.run_plans.specs.Settled.{Settles, SettlesExactly, IsSettling, IsProvedSettlement}
-use Rattle.run_plans.specs.Upgraded.{IsProvedUpgrade}
+use Rattle.run_plans.specs.Settled.{SettlesExactly, IsSettling, IsProvedSettlement}
 use Rattle.run_plans.proofs.SettledLaws.{proved_settlement, proved_settled_refusal, outcome_exactly}
 use Rattle.run_plans.proofs.UpgradedLaws.{proved_upgrade}
 use Rattle.run_plans.proofs.SetTextLaws.{told_reads}
@@ -338,7 +337,7 @@ gave_run call replies r gives =
           → call.status ≡ 1 → IsProvedRefutation call protocol name
       refused protocol name more words one =
           let form = settle_has_form call.words protocol name more words
-              (λ none. (let two : call.status ≡ 2 = gives.0 ∙ ap (λ x. x.status) (r.none none) in absurd (omega (arith, two, one)))) in
+          (λ none. (let two : call.status ≡ 2 = gives.0 ∙ ap (λ x. x.status) (r.none none) in absurd (omega (arith, two, one)))) in
           proved_settled_refusal call protocol name form.0 replies.reply
           (r.shows (Settle protocol name form.0) form.1 (inr (sym gives.0 ∙ one))) gives one
 

@@ -27,14 +27,14 @@ use Rattle.run_plans.proofs.RefusalLaws.{answered_once}
 plain_settlement : (p : ProtocolName) (digest : List ℕ) (set : SetDef) (n : ℕ) (a : Answer) → IsSettlement p digest set n a → IsPlain a
 plain_settlement p digest set n a (inl (c, settled, is)) = plain_of_status a (inl (ap (λ x. x.status) is))
 plain_settlement p digest set n a (inr (inl (steps, refused, is))) = plain_of_status a (inr (ap (λ x. x.status) is))
-plain_settlement p digest set n a (inr (inr (inl (i, here, open, is)))) = plain_is a 5 (ap (λ x. x.status) is) refl
+plain_settlement p digest set n a (inr (inr (inl (i, here, left, is)))) = plain_is a 5 (ap (λ x. x.status) is) refl
 plain_settlement p digest set n a (inr (inr (inr (short, is)))) = plain_is a 6 (ap (λ x. x.status) is) refl
 
 well_settlement : (p : ProtocolName) (digest : List ℕ) (set : SetDef) (n : ℕ) (a : Answer) → (MayWantMore (source_of p set) n → ⊥)
     → IsSettlement p digest set n a → (a.status ≡ 0) ⊎ (a.status ≡ 1)
 well_settlement p digest set n a enough (inl (c, settled, is)) = inl (ap (λ x. x.status) is)
 well_settlement p digest set n a enough (inr (inl (steps, refused, is))) = inr (ap (λ x. x.status) is)
-well_settlement p digest set n a enough (inr (inr (inl (i, here, open, is)))) = absurd (enough (inr (inl open)))
+well_settlement p digest set n a enough (inr (inr (inl (i, here, left, is)))) = absurd (enough (inr (inl left)))
 well_settlement p digest set n a enough (inr (inr (inr (short, is)))) = absurd (enough short)
 
 -- How the rounds ended that leave the set open: wide.
@@ -44,7 +44,7 @@ open_ends f n (inr (late, (i, ends))) = (Wide i, inr (late, ends), (i, refl))
 
 short_ends : (f : SourceDef) (n : ℕ) → MayWantMore f n → (e : Ending) × (SettlingEnds f n e) × ((IsAllowanceEnding e) ⊎ IsWideEnding e)
 short_ends f n (inl ends) = (Allowance, inl ends, inl refl)
-short_ends f n (inr (inl open)) = let w = open_ends f n open in (w.0, w.1, inr w.2)
+short_ends f n (inr (inl left)) = let w = open_ends f n left in (w.0, w.1, inr w.2)
 short_ends f n (inr (inr (late, ends))) = (Allowance, inr (late, ends), inl refl)
 
 pub wide_settlement : (p : ProtocolName) (digest : List ℕ) (set : SetDef) (n : ℕ) (a : Answer) → IsSettlement p digest set n a
@@ -52,7 +52,7 @@ pub wide_settlement : (p : ProtocolName) (digest : List ℕ) (set : SetDef) (n :
 wide_settlement p digest set n a (inl (c, settled, is)) five = (let s : a.status ≡ 0 = ap (λ x. x.status) is in absurd (omega (arith, s, five)))
 wide_settlement p digest set n a (inr (inl (steps, refused, is))) five =
     (let s : a.status ≡ 1 = ap (λ x. x.status) is in absurd (omega (arith, s, five)))
-wide_settlement p digest set n a (inr (inr (inl (i, here, open, is)))) five = open_ends (source_of p set) n open
+wide_settlement p digest set n a (inr (inr (inl (i, here, left, is)))) five = open_ends (source_of p set) n left
 wide_settlement p digest set n a (inr (inr (inr (short, is)))) five =
     (let s : a.status ≡ 6 = ap (λ x. x.status) is in absurd (omega (arith, s, five)))
 
@@ -61,7 +61,7 @@ pub short_settlement : (p : ProtocolName) (digest : List ℕ) (set : SetDef) (n 
 short_settlement p digest set n a (inl (c, settled, is)) six = (let s : a.status ≡ 0 = ap (λ x. x.status) is in absurd (omega (arith, s, six)))
 short_settlement p digest set n a (inr (inl (steps, refused, is))) six =
     (let s : a.status ≡ 1 = ap (λ x. x.status) is in absurd (omega (arith, s, six)))
-short_settlement p digest set n a (inr (inr (inl (i, here, open, is)))) six =
+short_settlement p digest set n a (inr (inr (inl (i, here, left, is)))) six =
     (let s : a.status ≡ 5 = ap (λ x. x.status) is in absurd (omega (arith, s, six)))
 short_settlement p digest set n a (inr (inr (inr (short, is)))) six = short_ends (source_of p set) n short
 
@@ -102,15 +102,15 @@ close_refused : (p : ProtocolName) (digest : List ℕ) (set : SetDef) (n : ℕ) 
     → IsClosed p digest set n a
 close_refused p digest set n steps a closed is (inl (late, (i, v, ends, same))) =
     inr (late, (NotShown i v, ends, is ∙ ap (refused_answer p digest) same))
-close_refused p digest set n steps a closed is (inr open) = absurd (closed open)
+close_refused p digest set n steps a closed is (inr left) = absurd (closed left)
 
 close : (p : ProtocolName) (digest : List ℕ) (set : SetDef) (n : ℕ) (a : Answer) → (IsLeftOpen (source_of p set) n → ⊥)
     → IsSettlement p digest set n a → IsClosed p digest set n a
 close p digest set n a closed (inl (c, settled, is)) = close_certified p digest set n c a closed is settled.from
 close p digest set n a closed (inr (inl (steps, refused, is))) = close_refused p digest set n steps a closed is refused.from
-close p digest set n a closed (inr (inr (inl (i, here, open, is)))) = absurd (closed open)
+close p digest set n a closed (inr (inr (inl (i, here, left, is)))) = absurd (closed left)
 close p digest set n a closed (inr (inr (inr (inl ends, is)))) = inl (Allowance, ends, tt, is)
-close p digest set n a closed (inr (inr (inr (inr (inl open), is)))) = absurd (closed open)
+close p digest set n a closed (inr (inr (inr (inr (inl left), is)))) = absurd (closed left)
 close p digest set n a closed (inr (inr (inr (inr (inr (late, ends)), is)))) = inr (late, (Allowance, ends, is))
 
 one_closed : (p : ProtocolName) (digest : List ℕ) (set : SetDef) (n : ℕ) (a b : Answer) → IsClosed p digest set n a

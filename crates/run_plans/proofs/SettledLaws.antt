@@ -1,5 +1,5 @@
 -- What the statuses 0 and 1 of `settle` say, whatever is known of the inputs.
-use Rattle.std.proofs.Common.{◌≡◌, ◌≢◌, ℕ, ◌↔◌, List, [], ◌∷◌, refl, sym, ◌∙◌, ap, subst, arith, inl, inr, ◌⊎◌}
+use Rattle.std.proofs.Common.{◌≡◌, ◌≢◌, ℕ, ◌≤◌, ◌↔◌, List, [], ◌∷◌, ◌∙◌, ap, subst, arith, inl, inr}
 use Rattle.std.specs.Io.KnownBytes.{Appends}
 use Rattle.outside_ports.specs.Past.{wholly}
 use Rattle.sha2.specs.Sha256.{sha256}
@@ -47,7 +47,7 @@ settled_at_zero p digest set n a (inl (c, settled, is)) zero =
     record { certificate = c; proved = settled.proved; text = ap (λ x. x.text) is }
 settled_at_zero p digest set n a (inr (inl (steps, refused, is))) zero =
     (let s : a.status ≡ 1 = ap (λ x. x.status) is in absurd (omega (arith, s, zero)))
-settled_at_zero p digest set n a (inr (inr (inl (i, here, open, is)))) zero =
+settled_at_zero p digest set n a (inr (inr (inl (i, here, left, is)))) zero =
     (let s : a.status ≡ 5 = ap (λ x. x.status) is in absurd (omega (arith, s, zero)))
 settled_at_zero p digest set n a (inr (inr (inr (short, is)))) zero =
     (let s : a.status ≡ 6 = ap (λ x. x.status) is in absurd (omega (arith, s, zero)))
@@ -64,7 +64,7 @@ refused_at_one p digest set n a (inl (c, settled, is)) one =
     (let s : a.status ≡ 0 = ap (λ x. x.status) is in absurd (omega (arith, s, one)))
 refused_at_one p digest set n a (inr (inl (steps, refused, is))) one =
     record { steps = steps; so = refused; text = ap (λ x. x.text) is }
-refused_at_one p digest set n a (inr (inr (inl (i, here, open, is)))) one =
+refused_at_one p digest set n a (inr (inr (inl (i, here, left, is)))) one =
     (let s : a.status ≡ 5 = ap (λ x. x.status) is in absurd (omega (arith, s, one)))
 refused_at_one p digest set n a (inr (inr (inr (short, is)))) one =
     (let s : a.status ≡ 6 = ap (λ x. x.status) is in absurd (omega (arith, s, one)))
@@ -193,7 +193,7 @@ settled_exactly call p digest set n a accepted (inr (inl (steps, refused, is))) 
   λ w. (w.certificate.bounds, w.least.fitting),
   λ fits. absurd (named_none_fits p set steps fits.0 refused.holds fits.1),
 )
-settled_exactly call p digest set n a accepted (inr (inr (inl (i, here, open, is)))) gives no_wide no_allowance =
+settled_exactly call p digest set n a accepted (inr (inr (inl (i, here, left, is)))) gives no_wide no_allowance =
     absurd (no_wide (gives.0 ∙ ap (λ x. x.status) is))
 settled_exactly call p digest set n a accepted (inr (inr (inr (short, is)))) gives no_wide no_allowance =
     absurd (no_allowance (gives.0 ∙ ap (λ x. x.status) is))

@@ -20,7 +20,7 @@ use Rattle.sha2.specs.Sha256.{sha256}
 use Rattle.command_inputs.specs.Known.{Answer, Known, past, IsRead}
 use Rattle.run_plans.specs.Plans.{IsOutcomeOf}
 use Rattle.command_inputs.specs.Inputs.{set_input, cert_input}
-use Rattle.run_plans.specs.Commands.{ending_answer, IsCheck, plan_of}
+use Rattle.run_plans.specs.Commands.{ending_answer, checked_answer, IsCheck, plan_of}
 use Rattle.command_inputs.specs.Known.{shown_by}
 use Rattle.run_plans.specs.Headline.{Call, Asks, WritesSchedulable, ReadsSome, ReadsValid, IsProvedAnalysis, IsProvedCheck}
 use Rattle.run_plans.specs.Bounding.{ListsBounds}
