@@ -45,7 +45,7 @@ LOAD, LENGTHS = 0.4, (1_000, 100_000)
 # so many sets are drawn at most to find a wide one
 MOST_DRAWN = 50
 MOST_BYTES = 67_108_864
-WORDS = tuple(word for word, protocol in PROTOCOLS.items() if not protocol.is_closer())
+WORDS = tuple(word for word in PROTOCOLS if not word.endswith("-c"))
 
 
 @dataclass(frozen=True)
