@@ -183,7 +183,7 @@ class Dossier(ToolCase):
     def test_who_blocks_where_analyse_is_wide(self) -> None:
         wide = [EXAMPLES / "wide.json", EXAMPLES / "wide-certificate.json"]
         page = self.assert_done(self.tool("dossier", "mpcp", *wide))
-        self.assertEqual({row[0] for row in Page(page).table(BLOCKING)}, {"steer", "look", "plan"})
+        self.assertEqual({row[0] for row in Page(page).table(BLOCKING) or []}, {"steer", "look", "plan"})
         self.assertNotIn("Who blocks is not told", page)
 
     def test_contents_and_origin(self) -> None:
