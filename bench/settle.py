@@ -12,13 +12,16 @@ dealt to the tasks of a processor by UUniFast. A tick is a microsecond or a nano
              processor (aim: under 20) and memory (aim: under 256 MiB). Beside it the rounds of the same set by GLPK in floats, whose
              solving alone counts (package libglpk-dev, and `cc`), and by QSopt_ex in exact fractions, a process for each program
              (package qsopt-ex). Each is left out with a line where it isn't installed, and given up after --limit seconds
-    answers  how often `analyse`, `refute` and `settle` say what is so, under each word, for ticks of a microsecond and of a nanosecond
+    answers  how often `analyse`, `refute` and `settle` say what is so, under each word, for ticks of a microsecond and of a nanosecond. In light
+             sets each cost holds all requests of its task. In heavy ones a task requests four resources, and many costs don't
 
 Times are of the processor, not of the clock, and each process stays on one processor. A certificate that `settle` writes is judged by `check`,
 and a refusal by `confirm`: the script ends with status 70 where one isn't accepted, or where `settle` writes other bytes than `analyse`. It
 is no other test: no gate runs it, and it bounds nothing.
 """
 import argparse
+import collections
+import itertools
 import json
 import os
 import subprocess
@@ -40,8 +43,8 @@ TASKS_EACH = 4
 MICROSECOND, NANOSECOND = 1, 1000
 TICKS = {"1 us": MICROSECOND, "1 ns": NANOSECOND}
 CALLS = 5
-# of the sets at the limits
-LOAD, LENGTHS = 0.4, (1_000, 100_000)
+LOADS = (0.1, 0.4)
+MOST_TASKS = 64
 # so many sets are drawn at most to find a wide one
 MOST_DRAWN = 50
 MOST_BYTES = 67_108_864
@@ -79,10 +82,11 @@ class Program:
         words = [self.program, command, word, "set", *more]
         with (self.folder / "answer").open("w+") as out:
             with subprocess.Popen(words, cwd=self.folder, stdin=subprocess.DEVNULL, stdout=out, preexec_fn=stay_here) as process:
+                memory = most_memory(process.pid)
                 _, status, used = os.wait4(process.pid, 0)
                 process.returncode = os.waitstatus_to_exitcode(status)
             out.seek(0)
-            return Ran(process.returncode, out.read(), used.ru_utime + used.ru_stime, used.ru_maxrss / 1024)
+            return Ran(process.returncode, out.read(), used.ru_utime + used.ru_stime, memory)
 
     def least(self, command, word):
         """The call with the least time of a few."""
@@ -100,32 +104,48 @@ class Program:
         return ran
 
 
+def most_memory(process):
+    """The most memory in MiB that a process was seen to have until it ended. What the system tells of an ended process counts this script too."""
+    most = 0
+    while os.waitid(os.P_PID, process, os.WEXITED | os.WNOWAIT | os.WNOHANG) is None:
+        lines = Path(f"/proc/{process}/status").read_text().splitlines()
+        most = max([most, *(int(line.split()[1]) for line in lines if line.startswith("VmHWM"))])
+        time.sleep(0.005)
+    return most / 1024
+
+
 def stay_here():
     """Keeps a process on one of the processors that it may have."""
     os.sched_setaffinity(0, {min(os.sched_getaffinity(0))})
 
 
-def drawn(tasks, tick, load, draw):
-    """A set of so many tasks, with so many ticks in a microsecond."""
+def light(tasks, tick, draw):
+    """A set of so many tasks, with so many ticks in a microsecond. Each cost holds all requests."""
     processors = max(2, tasks // TASKS_EACH)
     resources = min(2 * processors, 32)
     parameters = Parameters(
-        load=load, tasks=tasks, processors=processors, resources=resources, access=2.5 / resources, requests=3, shortest_length=1 * tick,
-        longest_length=500 * tick, shortest_period=10_000 * tick, longest_period=100_000 * tick, periods="log-uniform",
+        load=draw.uniform(*LOADS), tasks=tasks, processors=processors, resources=resources, access=2.5 / resources, requests=3, shortest_length=1 * tick,
+        longest_length=100 * tick, shortest_period=10_000 * tick, longest_period=100_000 * tick, periods="log-uniform",
     )
     return set_of(parameters, draw)
 
 
-def at_limits(draw):
-    """A set of 64 tasks with 256 entries of requests, whose ticks are nanoseconds."""
-    processors, homes, tasks = 16, [draw.randint(1, 16) for _ in range(32)], []
+def heavy(tasks, tick, draw):
+    """A set of so many tasks, with so many ticks in a microsecond. Each task requests four resources, and many costs don't hold all requests at once,
+    as where a job takes one of several paths."""
+    processors = max(2, tasks // TASKS_EACH)
+    resources = min(2 * processors, 32)
+    homes, load, made = [draw.randint(1, processors) for _ in range(resources)], draw.uniform(*LOADS), []
     for processor in range(1, processors + 1):
-        for load in uunifast(64 // processors, LOAD, draw):
-            period = log_uniform(10_000 * NANOSECOND, 100_000 * NANOSECOND, draw)
-            requests = [(q, draw.randint(1, 3), draw.randint(*LENGTHS)) for q in draw.sample(range(32), 4)]
+        for share_of_task in uunifast(tasks // processors, load, draw):
+            period = log_uniform(10_000 * tick, 100_000 * tick, draw)
+            requests = [(q, draw.randint(1, 3), draw.randint(tick, 100 * tick)) for q in draw.sample(range(resources), 4)]
             longest = max(length for _, _, length in requests)
-            tasks.append((processor, period, min(period, max(round(load * period), longest + 1)), requests))
-    return assembled(processors, homes, tasks)
+            made.append((processor, period, max(round(share_of_task * period), longest + 1), requests))
+    return assembled(processors, homes, made)
+
+
+KINDS = {"light": light, "heavy": heavy}
 
 
 def share(part, whole):
@@ -136,7 +156,7 @@ def time_lines(program, given, draw):
     """The first part: what `settle` costs where `analyse` has an answer."""
     found = {Status.DONE: [], Status.NO: []}
     for _ in range(given.sets):
-        program.put(drawn(given.tasks, MICROSECOND, draw.uniform(0.3, 0.7), draw))
+        program.put(light(given.tasks, MICROSECOND, draw))
         for word in given.words:
             analysed, settled = program.least("analyse", word), program.least("settle", word)
             if analysed.status == Status.DONE and settled.text != analysed.text:
@@ -171,14 +191,14 @@ def beside(name, solver, parts, word, settled, limit):
     except Gone:
         return f"{name} more than {limit} s ({len(distinct.answers)} programs in {distinct.seconds():.2f} s)"
     least = json.loads(settled.text)["bounds"] if settled.status == Status.DONE else None
-    same = "the same bounds" if settled.is_answer() and bounds == least else "OTHER BOUNDS" if settled.is_answer() else "nothing to compare"
+    same = "nothing to compare" if not settled.is_answer() else "the same answer" if bounds == least else "ANOTHER ANSWER"
     return f"{name} {distinct.seconds():.2f} s for {len(distinct.answers)} programs, {same}"
 
 
 def wide_set(program, word, draw):
     """A set at the limits on which `analyse` is wide, or None, and how many were drawn."""
     for number in range(1, MOST_DRAWN + 1):
-        parts = at_limits(draw)
+        parts = heavy(MOST_TASKS, NANOSECOND, draw)
         program.put(parts)
         if program.run("analyse", word).status == Status.WIDE:
             return parts, number
@@ -202,21 +222,28 @@ def wide_lines(program, given, draw):
         solvers["GLPK in floats"].end()
 
 
+def answers_of(program, sets, word):
+    """How many of these sets each command answers under a word, and what `settle` says of them."""
+    counts = collections.Counter()
+    for parts in sets:
+        program.put(parts)
+        settled = program.settled(word)
+        counts["analyse"] += program.run("analyse", word).is_answer()
+        counts["refute"] += program.run("refute", word).is_answer()
+        counts["settle"] += settled.is_answer()
+        counts["schedulable"] += settled.status == Status.DONE
+        counts["not shown"] += settled.status == Status.NO
+    return counts
+
+
 def answer_lines(program, given, draw):
     """The third part: how often each command says what is so."""
-    for name, tick in TICKS.items():
-        sets = [drawn(given.tasks, tick, draw.uniform(0.3, 0.7), draw) for _ in range(given.sets)]
+    for (kind, drawn), (name, tick) in itertools.product(KINDS.items(), TICKS.items()):
+        sets = [drawn(given.tasks, tick, draw) for _ in range(given.sets)]
         for word in given.words:
-            counts = {"analyse": 0, "refute": 0, "settle": 0, "schedulable": 0}
-            for parts in sets:
-                program.put(parts)
-                settled = program.settled(word)
-                counts["analyse"] += program.run("analyse", word).is_answer()
-                counts["refute"] += program.run("refute", word).is_answer()
-                counts["settle"] += settled.is_answer()
-                counts["schedulable"] += settled.status == Status.DONE
-            shown = counts.pop("schedulable")
-            yield f"answers: tick {name}, {word}: of {len(sets)} sets " + ", ".join(f"{command} {count}" for command, count in counts.items()) + f"; {shown} schedulable"
+            counts = answers_of(program, sets, word)
+            said = ", ".join(f"{command} {counts[command]}" for command in ("analyse", "refute", "settle"))
+            yield f"answers: {kind} sets, tick {name}, {word}: of {len(sets)} {said}; {counts['schedulable']} schedulable, {counts['not shown']} not shown"
 
 
 PARTS = {"time": time_lines, "wide": wide_lines, "answers": answer_lines}

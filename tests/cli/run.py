@@ -54,7 +54,10 @@ def clipped(text):
 
 
 def differences(case, program):
-    out, err, status, says = setting.run(case, program)
+    try:
+        out, err, status, says = setting.run(case, program)
+    except setting.Unready as why:
+        return [f"    {why}"]
     if case.saves:
         (case.at / case.saves).write_bytes(out)
     found = []

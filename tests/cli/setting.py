@@ -66,6 +66,10 @@ def runs_on(own):
     return run
 
 
+class Unready(Exception):
+    """What a case runs before ended otherwise than it says."""
+
+
 @dataclass(frozen=True)
 class Saved:
     """What a run before wrote to this file."""
@@ -197,7 +201,7 @@ def run_before(program, words, saved, status=0):
     with saved.open("wb") as out:
         done = subprocess.run([program, *words], cwd=saved.parent, stdin=subprocess.DEVNULL, stdout=out, timeout=SECONDS)
     if done.returncode != status:
-        raise AssertionError(f"before the case {' '.join(words)} ended with status {done.returncode}, and not {status}")
+        raise Unready(f"{' '.join(words)} ended before with status {done.returncode}, and not {status}")
 
 
 def wanted(case, folder):

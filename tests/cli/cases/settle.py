@@ -10,8 +10,8 @@ PLANT = (TOP / "examples" / "plant.json").read_text()
 # the first task is late
 HOME_SHORT = pair(first={"deadline": 4})
 # lengths of which no two share a divisor, and what is left of a cost beside another request
-LENGTHS = (67108864, 43046721, 48828125)
-LEFT = (12345677, 7654321, 9999991)
+LENGTHS = (4194304, 4782969, 9765625)
+LEFT = (1234567, 765431, 4999991)
 # six lengths whose reciprocals come to a thousandth, but for a trillionth
 NEAR = (4999, 5003, 5009, 6007, 4275, 20535676)
 
@@ -33,8 +33,8 @@ SHIPPED_BOUNDS = {
 
 
 def halves(deadline=10**9):
-    """A set whose first task has one best point, which is worth whole ticks and has a least common denominator of 77 bits. Its requests meet
-    two of each length, whose shares are one together."""
+    """A set whose first task has one best point under MPCP, which is worth whole ticks and has a least common denominator of 68 bits. Its requests
+    meet two of each length, whose shares are one together."""
     tasks = [(length, left) for length, rest in zip(LENGTHS, LEFT) for left in (rest, length - rest)]
     others = (task(f"t{k}", k, 10**9, 10**7 + left, ("q1", length), (f"q{k}", 10**7)) for k, (length, left) in enumerate(tasks, 2))
     own = [("q1", 1, 4), *((f"q{k}", 1) for k in range(2, 8))]
@@ -43,10 +43,10 @@ def halves(deadline=10**9):
 
 
 HALVES_BOUNDS = {
-    "mpcp": [218984730, 88815573, 135936994, 153591315, 198983715, 216638027, 216639036, 216640027],
-    "fmlp+": [218985730, 216639024, 216639024, 216639024, 218984703, 216639024, 216639033, 216640025],
-    "spin": [218985730, 216639024, 216639024, 216639024, 218984703, 216639024, 216639033, 216640025],
-    "mpcp-c": [218984730, 88815571, 135936993, 153591315, 198983715, 216638027, 216639036, 216640027],
+    "mpcp": [78743918, 21000197, 26919671, 28919669, 36954745, 42720167, 42486810, 37487801],
+    "fmlp+": [78744918, 44527061, 46252231, 43469260, 46721367, 42721164, 42486807, 37487799],
+    "spin": [78744918, 44527061, 46252231, 43469260, 46721367, 42721164, 42486807, 37487799],
+    "mpcp-c": [78743918, 21000195, 26919670, 28919669, 36954745, 42720167, 42486810, 37487801],
 }
 
 
@@ -57,6 +57,21 @@ def nearly_whole(deadline=10**9):
     own = [(f"q{k}", 1) for k in range(1, 8)]
     last = task("t8", 8, 10**9, 2000, ("q1", 1000)), task("t9", 9, 10**9, 300000010, ("q9", 300000000))
     return task_set(9, [resource(f"q{k}") for k in (*range(1, 8), 9)], task("t1", 1, 10**9, 20, *own, ("q9", 1), deadline=deadline), *others, *last)
+
+
+# under FMLP+ each program ends, and t1's point has no form
+MIXED = task_set(
+    2,
+    [resource("q1"), resource("q2")],
+    task("t1", 1, 40000, 436, ("q2", 401, 2), ("q1", 19, 2)),
+    task("t2", 2, 40000, 702, ("q1", 271), ("q2", 701)),
+    task("t3", 2, 50000, 464, ("q2", 283, 2)),
+    task("t4", 1, 50000, 2527, ("q1", 467, 2), ("q2", 953, 2)),
+    task("t5", 1, 200000, 2610, ("q2", 773, 2), ("q1", 601, 2)),
+    task("t6", 2, 1000000, 2097, ("q1", 509), ("q2", 937, 2)),
+    task("t7", 1, 1000000, 1380, ("q2", 797, 2), deadline=9136),
+    task("t8", 2, 1000000, 1064, ("q1", 991), ("q2", 409)),
+)
 
 
 def same(shows, command, protocol, text):
@@ -74,10 +89,11 @@ def bounded(shows, protocol, text, bounds):
     ]
 
 
-def refused(shows, protocol, text, other, status):
-    """A refusal that `confirm` confirms, of a set of which `analyse` or `refute` says nothing."""
+def refused(shows, protocol, text, analysed="wide t1\n"):
+    """A refusal that `confirm` confirms, of a set that `refute` is too wide for."""
     return [
-        Case(f"{shows}: {other}", f"{other} {protocol} set", "wide t1\n", status, {"set": text}),
+        Case(f"{shows}, analysed", f"analyse {protocol} set", analysed, 5 if analysed.startswith("wide") else 1, {"set": text}),
+        Case(f"{shows}, to be refuted", f"refute {protocol} set", "wide t1\n", 5, {"set": text}),
         Case(f"{shows}, confirmed", f"confirm {protocol} set cert", "confirmed\n", 0, {"set": text}, before=((f"settle {protocol} set", "cert", 1),)),
     ]
 
@@ -111,15 +127,15 @@ WIDE_AND_SHOWN = [
 # With two ticks less than its bound the first task is refused by a point that is rounded down. With one less only the one best point will do, which
 # has no form.
 WIDE_AND_NOT_SHOWN = [
-    *refused("a program too wide", "mpcp", WIDE, "analyse", 5),
-    *refused("two ticks below the bound", "mpcp", halves(218984728), "analyse", 5),
-    *refused("two ticks below the bound, where the analysis isn't wide", "fmlp+", halves(218985728), "refute", 5),
-    Case("which analyse answers", "analyse fmlp+ set", "not shown t1 218985730 218985728\n", 1, {"set": halves(218985728)}),
-    *refused("one tick below a bound that is nearly one more", "mpcp", nearly_whole(600001023), "analyse", 5),
+    *refused("a program too wide", "mpcp", WIDE),
+    *refused("two ticks below the bound", "mpcp", halves(78743916)),
+    *refused("one tick below a bound that is nearly one more", "mpcp", nearly_whole(600001023)),
+    *refused("a point too wide", "fmlp+", MIXED, "not shown t7 11057 9136\n"),
+    *refused("a point too wide, under MPCP", "mpcp", MIXED, "not shown t7 11280 9136\n"),
 ]
 
 NOT_SETTLED = [
-    ended("the only best point has no form", "mpcp set", "wide t1\n", 5, halves(218984729)),
+    ended("the only best point has no form", "mpcp set", "wide t1\n", 5, halves(78743917)),
     ended("each dual that has a form comes to a tick more", "mpcp set", "wide t1\n", 5, nearly_whole()),
 ]
 
@@ -128,6 +144,11 @@ ALLOWANCES = [
     ended("one unit less than analyse takes", "fmlp+ set 7", "allowance\n", 6, PAIR),
     ended("as many as it takes", "fmlp+ set 8", PAIR_CERTIFICATE, 0, PAIR),
     ended("the greatest allowance", "fmlp+ set 1000000000", PAIR_CERTIFICATE, 0, PAIR),
+    ended("too few for the rounds of a wide set", "mpcp set 17", "allowance\n", 6, halves()),
+    Case("as many as show that it is wide", "analyse mpcp set 18", "wide t1\n", 5, {"set": halves()}),
+    ended("are too few for the search", "mpcp set 18", "allowance\n", 6, halves()),
+    Case("as many as show that it isn't shown", "analyse fmlp+ set 104", "not shown t7 11057 9136\n", 1, {"set": MIXED}),
+    ended("are too few for the search of a refusal", "fmlp+ set 104", "allowance\n", 6, MIXED),
 ]
 
 INPUTS = [
