@@ -225,7 +225,7 @@ fn audited_reply<S: Shelf>(
     )
 }
 
-/// Reads the set of this name, and then what else the work asks for, and does it.
+/// Reads the set of this name and then what else the work asks for, and does the work.
 #[tactic(auto, using(crate::proofs::SetPlans::ungot_plain))]
 fn plain_reply<S: Shelf>(
     alloc: Global,
@@ -248,7 +248,7 @@ fn plain_reply<S: Shelf>(
     }
 }
 
-/// The same of a work with certificates, which carry the digest of the set's bytes.
+/// The same for a work with certificates. They carry the digest of the set's bytes.
 #[tactic(auto, using(crate::proofs::SetPlans::ungot_tied))]
 fn tied_reply<R: Threads + Sync, S: Shelf>(
     rt: &R,
@@ -306,7 +306,7 @@ fn command_reply<R: Threads + Sync, S: Shelf>(
     }
 }
 
-/// The reply to words: all that comes before the first write. An error is want of memory.
+/// The reply to words: all that comes before the first write. An error means that memory ran out.
 pub fn reply_to<R: Threads + Sync, S: Shelf>(
     rt: &R,
     alloc: Global,

@@ -19,7 +19,7 @@ use sporadic_model::TaskSet;
 use std::alloc::{AllocError, Global};
 use std::thread::Threads;
 
-/// The reply where no bounds fit: a refusal for the set of this digest.
+/// The reply if no bounds fit: a refusal for the set of this digest.
 fn none_fits_reply(
     alloc: Global,
     protocol: ProtocolName,
@@ -34,7 +34,7 @@ fn none_fits_reply(
     })
 }
 
-/// The reply to what settling the set of this digest came to.
+/// The reply to the result of settling the set of this digest.
 fn settling_reply(
     alloc: Global,
     protocol: ProtocolName,

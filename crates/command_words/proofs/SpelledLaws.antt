@@ -14,7 +14,7 @@ use Rattle.command_words.specs.Words.{form_of_three, both, allowed, form_of_four
 use Rattle.command_words.specs.Spelled.{analyse_words, refute_words, settle_words, allowance_of, check_words, confirm_words}
 use Rattle.command_words.specs.Spelled.{upgrade_words, audit_words, IsSpelled}
 
--- ---- words that are spelled so have the form
+-- ---- words that are spelled in this way have the form
 
 named : (p : ProtocolName) → name_of (word_of p) ≡ Some p
 named (name.Base protocol.Mpcp) = refl
@@ -75,7 +75,7 @@ pub form_of_audit : (p : ProtocolName) (set cert jobs rows : List ℕ)
     → form_of (audit_words p set cert jobs rows) ≡ Some (Audit p set cert jobs rows)
 form_of_audit p set cert jobs rows = ap (option_map (λ q. Audit q set cert jobs rows)) (named p)
 
--- Where such words have a form it is that of some allowance.
+-- If such words have a form, it is that of some allowance.
 some_allowance : (make : ℕ → Form) (o : Option ℕ) (form : Option Form) → form ≡ option_map make o
     → (form ≡ None → ⊥) → (n : ℕ) × (form ≡ Some (make n))
 some_allowance make None form is some = absurd (some is)
@@ -127,7 +127,7 @@ audit_is_form words p set cert jobs rows is = ap form_of is ∙ form_of_audit p 
 same : (a b : List ℕ) → bytes_eq a b ≡ true → a ≡ b
 same a b = (bytes_eq-Decides a b).0
 
--- What holds of both sides holds of a choice between them, and what a value promises of itself a map of it keeps.
+-- What holds for both sides holds for a choice between them. A map carries a property of a value over to its result.
 either : {X : Type 0} (P : X → Type 0) (b : Bool) (x y : Option X) → (b ≡ true → IfSome x P) → IfSome y P → IfSome (if b then x else y) P
 either P true x y first other = first refl
 either P false x y first other = other
@@ -168,7 +168,7 @@ simulate_spelled words None set jobs n = tt
 simulate_spelled words (Some p) set jobs None = tt
 simulate_spelled words (Some p) set jobs (Some n) = tt
 
--- Where an allowance is given last.
+-- If an allowance is given last.
 allowance_spelled : (make : ProtocolName → ℕ → Form) (words : List (List ℕ)) (word last : List ℕ) (o : Option ProtocolName) (n : Option ℕ)
     → ((p : ProtocolName) (m : ℕ) → Names word p → number_between 1 GREATEST_ALLOWANCE last ≡ Some m → Spells words (make p m))
     → IfSome o (Names word) → number_between 1 GREATEST_ALLOWANCE last ≡ n

@@ -36,7 +36,7 @@ pub data Form : Type 0 where
   -- the protocol, the set, the certificate, the jobs, the rows
   Audit : ProtocolName → List ℕ → List ℕ → List ℕ → List ℕ → Form
 
--- Which form have these words of `study`, given how their numbers were read?
+-- Which form do these words of `study` have, given how their numbers were read?
 abbrev pub study_form : Option ℕ → Option ℕ → Option Form
 study_form (Some seed) (Some sets) = Some (Study seed sets)
 study_form _ _ = None
@@ -71,7 +71,7 @@ form_of_four command protocol name last =
     else if bytes_eq command (codes "report") then option_map (λ p. FullReport p name last) (name_of protocol)
     else None
 
--- Which form have these words of `simulate`, given how their protocol and their ticks were read?
+-- Which form do these words of `simulate` have, given how their protocol and their ticks were read?
 abbrev pub simulate_form : Option ProtocolName → List ℕ → List ℕ → Option ℕ → Option Form
 simulate_form (Some protocol) set jobs (Some ticks) = Some (Simulate protocol set jobs ticks)
 simulate_form _ set jobs _ = None

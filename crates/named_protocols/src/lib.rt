@@ -1,5 +1,4 @@
-//! The calls of an analysis, of settling, of refusals, of checks and of schedules by a protocol's name: each is one `match` over the
-//! names.
+//! The calls of an analysis, of settling, of refusals, of checks and of schedules by a protocol's name. Each is one `match` over the names.
 #![tactic(auto)]
 
 mod calls;

@@ -1,4 +1,4 @@
--- What is written and what is checked lists bounds that every lawful schedule keeps.
+-- A certificate that is written or found valid lists bounds that every lawful schedule keeps.
 use Rattle.std.proofs.Common.{◌≡◌, ℕ, ◌<◌, ◌≤◌, List, length, sym, ap, subst, arith}
 use Rattle.std.specs.Prelude.{codes, slice_index, slice_index_or}
 use Rattle.std.proofs.lemmas.List.{get_or_default}
@@ -29,7 +29,7 @@ use Rattle.run_plans.specs.Bounding.{AreKept, ListsBounds}
 use Rattle.named_laws.proofs.EachName.{named_sound, named_word_is_text}
 use Rattle.named_laws.proofs.Values.{values_of, are_values}
 
--- The bounds of a valid certificate have 64 bits. So it can be written where its duals are small.
+-- The bounds of a valid certificate have 64 bits. So it can be written if its duals are small.
 pub written_with : (protocol : ProtocolName) (set : SetDef) (c : CertificateDef) → IsAccepted set → IsValid (source_of protocol set) c
     → HasSmallDuals c → IsWritable c
 written_with protocol set c accepted valid small = record {
@@ -77,7 +77,7 @@ pub kept : (protocol : ProtocolName) (set : SetDef) (c : CertificateDef) → IsA
 kept protocol set c accepted valid = kept_under protocol set c.bounds (values_of (source_of protocol set) c)
     (named_sound protocol set c (values_of (source_of protocol set) c) accepted valid (are_values (source_of protocol set) c))
 
--- So a text whose value writes a valid certificate lists such bounds.
+-- So a text whose value gives a valid certificate lists such bounds.
 abbrev lists_bounds : (call : Call) (protocol : ProtocolName) (name text : List ℕ) (set : SetDef) (c : CertificateDef) (value : Data)
     → ReadsSome call protocol name set → IsValid (source_of protocol set) c → IsValue text value → c ≡ certificate_written value
     → ListsBounds call protocol name text

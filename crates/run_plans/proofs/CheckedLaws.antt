@@ -1,5 +1,5 @@
--- What `analyse`, `settle` and `upgrade` write is found valid. What `analyse` writes is found to be of another set where the digest is
--- another.
+-- What `analyse`, `settle` and `upgrade` write is found valid. For a set with another digest, what `analyse` writes is found to be of
+-- another set.
 use Rattle.std.proofs.Common.{◌≡◌, ℕ, ◌≤◌, List, length, refl, sym, ◌∙◌, ap, subst, arith, inl, inr, Ok, Some, None}
 use Rattle.std.specs.Prelude.{Option, MatchOption, IsSome}
 use Rattle.std.specs.Io.KnownBytes.{Appends}
@@ -39,7 +39,7 @@ use Rattle.run_plans.proofs.SettledLaws.{wrote_settled}
 use Rattle.run_plans.proofs.UpgradedLaws.{wrote_upgraded}
 use Rattle.run_plans.proofs.BoundLaws.{writable, written_with, text_is_read}
 
--- The text that a certificate has is read as it.
+-- The text of a certificate is read as this certificate.
 reads_certificate : (protocol : ProtocolName) (bytes text : List ℕ) (c : CertificateDef) → IsWritable c
     → text ≡ certificate_text (word_of protocol) (sha256 bytes) c
     → IsFileText protocol text (record { certificate = c; digest = sha256 bytes })
@@ -47,7 +47,7 @@ reads_certificate protocol bytes text c writable is =
     subst (λ (t : List ℕ). IsFileText protocol t (record { certificate = c; digest = sha256 bytes })) (sym is)
     (text_is_read protocol bytes c writable)
 
--- Where a set is read and then a file, the outcome of a work on both is its answer.
+-- If a set is read and then a file, the outcome of a work on both is the work's answer.
 pub outcome_of_both : (later : Inputs) (protocol : ProtocolName) (name cert bytes text : List ℕ) (set : SetDef) (input : Input)
     (file : input.Value) (work : List ℕ → SetDef → input.Value → Work) (a : Answer)
     → IsRead (told later) (set_input protocol) name bytes set → IsRead (told later) input cert text file
@@ -57,7 +57,7 @@ pub outcome_of_both : (later : Inputs) (protocol : ProtocolName) (name cert byte
 outcome_of_both later protocol name cert bytes text set input file work a read also is =
     inr (bytes, set, read, (λ works. tt), inr (text, file, also, (λ works. tt), (is, tt)))
 
--- So where a set and the text of a valid certificate of it are there, the outcome of `check` is that it is valid.
+-- So if a set and the text of a valid certificate of it are there, the outcome of `check` is that the certificate is valid.
 check_outcome : (later : Inputs) (protocol : ProtocolName) (again cert bytes text : List ℕ) (set : SetDef) (c : CertificateDef)
     → IsRead (told later) (set_input protocol) again bytes set → IsFileText protocol text (record { certificate = c; digest = sha256 bytes })
     → IsValid (source_of protocol set) c → length text ≤ GREATEST_INPUT_BYTES → bytes_of later cert ≡ Some text
@@ -66,7 +66,7 @@ check_outcome later protocol again cert bytes text set c read reads valid short 
     outcome_of_both later protocol again cert bytes text set (cert_input protocol) (record { certificate = c; digest = sha256 bytes })
     (check_of protocol) checked_answer read ((named, short), reads) (inr (refl, inl (valid, refl)))
 
--- And where another set is there, of another digest, it is that the certificate is of another set.
+-- And if another set is there, with another digest, the outcome is that the certificate is of another set.
 other_outcome : (later : Inputs) (protocol : ProtocolName) (other cert bytes text others : List ℕ) (tasks : SetDef) (c : CertificateDef)
     → IsRead (told later) (set_input protocol) other others tasks
     → IsFileText protocol text (record { certificate = c; digest = sha256 bytes })
@@ -76,7 +76,7 @@ other_outcome later protocol other cert bytes text others tasks c read reads apa
     outcome_of_both later protocol other cert others text tasks (cert_input protocol) (record { certificate = c; digest = sha256 bytes })
     (check_of protocol) other_set_answer read ((named, short), reads) (inl ((λ tied. apart (sym tied)), refl))
 
--- What a call that tells its bytes wrote is one text.
+-- If a sink tells its bytes, a call wrote one text to it.
 one_text : (before now : Option (List ℕ)) (s t : List ℕ) → IsSome before → Appends before now s → Appends before now t → s ≡ t
 one_text None now s t some p q = cc
 one_text (Some xs) None s t some p q = absurd p
@@ -89,7 +89,7 @@ has_form call n run is most none = elim (run.no_form none) [
   | inr (inr ran) ↦ absurd (omega (arith, ran.status, is, most))
 ]
 
--- What a call with status 0 or 1 and words of this form wrote: the text of its outcome.
+-- A call with status 0 or 1 and words of this form wrote the text of its outcome.
 pub record GaveText (inputs : Inputs) (form : Form) (n : ℕ) (text : List ℕ) : Type 0 where
   pub reply : Answer
   pub outcome : IsOutcomeOf (told inputs) (plan_of form) reply
@@ -115,7 +115,7 @@ gave_text call inputs form n text run form_is has some is most wrote = elim run.
   ]
 ]
 
--- What a call that wrote a certificate of a set wrote, with status 0.
+-- A call with status 0 wrote this text, which holds a valid certificate of a set.
 record WroteText (inputs : Inputs) (protocol : ProtocolName) (name text : List ℕ) : Type 0 where
   bytes : List ℕ
   set : SetDef

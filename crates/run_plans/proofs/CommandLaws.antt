@@ -1,4 +1,4 @@
--- Laws of the commands: each has one outcome for each shelf, and its status is one that is its own.
+-- Laws of the commands. Each has at most one outcome for each shelf, if its work has one answer. Its status is one of its own.
 use Rattle.std.proofs.Common.{◌≡◌, ℕ, ◌≤◌, List, refl, sym, ◌∙◌, ap, subst, arith, inl, inr, Some}
 use Rattle.std.specs.Prelude.{Option, MatchOption}
 use Rattle.outside_ports.specs.Names.{Inputs}
@@ -41,7 +41,7 @@ one_analysis : (protocol : ProtocolName) (digest : List ℕ) (set : SetDef) (all
 one_analysis protocol digest set allowance a b (e, ends, is) (f, ends', is') =
     is ∙ ap (λ x. ending_answer protocol digest set x) (one_ending (source_of protocol set) allowance e f ends ends') ∙ sym is'
 
--- Its status tells how the rounds ended.
+-- The status of the answer tells how the rounds ended.
 pub ending_tells : (protocol : ProtocolName) (digest : List ℕ) (set : SetDef) (e : Ending) (a : Answer)
     → a ≡ ending_answer protocol digest set e → TellsEnding e a
 ending_tells protocol digest set (Schedulable bounds duals) a is = inl (ap (λ x. x.status) is)
@@ -110,12 +110,12 @@ pub of_form : (inputs : Inputs) (words : List (List ℕ)) (form : Form) (a : Ans
 of_form inputs words form a is out =
     subst (λ (o : Option Form). MatchOption o (a ≡ refused_words) (λ f. IsOutcomeOf (told inputs) (plan_of f) a)) is out
 
--- Does the work come to an end with status 0 or 1 whatever its inputs are, and so each work that the plan may come to?
+-- Does each work that the plan may come to end with status 0 or 1?
 abbrev pub IsQuiet : Plan → Type 0
 IsQuiet (Working work) = work.ends
 IsQuiet (Reading input name next) = (bytes : List ℕ) (value : input.Value) → IsQuiet (next bytes value)
 
--- Then its outcome is that an input is refused, or has such a status.
+-- If so, its outcome is that an input is refused, or has such a status.
 quiet_outcome : (k : Known) (p : Plan) (a : Answer) → IsLawful p → IsQuiet p → IsOutcomeOf k p a → a.status ≤ 3
 quiet_outcome k (Working work) a lawful quiet out = omega (arith, at_most_one a (lawful.well quiet a out.0))
 quiet_outcome k (Reading input name next) a lawful quiet (inl stopped) = omega (arith, stopped_status k input name a stopped)
@@ -125,7 +125,7 @@ quiet_outcome k (Reading input name next) a lawful quiet (inr (bytes, value, rea
 not_quiet : (k : Known) (form : Form) (a : Answer) (n : ℕ) → IsQuiet (plan_of form) → IsOutcomeOf k (plan_of form) a → a.status ≡ n → 4 ≤ n → ⊥
 not_quiet k form a n quiet out is most = absurd (omega (arith, quiet_outcome k (plan_of form) a (lawful form) quiet out, is, most))
 
--- So an outcome with a greater status is that of rounds, which ended in a way that this status tells.
+-- So an outcome with a greater status comes from rounds. They ended in a way that this status tells.
 rounds_end : (k : Known) (form : Form) (a : Answer) (n : ℕ) (IsEnd : Ending → Type 0) → ((e : Ending) → TellsEnding e a → IsEnd e)
     → ((p : ProtocolName) (name : List ℕ) (m : ℕ) (digest : List ℕ) (set : SetDef) → form ≡ Settle p name m → IsSettlement p digest set m a
     → (e : Ending) × (SettlingEnds (source_of p set) m e) × IsEnd e)

@@ -34,7 +34,7 @@ use Rattle.run_plans.proofs.SettledLaws.{wrote_refused}
 use Rattle.run_plans.proofs.WritableRefusal.{refusal_writable}
 use Rattle.run_plans.proofs.CheckedLaws.{outcome_of_both, gave_text, has_form, finds}
 
--- Bytes are the text of one set.
+-- Bytes are the text of at most one set.
 one_set : (p : ProtocolName) (bytes others : List ℕ) (set other : SetDef) → bytes ≡ others → IsSetText p bytes set
     → IsSetText p others other → set ≡ other
 one_set p bytes others set other same text text' =
@@ -67,7 +67,7 @@ never_both first second run again c =
 
 -- ---- what was written is confirmed
 
--- What a call that wrote a refusal of a set wrote.
+-- A call wrote this text, which holds a refusal of a set.
 record WroteText (inputs : Inputs) (p : ProtocolName) (name text : List ℕ) : Type 0 where
   bytes : List ℕ
   set : SetDef
@@ -117,7 +117,7 @@ settled_text first second run c =
       reads = reads_refusal c.protocol w.bytes t.text w.so.steps w.so.so.writable (sym gave.same ∙ w.so.text);
     }
 
--- So where the set and the text are there, the outcome of `confirm` is that it is confirmed.
+-- So if the set and the text are there, the outcome of `confirm` is that the refusal is confirmed.
 finds_text : (first second : Call) (n : ℕ) (p : ProtocolName) (name : List ℕ) → IsRun second
     → (t : ReadsWhatWasWritten first second n confirm_words p name) → WroteText t.inputs p name t.text → FindsConfirmed second
 finds_text first second n p name again t w =

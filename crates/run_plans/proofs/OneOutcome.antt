@@ -1,4 +1,4 @@
--- All words but those of `settle` have one outcome at most.
+-- All words but those of `settle` have at most one outcome.
 use Rattle.std.proofs.Common.{◌≡◌, ℕ, List, refl, subst, Some, None}
 use Rattle.std.specs.Prelude.{Option, MatchOption}
 use Rattle.outside_ports.specs.Names.{Inputs}

@@ -1,4 +1,4 @@
--- Laws of the works on refusals: each has one answer, with a status that is its own, and what status 0 says.
+-- Laws of the works on refusals: each has one answer, with one of its own statuses. And what status 0 says.
 use Rattle.std.proofs.Common.{◌≡◌, ℕ, List, refl, sym, ◌∙◌, ap, subst, inl, inr}
 use Rattle.sporadic_model.specs.SetDef.{SetDef}
 use Rattle.sporadic_model.specs.Accepted.{IsAccepted}
@@ -24,7 +24,7 @@ use Rattle.run_plans.proofs.WorkLaws.{always, fixed_lawful, judged_lawful, tied_
 
 -- ---- the rounds that refuse
 
--- Rounds that end in one way give the same steps, whichever way they are told to go.
+-- Rounds that end in one way give the same steps, however this ending is shown.
 same_steps : (p : ProtocolName) (set : SetDef) (n : ℕ) (e : Ending) (a b : EndsIn (refuting (source_of p set)) n e)
     → refusal_of (refuting (source_of p set)) n e a ≡ refusal_of (refuting (source_of p set)) n e b
 same_steps p set n (Schedulable bounds points) a b = refl
@@ -32,7 +32,7 @@ same_steps p set n (NotShown i v) a b = one_refusal (refuting (source_of p set))
 same_steps p set n (Wide i) a b = refl
 same_steps p set n Allowance a b = refl
 
--- So whatever is answered on the ending and the steps is answered once.
+-- So there is one answer from the ending and the steps.
 pub answered_once : (p : ProtocolName) (set : SetDef) (n : ℕ) (says : Ending → List StepDef → Answer) (e g : Ending) → e ≡ g
     → (a : EndsIn (refuting (source_of p set)) n e) (b : EndsIn (refuting (source_of p set)) n g)
     → says e (refusal_of (refuting (source_of p set)) n e a) ≡ says g (refusal_of (refuting (source_of p set)) n g b)
@@ -46,7 +46,7 @@ one_refutation : (p : ProtocolName) (digest : List ℕ) (set : SetDef) (n : ℕ)
 one_refutation p digest set n a b (e, ends, is) (g, ends', is') =
     is ∙ answered_once p set n (refuting_answer p digest set) e g (refuting_once (source_of p set) n e g ends ends') ends ends' ∙ sym is'
 
--- Its status tells how the rounds ended.
+-- The status of the answer tells how the rounds ended.
 pub refuting_tells : (p : ProtocolName) (digest : List ℕ) (set : SetDef) (e : Ending) (steps : List StepDef) (a : Answer)
     → a ≡ refuting_answer p digest set e steps → TellsEnding e a
 refuting_tells p digest set (Schedulable bounds points) steps a is = inr (ap (λ x. x.status) is)
@@ -65,7 +65,7 @@ refutation_lawful p digest set n = record {
   well = λ well a is. told_well (EndsIn (refuting (source_of p set)) n) is.0 a (refutation_tells p digest set n a is) is.1 well.0 well.1;
 }
 
--- With status 0 it is the text of a refusal of these rounds, which holds.
+-- With status 0 the answer is the text of a refusal of these rounds, and this refusal holds.
 pub record RefusedSo (p : ProtocolName) (digest : List ℕ) (set : SetDef) (n : ℕ) (a : Answer) : Type 0 where
   pub task : ℕ
   pub value : ℕ

@@ -114,7 +114,7 @@ replied shelf (Some form) a (inr out) =
       outcome = λ inputs are. inl (outcome_told (plan_of form) shelf inputs are a out);
     }
 
--- Words and named inputs have one outcome, where their plan has one answer.
+-- Words and named inputs have at most one outcome if their plan has at most one answer.
 one_of_form : (inputs : Inputs) (o : Option Form) (a b : Answer)
     → MatchOption o (Unit {0}) (λ form. HasOneAnswer (told inputs) (plan_of form))
     → MatchOption o (a ≡ refused_words) (λ form. IsOutcomeOf (told inputs) (plan_of form) a)
@@ -126,7 +126,7 @@ one_outcome : (inputs : Inputs) (words : List (List ℕ)) (a b : Answer) → Has
     → IsOutcome inputs words b → a ≡ b
 one_outcome inputs words a b one p q = one_of_form inputs (form_of words) a b one p q
 
--- What a call that analyses a set answers, where it gives its outcome.
+-- The answer of a call that analyses a set, if the call gives its outcome.
 record Ended (protocol : ProtocolName) (digest : List ℕ) (set : SetDef) (allowance : ℕ) (a : Answer) : Type 0 where
   ending : Ending
   ends : EndsIn (rounds_of (source_of protocol set)) allowance ending
@@ -152,7 +152,7 @@ writes call protocol digest set allowance bounds duals a accepted ends is gives 
     let moved : Gives call (ending_answer protocol digest set (Schedulable bounds duals)) = subst (λ (x : Answer). Gives call x) is gives in
     best_writes call protocol digest set (record { bounds = bounds; duals = duals }) accepted best moved.0 moved.1
 
--- The headline's two halves without its last premise.
+-- The headline's fields `least` and `none`, for a call that gives its answer.
 least_of : (call : Call) (protocol : ProtocolName) (digest : List ℕ) (set : SetDef) (n : ℕ) (e : Ending) (a : Answer)
     → IsAccepted set → EndsIn (rounds_of (source_of protocol set)) n e → a ≡ ending_answer protocol digest set e → Gives call a → call.status ≡ 0
     → WritesSchedulable call protocol digest set
@@ -198,7 +198,7 @@ never_five protocol digest set n a e nothing five =
     rounds_never_wide (source_of protocol set) n wide.0 (named_no_columns protocol set nothing)
     (subst (λ (x : Ending). EndsIn (rounds_of (source_of protocol set)) n x) wide.1 e.ends)
 
--- What is so of a call whose status is that of a fault or of want of memory, for which there is a cause.
+-- The headline for a call that ends with a fault or without memory, from its cause.
 other_headline : (call : Call) (protocol : ProtocolName) (digest : List ℕ) (set : SetDef) → ((call.status ≡ 4) ⊎ RanOut call)
     → (Rose call.shelf_before.faults call.shelf_now.faults ⊎ (Rose call.sink_before.faults call.sink_now.faults ⊎ RanOut call))
     → IsHeadline call protocol digest set
@@ -214,7 +214,7 @@ other_headline call protocol digest set status cause = record {
   apart call n (inl f) four seven is = four (sym is ∙ f)
   apart call n (inr ran) four seven is = seven (sym is ∙ ran.status)
 
--- Where a fault or want of memory is the cause, nothing is said of where status 0 comes.
+-- If a count of faults rose or memory ran out, `SettlesExactly` holds, since one of its premises fails.
 caused : (call : Call) (protocol : ProtocolName) (digest : List ℕ) (set : SetDef)
     → (Rose call.shelf_before.faults call.shelf_now.faults ⊎ (Rose call.sink_before.faults call.sink_now.faults ⊎ RanOut call))
     → SettlesExactly call protocol digest set
@@ -222,7 +222,7 @@ caused call protocol digest set (inl shelf) no_shelf no_sink no_want no_wide no_
 caused call protocol digest set (inr (inl sink)) no_shelf no_sink no_want no_wide no_allowance = absurd (no_sink sink)
 caused call protocol digest set (inr (inr ran)) no_shelf no_sink no_want no_wide no_allowance = absurd (no_want ran)
 
--- The same of a call that settles a set.
+-- The same for a call that settles a set.
 other_settling : (call : Call) (n : ℕ) → call.status ≡ n → 4 ≤ n
     → (Rose call.shelf_before.faults call.shelf_now.faults ⊎ (Rose call.sink_before.faults call.sink_now.faults ⊎ RanOut call))
     → IsSettling call
@@ -232,7 +232,7 @@ other_settling call n is most cause = record {
   exactly = λ protocol set settles. caused call protocol (sha256 settles.read.bytes) set cause;
 }
 
--- What is so of the readings where one status has a cause is so where another one has it then.
+-- Readings that fit one status fit another, if the other is 3 or 4 whenever the first is.
 asks_with : (o : Option Form) (readings : List Asked) (m n : ℕ) → ((m ≡ 3) ⊎ (m ≡ 4) → (n ≡ 3) ⊎ (n ≡ 4))
     → MatchOption o (readings ≡ []) (λ form. AsksAll (plan_of form) readings ⊎ (AsksPart (plan_of form) readings × ((m ≡ 3) ⊎ (m ≡ 4))))
     → MatchOption o (readings ≡ []) (λ form. AsksAll (plan_of form) readings ⊎ (AsksPart (plan_of form) readings × ((n ≡ 3) ⊎ (n ≡ 4))))
@@ -409,7 +409,7 @@ cut_run call replies r fails =
       asked_cut (readings, asked, are) =
           (readings, asked, asks_with (form_of call.words) readings replies.reply.status call.status (λ why. inr fails.status) are)
 
--- A call that had no memory.
+-- A call that ran out of memory.
 pub run_ran_out : (call : Call) → RanOut call → IsRun call
 run_ran_out call ran =
     let seven : call.status ≡ 7 = ran.status in
@@ -441,12 +441,12 @@ run_ran_out call ran =
       upgraded = λ protocol name cert words zero. absurd (omega (arith, seven, zero));
     }
 
--- What the sink promised for a reply that is this long.
+-- What the sink promised for a reply of this length.
 abbrev pub HasRoom : Call → Answer → Type 0
 HasRoom call a = length a.text ≤ call.sink_before.room → Gives call a
     × (call.sink_before.room ≤ call.sink_now.room + length a.text) × (call.sink_now.faults ≡ call.sink_before.faults)
 
--- What was replied went out whole, or it did not.
+-- The reply went out whole, or it didn't.
 pub run_replied : (call : Call) (a : Answer) → IsReply (shelf_of call) call.words a
     → (Gives call a ⊎ FailsToWrite call a) → HasRoom call a → IsRun call
 run_replied call a reply out room =
@@ -454,7 +454,7 @@ run_replied call a reply out room =
     let replies : Replies call = record { reply = a; is = reply; out = out; room = room; longer = r.long } in
     elim out [ inl gives ↦ gave_run call replies r gives | inr fails ↦ cut_run call replies r fails ]
 
--- The same from what writing the text promises.
+-- The same, from what writing the text promises.
 pub run_written : (call : Call) (a : Answer) → IsReply (shelf_of call) call.words a → Gives call a
     → (length a.text ≤ call.sink_before.room
     → (call.sink_before.room ≤ call.sink_now.room + length a.text) × (call.sink_now.faults ≡ call.sink_before.faults)) → IsRun call

@@ -1,4 +1,4 @@
--- Laws of the work of `settle`: its status is one that is its own, and tells how the rounds ended. Where they leave nothing open there is
+-- Laws of the work of `settle`: its status is one of its own, and tells how the rounds ended. If they don't leave the set open, there is
 -- one answer.
 use Rattle.std.proofs.Common.{◌≡◌, ℕ, List, refl, sym, ◌∙◌, ap, subst, arith, inl, inr, ◌⊎◌}
 use Rattle.program_form.specs.Certificate.{CertificateDef}
@@ -37,7 +37,7 @@ well_settlement p digest set n a enough (inr (inl (steps, refused, is))) = inr (
 well_settlement p digest set n a enough (inr (inr (inl (i, here, left, is)))) = absurd (enough (inr (inl left)))
 well_settlement p digest set n a enough (inr (inr (inr (short, is)))) = absurd (enough short)
 
--- How the rounds ended that leave the set open: wide.
+-- Rounds that leave the set open end wide.
 open_ends : (f : SourceDef) (n : ℕ) → IsLeftOpen f n → (e : Ending) × (SettlingEnds f n e) × IsWideEnding e
 open_ends f n (inl (i, ends)) = (Wide i, inl ends, (i, refl))
 open_ends f n (inr (late, (i, ends))) = (Wide i, inr (late, ends), (i, refl))
@@ -67,22 +67,22 @@ short_settlement p digest set n a (inr (inr (inr (short, is)))) six = short_ends
 
 -- ---- one answer
 
--- What is answered where the rounds of refusals of a set that isn't shown end so, and not wide.
+-- The answer for a set that isn't shown, if the rounds of refusals end in this way, and not wide.
 abbrev late_answer : ProtocolName → List ℕ → Ending → List StepDef → Answer
 late_answer p digest (Schedulable bounds points) steps = short_answer
 late_answer p digest (NotShown i value) steps = refused_answer p digest steps
 late_answer p digest (Wide i) steps = short_answer
 late_answer p digest Allowance steps = short_answer
 
--- Did the analysis end otherwise than at a task that isn't shown?
+-- Did the analysis end in another way than at a task that isn't shown?
 abbrev IsNotLate : Ending → Type 0
 IsNotLate (Schedulable bounds duals) = Unit {0}
 IsNotLate (NotShown i value) = ⊥
 IsNotLate (Wide i) = Unit {0}
 IsNotLate Allowance = Unit {0}
 
--- The answer where the rounds don't leave the set open: that of the analysis; or, of a set that it doesn't show, that of the rounds of
--- refusals.
+-- The answer if the rounds don't leave the set open. It is that of the analysis. Or, for a set that the analysis doesn't show, it is that
+-- of the rounds of refusals.
 abbrev IsClosed : ProtocolName → List ℕ → SetDef → ℕ → Answer → Type 0
 IsClosed p digest set n a =
     ((e : Ending) × (EndsIn (rounds_of (source_of p set)) n e) × (IsNotLate e) × (a ≡ ending_answer p digest set e))

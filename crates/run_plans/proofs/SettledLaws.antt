@@ -35,7 +35,7 @@ use Rattle.run_plans.proofs.SoundLaws.{accepted_of}
 use Rattle.run_plans.proofs.SetTextLaws.{told_reads}
 use Rattle.run_plans.proofs.ShownLaws.{some_read}
 
--- What a settlement with status 0 is: the text of a certificate with proved bounds.
+-- A settlement with status 0 is the text of a certificate with proved bounds.
 pub record SettledSo (p : ProtocolName) (digest : List ℕ) (set : SetDef) (a : Answer) : Type 0 where
   pub certificate : CertificateDef
   pub proved : IsProvedLeast (source_of p set) certificate
@@ -52,7 +52,7 @@ settled_at_zero p digest set n a (inr (inr (inl (i, here, left, is)))) zero =
 settled_at_zero p digest set n a (inr (inr (inr (short, is)))) zero =
     (let s : a.status ≡ 6 = ap (λ x. x.status) is in absurd (omega (arith, s, zero)))
 
--- And with status 1: the text of a refusal that holds.
+-- With status 1 it is the text of a refusal that holds.
 pub record RefusedWith (p : ProtocolName) (digest : List ℕ) (set : SetDef) (n : ℕ) (a : Answer) : Type 0 where
   pub steps : List StepDef
   pub so : IsRefusedBy (source_of p set) n steps
@@ -69,7 +69,7 @@ refused_at_one p digest set n a (inr (inr (inl (i, here, left, is)))) one =
 refused_at_one p digest set n a (inr (inr (inr (short, is)))) one =
     (let s : a.status ≡ 6 = ap (λ x. x.status) is in absurd (omega (arith, s, one)))
 
--- The set that an outcome of `settle` is of.
+-- The set of an outcome of `settle`.
 pub record SettledSet (known : Known) (p : ProtocolName) (name : List ℕ) (n : ℕ) (a : Answer) : Type 0 where
   pub bytes : List ℕ
   pub set : SetDef
@@ -84,7 +84,7 @@ settled_set known p name n a (inl stopped) most = absurd (omega (arith, stopped_
 settled_set known p name n a (inr (bytes, set, read, last, (is, asked))) most =
     record { bytes = bytes; set = set; read = read; last = last tt; asked = asked; settles = is }
 
--- What the outcome of `settle` with status 0 is.
+-- The outcome of `settle` with status 0.
 pub record WroteSettled (known : Known) (p : ProtocolName) (name : List ℕ) (a : Answer) : Type 0 where
   pub bytes : List ℕ
   pub set : SetDef
@@ -106,7 +106,7 @@ wrote_settled known p name n a out zero =
       so = settled_at_zero p (sha256 s.bytes) s.set n a s.settles zero;
     }
 
--- And with status 1.
+-- The outcome of `settle` with status 1.
 pub record WroteRefused (known : Known) (p : ProtocolName) (name : List ℕ) (n : ℕ) (a : Answer) : Type 0 where
   pub bytes : List ℕ
   pub set : SetDef
@@ -168,9 +168,9 @@ proved_settled_refusal call p name n a out gives one =
       none = λ s fits. named_none_fits p w.set w.so.steps s w.so.so.holds fits;
     }
 
--- ---- status 0 comes exactly where some bounds fit
+-- ---- status 0 comes if some bounds fit, and only then
 
--- What a call that settles a set answers, where it gives its outcome.
+-- The answer of a call that settles a set, if the call gives its outcome.
 settles_so : (call : Call) (p : ProtocolName) (set : SetDef) (settles : Settles call p set) (a : Answer)
     → IsOutcome settles.inputs call.words a → IsSettlement p (sha256 settles.read.bytes) set settles.allowance a
 settles_so call p set settles a out =

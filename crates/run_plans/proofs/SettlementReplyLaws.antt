@@ -1,4 +1,4 @@
--- What is replied to `settle`, from what came of it.
+-- The reply to `settle`, from its result.
 use Rattle.std.proofs.Common.{ℕ, List, arith, inl, inr, ◌⊎◌, Ok, Err}
 use Rattle.std.specs.Prelude.{Result, IfOk, slice_index_or}
 use Rattle.program_form.specs.Certificate.{certificate_seen}

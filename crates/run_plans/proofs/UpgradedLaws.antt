@@ -23,7 +23,7 @@ use Rattle.run_plans.proofs.PlanLaws.{stopped_not_zero}
 use Rattle.run_plans.proofs.SoundLaws.{accepted_of, valid_at_zero}
 use Rattle.run_plans.proofs.ShownLaws.{some_read}
 
--- What the outcome of `upgrade` with status 0 is: the text of the certificate that was read, which is valid.
+-- The outcome of `upgrade` with status 0 is the text of the certificate that was read, which is valid.
 pub record WroteUpgraded (known : Known) (protocol : ProtocolName) (name cert : List ℕ) (a : Answer) : Type 0 where
   pub bytes : List ℕ
   pub set : SetDef

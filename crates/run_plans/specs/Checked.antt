@@ -14,8 +14,8 @@ use Rattle.run_plans.specs.Headline.{Call, HasInputs, RanOut, ReadsSome}
 use Rattle.run_plans.specs.Run.{Gives}
 
 -- Does the second call read what the first one wrote? The first writes to a sink that tells its bytes, and ends with this status. The
--- second has these words of a set and a file, for the same protocol. There the set's name has the same bytes, and the file's name those
--- that the first call wrote. Each call has its inputs.
+-- second has these words, with a set and a file, for the same protocol. In its inputs the set's name has the same bytes, and the file's
+-- name has those that the first call wrote. Each call has its inputs.
 pub record ReadsWhatWasWritten (first second : Call) (status : ℕ) (words : ProtocolName → List ℕ → List ℕ → List (List ℕ))
     (protocol : ProtocolName) (set : List ℕ) : Type 0 where
   pub inputs : Inputs
@@ -41,7 +41,7 @@ pub record ChecksWhatWasWritten (first second : Call) : Type 0 where
   pub analyses : first.words ≡ analyse_words protocol set more
   pub after : ReadsWhatWasWritten first second 0 check_words protocol set
 
--- The same where the first one settled a set.
+-- The same if the first call settled a set.
 pub record ChecksWhatWasSettled (first second : Call) : Type 0 where
   pub protocol : ProtocolName
   pub set : List ℕ
@@ -49,7 +49,7 @@ pub record ChecksWhatWasSettled (first second : Call) : Type 0 where
   pub settles : first.words ≡ settle_words protocol set more
   pub after : ReadsWhatWasWritten first second 0 check_words protocol set
 
--- The same where the first one upgraded a certificate.
+-- The same if the first call upgraded a certificate.
 pub record ChecksWhatWasUpgraded (first second : Call) : Type 0 where
   pub protocol : ProtocolName
   pub set : List ℕ
@@ -57,7 +57,7 @@ pub record ChecksWhatWasUpgraded (first second : Call) : Type 0 where
   pub upgrades : first.words ≡ upgrade_words protocol set old
   pub after : ReadsWhatWasWritten first second 0 check_words protocol set
 
--- Does the second call check what a call of `analyse` wrote, for a set of other bytes of another digest? All else is as above, and the
+-- Does the second call check what a call of `analyse` wrote, for a set of other bytes with another digest? The rest is as above, and the
 -- second set is accepted too.
 pub record ChecksForAnotherSet (first second : Call) : Type 0 where
   pub protocol : ProtocolName
@@ -84,7 +84,7 @@ pub record ChecksForAnotherSet (first second : Call) : Type 0 where
   pub apart : sha256 read.bytes ≢ sha256 bytes
   pub text_again : bytes_of later certificate ≡ Some text
 
--- The call gives this answer; or a count of faults rose, with status 4; or memory ran out.
+-- The call gives this answer. Or a count of faults rose, with status 4. Or memory ran out.
 abbrev pub Finds : Call → Answer → Type 0
 Finds call answer = Gives call answer
     ⊎ (((call.status ≡ 4) × (Rose call.shelf_before.faults call.shelf_now.faults ⊎ Rose call.sink_before.faults call.sink_now.faults)) ⊎ RanOut call)

@@ -15,7 +15,7 @@ pub record ConfirmsWhatWasWritten (first second : Call) : Type 0 where
   pub refutes : first.words ≡ refute_words protocol set more
   pub after : ReadsWhatWasWritten first second 0 confirm_words protocol set
 
--- The same where the first one settled a set, with status 1.
+-- The same if the first call settled a set, with status 1.
 pub record ConfirmsWhatWasSettled (first second : Call) : Type 0 where
   pub protocol : ProtocolName
   pub set : List ℕ

@@ -1,4 +1,4 @@
--- What `settle` says: with status 0 here are the least bounds, proved, and with status 1 nothing fits, and here is why.
+-- What `settle` says. With status 0: these are the least bounds, proved. With status 1: nothing fits, and this is why.
 use Rattle.std.specs.Prelude.{◌≡◌, ◌≢◌, ℕ, ◌↔◌, List, [], ◌∷◌, length, Some}
 use Rattle.std.specs.Io.KnownBytes.{Appends}
 use Rattle.outside_ports.specs.Counts.{Rose}
@@ -19,7 +19,7 @@ use Rattle.run_plans.specs.Headline.{Call, Asks, HasInputs, RanOut, ReadsSome}
 use Rattle.run_plans.specs.Refused.{IsProvedRefutation}
 
 -- The call writes the text of a valid certificate for the set of this digest. Its bounds are the least within all deadlines that satisfy
--- the recurrence. And they are sound with the values of its duals: every lawful schedule keeps them.
+-- the recurrence. They are sound with the values of its duals: every lawful schedule keeps them.
 pub record WritesLeast (call : Call) (protocol : ProtocolName) (digest : List ℕ) (set : SetDef) : Type 0 where
   pub certificate : CertificateDef
   pub done : call.status ≡ 0
@@ -28,8 +28,8 @@ pub record WritesLeast (call : Call) (protocol : ProtocolName) (digest : List �
   pub valid : IsValid (source_of protocol set) certificate
   pub sound : (values : List ℕ) → AreValues (source_of protocol set) certificate values → SoundUnder protocol set certificate.bounds values
 
--- What status 0 says of words of `settle`, whatever the shelf tells: the call asked for the set alone, and of the set whose text are the
--- very bytes that the shelf gave it writes such a certificate.
+-- What status 0 of words of `settle` says, whatever the shelf tells. The call asked for the set alone. The bytes that the shelf gave are
+-- the text of the set. For this set the call writes such a certificate.
 pub record IsProvedSettlement (call : Call) (protocol : ProtocolName) (name : List ℕ) : Type 0 where
   pub set : SetDef
   pub read : ReadsSome call protocol name set
@@ -37,8 +37,8 @@ pub record IsProvedSettlement (call : Call) (protocol : ProtocolName) (name : Li
   pub given : length read.bytes ≡ call.shelf_now.given
   pub writes : WritesLeast call protocol (sha256 read.bytes) set
 
--- The call settles the set: its words are those of `settle`, with an allowance or none, and the bytes of the name, among the call's
--- inputs, are the set.
+-- The call settles the set. Its words are those of `settle`, with an allowance or none. Among the call's inputs, the bytes of the name are
+-- the text of the set.
 pub record Settles (call : Call) (protocol : ProtocolName) (set : SetDef) : Type 0 where
   pub inputs : Inputs
   pub name : List ℕ
@@ -50,7 +50,7 @@ pub record Settles (call : Call) (protocol : ProtocolName) (set : SetDef) : Type
   pub read : ReadsSome call protocol name set
   pub named_set : bytes_of inputs name ≡ Some read.bytes
 
--- The call writes such a certificate exactly where some bounds within all deadlines satisfy the recurrence. Its premises: no count of
+-- The call writes such a certificate if some bounds within all deadlines satisfy the recurrence, and only then. Its premises: no count of
 -- faults rose in the call, memory didn't run out, and the status isn't 5 or 6.
 abbrev pub SettlesExactly : Call → ProtocolName → List ℕ → SetDef → Type 0
 SettlesExactly call protocol digest set = (Rose call.shelf_before.faults call.shelf_now.faults → ⊥)

@@ -11,7 +11,7 @@ use Rattle.settling.specs.declared.answer.SettleStop.TheVariants as stop
 use Rattle.command_inputs.specs.Known.{Answer}
 use Rattle.run_plans.specs.Settling.{settled_answer, refused_answer, unsettled_answer, short_answer}
 
--- Is this the answer to `settle` where this came of it? Want of memory has none.
+-- Is this the answer to `settle` with this result? Running out of memory has none.
 abbrev pub RepliesToSettling : ProtocolName → List ℕ → SetDef → Result Settled SettleStop → Answer → Type 0
 RepliesToSettling protocol digest set (Ok (settled.Schedulable certificate)) answer =
     answer ≡ settled_answer protocol digest (certificate_seen certificate)

@@ -31,15 +31,15 @@ abbrev pub AreStepsOfRounds : SourceDef → ℕ → List StepDef → Type 0
 AreStepsOfRounds f allowance steps = (i : ℕ) × (value : ℕ) × (ends : EndsIn (refuting f) allowance (NotShown i value))
     × (steps ≡ refusal_of (refuting f) allowance (NotShown i value) ends)
 
--- Does the refusal settle the set? It holds, and can be written. Its steps are those of the rounds of refusals where the analysis
--- doesn't show the set, unless the rounds leave the set open.
+-- Does the refusal settle the set? It holds, and can be written. Its steps are those of the rounds of refusals, and the analysis doesn't
+-- show the set. Or the rounds leave the set open.
 pub record IsRefusedBy (f : SourceDef) (allowance : ℕ) (steps : List StepDef) : Type 0 where
   pub holds : Holds f steps
   pub writable : IsWritable steps
   pub from : ((IsNotShown f allowance) × AreStepsOfRounds f allowance steps) ⊎ IsLeftOpen f allowance
 
--- May so many units be too few? The analysis wants more, or the rounds of refusals of a set that it doesn't show; or these leave the
--- set open, and the search wants more.
+-- May so many units be too few? The analysis wants more, or the rounds of refusals do, for a set that it doesn't show. Or the rounds leave
+-- the set open, and the search wants more.
 abbrev pub MayWantMore : SourceDef → ℕ → Type 0
 MayWantMore f allowance = (EndsIn (rounds_of f) allowance Allowance)
     ⊎ ((IsLeftOpen f allowance) ⊎ ((IsNotShown f allowance) × EndsIn (refuting f) allowance Allowance))
@@ -51,7 +51,7 @@ settled_answer protocol digest c = record { status = 0; text = certificate_text 
 abbrev pub refused_answer : ProtocolName → List ℕ → List StepDef → Answer
 refused_answer protocol digest steps = record { status = 1; text = refusal_text (word_of protocol) digest steps }
 
--- What goes out where a task's program isn't settled, and where units ran out.
+-- What goes out if a task's program isn't settled, and if units ran out.
 abbrev pub unsettled_answer : SetDef → ℕ → Answer
 unsettled_answer set i = record { status = 5; text = wide_text (task_at set i).name }
 
@@ -66,8 +66,8 @@ IsSettlement protocol digest set allowance answer =
     ⊎ (((i : ℕ) × (i < length set.tasks) × (IsLeftOpen (source_of protocol set) allowance) × (answer ≡ unsettled_answer set i))
     ⊎ ((MayWantMore (source_of protocol set) allowance) × (answer ≡ short_answer))))
 
--- It has status 0 or 1 where neither units nor numbers run out. Where the rounds leave nothing open there is one answer. Else there may
--- be several: any valid certificate of the least bounds, or any refusal that holds.
+-- It has status 0 or 1 if neither units nor numbers run out. If the rounds don't leave the set open, there is one answer. If they do, there
+-- may be several: any valid certificate of the least bounds, or any refusal that holds.
 abbrev pub settlement_of : ProtocolName → List ℕ → SetDef → ℕ → Work
 settlement_of protocol digest set allowance = record {
   answers = IsSettlement protocol digest set allowance;
@@ -75,6 +75,6 @@ settlement_of protocol digest set allowance = record {
   one = IsLeftOpen (source_of protocol set) allowance → ⊥;
 }
 
--- How did rounds of `settle` end: those of the analysis, or those of refusals where the analysis doesn't show the set?
+-- How did rounds of `settle` end: those of the analysis, or those of refusals if the analysis doesn't show the set?
 abbrev pub SettlingEnds : SourceDef → ℕ → Ending → Type 0
 SettlingEnds f allowance e = (EndsIn (rounds_of f) allowance e) ⊎ ((IsNotShown f allowance) × EndsIn (refuting f) allowance e)

@@ -16,8 +16,9 @@ use Rattle.cert_json.specs.Text.{certificate_text}
 use Rattle.command_inputs.specs.Inputs.{old_cert_input}
 use Rattle.run_plans.specs.Headline.{Call, Asks, ReadsSome}
 
--- The call asked for a set and then for a certificate of the version before, and for nothing else. Of the very bytes that the shelf gave
--- it writes this certificate, which is valid, with the digest of the set's bytes. So its bounds and the values of its duals are sound.
+-- The call asked for a set and then for a certificate of the version before, and for nothing else. Both are read from the bytes that the
+-- shelf gave. The call writes this certificate, which is valid, with the digest of the set's bytes. So its bounds and the values of its
+-- duals are sound.
 pub record IsProvedUpgrade (call : Call) (protocol : ProtocolName) (name cert : List ℕ) : Type 0 where
   pub set : SetDef
   pub read : ReadsSome call protocol name set
