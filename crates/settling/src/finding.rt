@@ -35,7 +35,7 @@ fn wholes_of(alloc: Global, numbers: &[u64]) -> Result<Vec<Whole>, AllocError> {
     Ok(wholes)
 }
 
-/// The same with its point rounded down. None where no such point has 63 bits.
+/// The same with its point rounded down. None if no such point has 63 bits.
 fn with_rounded_point(
     alloc: Global,
     program: &SparseProgram,
@@ -54,7 +54,7 @@ fn with_rounded_point(
     }))
 }
 
-/// What the search finds of the program, with its point written so.
+/// What the search finds of the program, with its point written in this way.
 pub(crate) fn find<S: Search>(
     alloc: Global,
     search: &S,
