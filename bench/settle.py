@@ -48,6 +48,7 @@ MOST_TASKS = 64
 # so many sets are drawn at most to find a wide one
 MOST_DRAWN = 50
 MOST_BYTES = 67_108_864
+ENDS = {Status.DONE: "schedulable", Status.NO: "not shown", Status.WIDE: "wide", Status.ALLOWANCE: "allowance"}
 WORDS = tuple(word for word in PROTOCOLS if not word.endswith("-c"))
 
 
@@ -155,15 +156,15 @@ def share(part, whole):
 def time_lines(program, given, draw):
     """The first part: what `settle` costs where `analyse` has an answer."""
     found = {Status.DONE: [], Status.NO: []}
-    for _ in range(given.sets):
-        program.put(light(given.tasks, MICROSECOND, draw))
-        for word in given.words:
-            analysed, settled = program.least("analyse", word), program.least("settle", word)
-            if analysed.status == Status.DONE and settled.text != analysed.text:
-                raise Stop(f"settle {word} writes other bytes than analyse", Status.LACKING)
-            if analysed.is_answer():
-                refuting = program.least("refute", word).seconds if analysed.status == Status.NO else 0.0
-                found[analysed.status].append((settled.seconds, analysed.seconds, refuting))
+    sets = [drawn(given.tasks, MICROSECOND, draw) for drawn in KINDS.values() for _ in range(given.sets)]
+    for parts, word in itertools.product(sets, given.words):
+        program.put(parts)
+        analysed, settled = program.least("analyse", word), program.least("settle", word)
+        if analysed.status == Status.DONE and settled.text != analysed.text:
+            raise Stop(f"settle {word} writes other bytes than analyse", Status.LACKING)
+        if analysed.is_answer():
+            refuting = program.least("refute", word).seconds if analysed.status == Status.NO else 0.0
+            found[analysed.status].append((settled.seconds, analysed.seconds, refuting))
     for status, named in ((Status.DONE, "schedulable"), (Status.NO, "not shown")):
         own, other, refuting = (sum(one[k] for one in found[status]) for k in range(3))
         beside = f"analyse {other:.2f} s, {share(own, other)} times" if status == Status.DONE else f"analyse and refute {other + refuting:.2f} s, {share(own, other + refuting)} times"
@@ -205,19 +206,23 @@ def wide_set(program, word, draw):
     return None, MOST_DRAWN
 
 
+def wide_lines_of(program, given, word, solvers, draw):
+    """The lines of wide sets under a word."""
+    for _ in range(given.sets):
+        parts, count = wide_set(program, word, draw)
+        if parts is None:
+            yield f"wide: {word}: none of {count} sets"
+            return
+        ran = program.settled(word)
+        others = [beside(name, solver, parts, word, ran, given.limit) for name, solver in solvers.items() if solver]
+        yield "; ".join([f"wide: {word}, set {count} of those drawn: {ENDS.get(ran.status, ran.status)}, {ran.seconds:.2f} s, {ran.memory:.0f} MiB", *others])
+
+
 def wide_lines(program, given, draw):
     """The second part: wide sets at the limits."""
     solvers = {"GLPK in floats": alone_in(program.folder), "QSopt_ex": exact_in(program.folder)}
     for word in given.words:
-        for _ in range(given.sets):
-            parts, count = wide_set(program, word, draw)
-            if parts is None:
-                yield f"wide: {word}: none of {count} sets"
-                break
-            ran = program.settled(word)
-            said = {Status.DONE: "schedulable", Status.NO: "not shown", Status.WIDE: "wide", Status.ALLOWANCE: "allowance"}.get(ran.status, f"status {ran.status}")
-            others = [beside(name, solver, parts, word, ran, given.limit) for name, solver in solvers.items() if solver]
-            yield "; ".join([f"wide: {word}, set {count} of those drawn: {said}, {ran.seconds:.2f} s, {ran.memory:.0f} MiB", *others])
+        yield from wide_lines_of(program, given, word, solvers, draw)
     if solvers["GLPK in floats"]:
         solvers["GLPK in floats"].end()
 
