@@ -1,10 +1,9 @@
--- What answers of settling mean, from how they were found.
-use Rattle.std.proofs.Common.{◌≡◌, ℕ, ◌<◌, List, length, map, Ok, Err, IfOk, inl, inr, subst}
+-- What answers of settling mean, from where they come.
+use Rattle.std.proofs.Common.{◌≡◌, ℕ, ◌<◌, List, map, Ok, Err, IfOk, inl, inr, subst}
 use Rattle.std.specs.Prelude.{◌↔◌, Bool, Result}
 use Rattle.program_form.specs.Certificate.{CertificateDef, dual_seen, certificate_seen}
 use Rattle.program_sources.specs.Recurrence.{SourceDef}
-use Rattle.program_sources.specs.Fitting.{AreFitting}
-use Rattle.refusal_laws.specs.Seen.{steps_seen}
+use Rattle.program_sources.specs.Fitting.{AreFitting, tasks_of}
 use Rattle.response_fixpoint.specs.Answers.{Answers, IsBest}
 use Rattle.response_fixpoint.specs.Rounds.{Ending, Schedulable, NotShown, Wide, Allowance, EndsIn}
 use Rattle.response_fixpoint.specs.Runs.{rounds_of}
@@ -115,6 +114,12 @@ pub wide_analysis_of : (f : SourceDef) (allowance : ℕ) (r : Result Verdict Sto
     → Answers r f allowance → r ≡ Err e → e ≡ analysis_stop.Wide task → EndsIn (rounds_of f) allowance (Wide task.0)
 wide_analysis_of f allowance r e task answers is same =
     subst (λ (x : Stop). Answers (Err x) f allowance) same (subst (λ (x : Result Verdict Stop). Answers x f allowance) is answers)
+
+pub wide_within : (f : SourceDef) (allowance i : ℕ) → EndsIn (rounds_of f) allowance (Wide i) → i < tasks_of f
+wide_within f allowance i (r, left, found, here, comes, run) = here
+
+pub wide_refutation_within : (f : SourceDef) (allowance i : ℕ) → EndsIn (refuting f) allowance (Wide i) → i < tasks_of f
+wide_refutation_within f allowance i (r, left, found, here, comes, run) = here
 
 pub refused_of : (f : SourceDef) (allowance : ℕ) (r : Result Answer RefuteStop) (v : Answer) (refusal : Refusal)
     → Refutes r f allowance → IfOk r (λ a. IsRightRefutation a f) → r ≡ Ok v → v ≡ refutation.Refused refusal

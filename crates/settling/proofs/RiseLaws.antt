@@ -1,16 +1,19 @@
 -- How the bounds of a walk stay in their range, rise, and stay at most every fitting vector.
 use Rattle.std.proofs.Common.{◌≡◌, ◌∙◌, ℕ, ◌+◌, ◌<◌, ◌≤◌, List, [], ◌∷◌, ◌++◌, length, get_or, refl, sym, subst, arith, inl, inr}
-use Rattle.std.specs.Prelude.{slice_index, slice_get, Some}
+use Rattle.std.specs.Prelude.{slice_index, slice_get, Some, Err}
 use Rattle.std.proofs.lemmas.Bool.{cases_lt}
 use Rattle.std.proofs.lemmas.List.{get_or_append_left, get_or_push}
 use Rattle.std.proofs.lemmas.Option.{slice_get_within, slice_get_read}
-use Rattle.sporadic_model.specs.SetDef.{task_at}
 use Rattle.program_form.specs.Points.{Reaches}
 use Rattle.program_sources.specs.Bounds.{AtMost, IsInRange}
 use Rattle.program_sources.specs.Recurrence.{SourceDef, response_with}
 use Rattle.program_sources.specs.Fitting.{AreFitting, AreBelowAllFitting, tasks_of}
 use Rattle.response_fixpoint.proofs.PlaceLaws.{each_more, each_none}
-use Rattle.settling.specs.Rising.{IsReached, AreReached, IsNextBound, AreNextBounds}
+use Rattle.program_form.specs.Certificate.{CertificateDef}
+use Rattle.schedule_answers.specs.declared.checked.Invalid.{Invalid}
+use Rattle.schedule_answers.specs.declared.checked.Invalid.TheVariants as invalid
+use Rattle.dual_check.specs.Answers.{Judges}
+use Rattle.settling.specs.Rising.{IsReached, AreReached, IsNextBound, AreNextBounds, IsWithin}
 use Rattle.settling.specs.declared.reached.Reached.{Reached}
 
 -- What the laws of least bounds say of a source. If bounds are at most every fitting vector, so are the responses that are reached at them.
@@ -91,6 +94,15 @@ one_more_bound f v next i b size before here k below = elim (cases_lt k i) [
       let same : slice_index (next ++ b ∷ []) k ≡ b = get_or_push next b 0 k (size ∙ last) in
       subst (λ (n : ℕ). IsNextBound f v k n) (sym same) (subst (λ (j : ℕ). IsNextBound f v j b) last here)
 ]
+
+-- The task that the failure of a certificate names.
+pub named_within : (f : SourceDef) (c : CertificateDef) (e : Invalid) → Judges (Err e) f c → IsWithin f.set e
+named_within f c invalid.Size fails = tt
+named_within f c (invalid.Bound i) (before, first) = first.below
+named_within f c (invalid.DualSize i) (before, first) = first.below
+named_within f c (invalid.Cover i k) (before, first, column) = first.below
+named_within f c (invalid.Small i) (before, first) = first.below
+named_within f c invalid.Memory fails = tt
 
 -- A walk that has come to the next bounds.
 pub goes_on : (f : SourceDef) (v next : List ℕ) (reached : List Reached) → RespondsBelow f → StaysReached f → AreNextBounds f v next

@@ -1,8 +1,7 @@
 -- What the answers of settling mean.
 use Rattle.std.specs.Prelude.{◌≡◌, ◌⊎◌, ℕ, ◌<◌, ◌≤◌, ◌^◌, Bool, List, All, length, map, Result, Ok, Err, IfOk}
-use Rattle.program_form.specs.Certificate.{DualDef, dual_seen, certificate_seen}
+use Rattle.program_form.specs.Certificate.{dual_seen, certificate_seen}
 use Rattle.sporadic_model.specs.SetDef.{SetDef}
-use Rattle.sporadic_model.specs.declared.ids.TaskId.{TaskId}
 use Rattle.schedule_model.specs.RowDef.{Trace}
 use Rattle.schedule_model.specs.declared.rule.Rule.{Rule}
 use Rattle.program_sources.specs.Recurrence.{SourceDef}
@@ -11,13 +10,12 @@ use Rattle.soundness_laws.specs.Sound.{Sound}
 use Rattle.soundness_laws.specs.Analyses.{AreValues}
 use Rattle.refusal_laws.specs.Steps.{StepDef, Holds, step_at}
 use Rattle.refusal_laws.specs.Seen.{steps_seen}
-use Rattle.response_fixpoint.specs.Answers.{Answers, IsSmallDual}
+use Rattle.response_fixpoint.specs.Answers.{IsSmallDual}
 use Rattle.response_fixpoint.specs.Rounds.{Ending, Schedulable, NotShown, Wide, Allowance, EndsIn}
 use Rattle.response_fixpoint.specs.Runs.{rounds_of}
 use Rattle.refusal_cert.specs.Refuting.{refuting}
 use Rattle.refusal_cert.specs.Answers.{Refutes}
 use Rattle.refusal_cert.specs.declared.answer.Answer.TheVariants as refutation
-use Rattle.refusal_laws.specs.declared.refusal.Refusal.{Refusal}
 use Rattle.settling.specs.Rising.{IsProvedLeast}
 use Rattle.settling.specs.declared.answer.Settled.{Settled}
 use Rattle.settling.specs.declared.answer.Settled.TheVariants as settled
@@ -39,7 +37,15 @@ pub record IsSmallStep (step : StepDef) : Type 0 where
 abbrev pub HasSmallSteps : List StepDef → Type 0
 HasSmallSteps steps = All IsSmallStep steps
 
--- Does a refusal that is answered have only such steps?
+-- The same of tasks and values alone.
+abbrev pub Has64Bits : List StepDef → Type 0
+Has64Bits steps = (k : ℕ) → k < length steps → ((step_at steps k).task < 2 ^ 64) × ((step_at steps k).value < 2 ^ 64)
+
+abbrev pub RefusesIn64Bits : Settled → Type 0
+RefusesIn64Bits (settled.Schedulable certificate) = Unit {0}
+RefusesIn64Bits (settled.Refused refusal) = Has64Bits (steps_seen refusal)
+
+-- Has a refusal that is answered only small steps?
 abbrev pub RefusesBySmallSteps : Settled → Type 0
 RefusesBySmallSteps (settled.Schedulable certificate) = Unit {0}
 RefusesBySmallSteps (settled.Refused refusal) = HasSmallSteps (steps_seen refusal)
@@ -54,7 +60,7 @@ abbrev pub NamesTask : SetDef → Result Settled SettleStop → Type 0
 NamesTask set (Ok settled) = Unit {0}
 NamesTask set (Err stop) = StopsWithin set stop
 
--- Is the answer right? The bounds are the least that fit, with a valid certificate. Or the refusal holds, so that nothing fits.
+-- Is the answer right: are the bounds the least that fit, with a valid certificate, or does the refusal hold, so that nothing fits?
 abbrev pub IsRight : Settled → SourceDef → Type 0
 IsRight (settled.Schedulable certificate) f = IsProvedLeast f (certificate_seen certificate)
 IsRight (settled.Refused refusal) f = (Holds f (steps_seen refusal)) × ((s : List ℕ) → AreFitting f s → ⊥)

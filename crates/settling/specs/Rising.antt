@@ -8,6 +8,9 @@ use Rattle.program_sources.specs.Valid.{IsValid, dual_at}
 use Rattle.response_fixpoint.specs.Answers.{IsSmallDual}
 use Rattle.response_fixpoint.specs.Places.{AreEach}
 use Rattle.program_form.specs.declared.certificate.Dual.{Dual}
+use Rattle.sporadic_model.specs.SetDef.{SetDef}
+use Rattle.schedule_answers.specs.declared.checked.Invalid.{Invalid}
+use Rattle.schedule_answers.specs.declared.checked.Invalid.TheVariants as invalid
 use Rattle.settling.specs.declared.reached.Reached.{Reached}
 use Rattle.settling.specs.declared.rising.Risen.{Risen}
 use Rattle.settling.specs.declared.rising.Risen.TheVariants as risen
@@ -37,6 +40,15 @@ pub record AreNextBounds (f : SourceDef) (v next : List ℕ) : Type 0 where
 -- Does dual i of a list have a denominator of at least 1, and are its numbers below 2^63?
 abbrev pub IsUsable : List Dual → ℕ → Type 0
 IsUsable duals i = (1 ≤ (dual_at (map dual_seen duals) i).den) × IsSmallDual (dual_at (map dual_seen duals) i)
+
+-- Does the failure of a certificate name a task of the set, where it names one?
+abbrev pub IsWithin : SetDef → Invalid → Type 0
+IsWithin set invalid.Size = Unit {0}
+IsWithin set (invalid.Bound task) = task.0 < length set.tasks
+IsWithin set (invalid.DualSize task) = task.0 < length set.tasks
+IsWithin set (invalid.Cover task column) = task.0 < length set.tasks
+IsWithin set (invalid.Small task) = task.0 < length set.tasks
+IsWithin set invalid.Memory = Unit {0}
 
 -- Are the certificate's bounds the least that fit, is it valid, and are its duals small?
 pub record IsProvedLeast (f : SourceDef) (c : CertificateDef) : Type 0 where

@@ -1,11 +1,12 @@
 //! Certificates of bounds that are at most every fitting vector. None is answered without its check.
 
-ghost use Rattle.std.specs.Prelude.{◌≡◌, ℕ, ◌<◌, ◌≤◌, ◌^◌, length, None, IfOk, IsTrue};
+ghost use Rattle.std.specs.Prelude.{◌≡◌, ℕ, ◌<◌, ◌≤◌, ◌^◌, length, None, IfOk, IfErr, IfSome, IsTrue};
 ghost use Rattle.program_form.specs.Certificate.{dual_seen, certificate_seen};
 ghost use Rattle.program_sources.specs.Recurrence.{source_at};
 ghost use Rattle.program_sources.specs.Fitting.{AreBelowAllFitting};
 ghost use Rattle.response_fixpoint.specs.Answers.{IsSmallDual};
-ghost use Rattle.settling.specs.Rising.{IsProvedLeast, IsUsable};
+ghost use Rattle.settling.specs.Answers.{StopsWithin};
+ghost use Rattle.settling.specs.Rising.{IsProvedLeast, IsUsable, IsWithin};
 
 use crate::answer::SettleStop;
 use crate::reached::Reached;
@@ -27,7 +28,8 @@ pub(crate) fn is_small(dual: &Dual) -> bool
 /// The first dual that isn't small.
 fn first_large(duals: &[Dual]) -> Option<u32>
     requires { length duals.now < 2 ^ 32 }
-    ensures { result ≡ None → (i : ℕ) → i < length duals.now → IsUsable duals.now i }
+    ensures usable { result ≡ None → (i : ℕ) → i < length duals.now → IsUsable duals.now i }
+    ensures within { IfSome result (λ i. i < length duals.now) }
 {
     for i in 0..duals.len() {
         if !is_small(&duals[i]) {
@@ -49,8 +51,13 @@ fn duals_of(alloc: Global, reached: Vec<Reached>) -> Result<Vec<Dual>, AllocErro
     Ok(duals)
 }
 
-/// Why settling stops if a certificate isn't valid.
-fn stop_at(invalid: Invalid) -> SettleStop {
+/// Why settling stops where a certificate isn't valid.
+fn stop_at(set: &TaskSet, invalid: Invalid) -> SettleStop
+    requires { IsWithin set.now invalid }
+    ensures { StopsWithin set.now result }
+{
+    // a set has a task
+    let _tasks = set.tasks();
     match invalid {
         Invalid::Size => SettleStop::Wide(TaskId(0)),
         Invalid::Bound(task)
@@ -71,9 +78,12 @@ pub(crate) fn certificate_of<P: ProgramSource>(
 ) -> Result<Certificate, SettleStop>
     requires serves { P.serves protocol.now set.now }
     requires below { AreBelowAllFitting (source_at (P.source protocol.now) set.now) bounds.items }
-    requires few { length reached.items < 2 ^ 32 }
-    ensures { IfOk result (λ c. IsProvedLeast (source_at (P.source protocol.now) set.now) (certificate_seen c)) }
+    requires one_each { length reached.items ≡ length set.now.tasks }
+    ensures least { IfOk result (λ c. IsProvedLeast (source_at (P.source protocol.now) set.now) (certificate_seen c)) }
+    ensures names { IfErr result (λ stop. StopsWithin set.now stop) }
 {
+    // a set has few tasks
+    let _tasks = set.tasks();
     a_certificate_below_all_fitting_is_least();
     let duals = duals_of(alloc, reached)?;
     if let Some(i) = first_large(&duals) {
@@ -82,6 +92,6 @@ pub(crate) fn certificate_of<P: ProgramSource>(
     let certificate = Certificate { bounds, duals };
     match judge(alloc, protocol, set, &certificate) {
         Ok(_) => Ok(certificate),
-        Err(invalid) => Err(stop_at(invalid)),
+        Err(invalid) => Err(stop_at(set, invalid)),
     }
 }

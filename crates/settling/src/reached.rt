@@ -1,8 +1,9 @@
 //! What the program of each task reaches at bounds, by points that are tested.
 
-ghost use Rattle.std.specs.Prelude.{◌≡◌, ◌<◌, ◌≤◌, ◌^◌, length, IfOk};
+ghost use Rattle.std.specs.Prelude.{◌≡◌, ◌<◌, ◌≤◌, ◌^◌, length, IfOk, IfErr};
 ghost use Rattle.program_sources.specs.Bounds.{IsInRange};
 ghost use Rattle.program_sources.specs.Recurrence.{source_at};
+ghost use Rattle.settling.specs.Answers.{StopsWithin};
 ghost use Rattle.settling.specs.Rising.{IsReached, AreReached};
 
 use crate::answer::SettleStop;
@@ -90,7 +91,8 @@ fn search_task<P: ProgramSource, S: Search>(
     requires serves { P.serves protocol.now set.now }
     requires task { i.0 < length set.now.tasks }
     requires range { IsInRange set.now bounds.now }
-    ensures { IfOk result (λ r. IsReached (source_at (P.source protocol.now) set.now) bounds.now i.0 r.ticks) }
+    ensures reached { IfOk result (λ r. IsReached (source_at (P.source protocol.now) set.now) bounds.now i.0 r.ticks) }
+    ensures names { IfErr result (λ stop. StopsWithin set.now stop) }
 {
     let program = protocol.sparse_program(alloc, set, i, bounds)?;
     let found = match find(alloc, search, points, &program, units) {
@@ -137,7 +139,8 @@ fn reach_task<P: ProgramSource, S: Search>(
     requires task { i.0 < length set.now.tasks }
     requires range { IsInRange set.now bounds.now }
     requires before { AreReached (source_at (P.source protocol.now) set.now) bounds.now before.now }
-    ensures { IfOk result (λ r. IsReached (source_at (P.source protocol.now) set.now) bounds.now i.0 r.ticks) }
+    ensures reached { IfOk result (λ r. IsReached (source_at (P.source protocol.now) set.now) bounds.now i.0 r.ticks) }
+    ensures names { IfErr result (λ stop. StopsWithin set.now stop) }
 {
     let limits = protocol.limits(alloc, set, i, bounds)?;
     if let Some(last) = before.get(i.0 as usize) {
@@ -167,6 +170,7 @@ pub(crate) fn reach_all<P: ProgramSource, S: Search>(
     requires before { AreReached (source_at (P.source protocol.now) set.now) bounds.now before.now }
     ensures each { IfOk result (λ v. AreReached (source_at (P.source protocol.now) set.now) bounds.now v.items) }
     ensures one_each { IfOk result (λ v. length v.items ≡ length set.now.tasks) }
+    ensures names { IfErr result (λ stop. StopsWithin set.now stop) }
 {
     let mut all = Vec::new(alloc);
     let mut left = units;

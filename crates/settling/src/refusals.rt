@@ -1,10 +1,10 @@
 //! Refusals by rounded points. None is answered unless it is confirmed.
 
-ghost use Rattle.std.specs.Prelude.{◌≡◌, ℕ, ◌<◌, List, IfOk, IsTrue};
+ghost use Rattle.std.specs.Prelude.{◌≡◌, ℕ, ◌<◌, ◌≤◌, List, IfOk, IsTrue, length};
 ghost use Rattle.program_form.specs.Certificate.{dual_seen};
 ghost use Rattle.program_sources.specs.Recurrence.{source_at};
 ghost use Rattle.refusal_laws.specs.Seen.{steps_seen};
-ghost use Rattle.settling.specs.Answers.{HasSmallPoints, RefusesSo};
+ghost use Rattle.settling.specs.Answers.{Has64Bits, HasSmallPoints, NamesTask, RefusesIn64Bits, RefusesSo};
 
 use crate::answer::{SettleStop, Settled};
 use crate::certificates::is_small;
@@ -13,7 +13,7 @@ use crate::rising::{Risen, rise};
 use crate::search::Search;
 use program_sources::ProgramSource;
 use refusal_confirm::{Fault, confirm, has_denominators};
-use refusal_laws::Refusal;
+use refusal_laws::{Refusal, RefusalStep};
 use sporadic_model::{TaskId, TaskSet};
 use std::alloc::Global;
 use std::thread::Threads;
@@ -30,7 +30,24 @@ fn has_small_points(refusal: &Refusal) -> bool
     true
 }
 
-/// Answers the refusal if it holds. If it doesn't, settling stops at this task.
+/// The greater of a step's task and value.
+fn greater_number(step: &RefusalStep) -> u64
+    ensures task { step.now.task ≤ result }
+    ensures value { step.now.value ≤ result }
+{
+    step.task.max(step.value)
+}
+
+/// The tasks and values of a refusal have 64 bits. This reads each, and does nothing else.
+pub(crate) fn keeps_64_bits(refusal: &Refusal)
+    ensures { Has64Bits (steps_seen refusal.now) }
+{
+    for k in 0..refusal.steps.len() {
+        let _most = greater_number(&refusal.steps[k]);
+    }
+}
+
+/// Answers the refusal, where it holds. Where it doesn't, settling stops at this task.
 pub(crate) fn answer_confirmed<R: Threads + Sync, P: ProgramSource + Sync>(
     rt: &R,
     alloc: Global,
@@ -40,11 +57,15 @@ pub(crate) fn answer_confirmed<R: Threads + Sync, P: ProgramSource + Sync>(
     task: TaskId,
 ) -> Result<Settled, SettleStop>
     requires serves { P.serves protocol.now set.now }
-    ensures { RefusesSo result (source_at (P.source protocol.now) set.now) }
+    requires task { task.0 < length set.now.tasks }
+    ensures refuses { RefusesSo result (source_at (P.source protocol.now) set.now) }
+    ensures names { NamesTask set.now result }
+    ensures bits { IfOk result (λ settled. RefusesIn64Bits settled) }
 {
     if !has_denominators(&refusal) || !has_small_points(&refusal) {
         return Err(SettleStop::Wide(task));
     }
+    keeps_64_bits(&refusal);
     match confirm(rt, alloc, set, protocol, &refusal) {
         Ok(()) => Ok(Settled::Refused(refusal)),
         Err(Fault::Memory) => Err(SettleStop::Memory),
@@ -63,7 +84,10 @@ pub(crate) fn refuse_by_rounded_points<R: Threads + Sync, P: ProgramSource + Syn
     allowance: u64,
 ) -> Result<Settled, SettleStop>
     requires serves { P.serves protocol.now set.now }
-    ensures { RefusesSo result (source_at (P.source protocol.now) set.now) }
+    requires task { task.0 < length set.now.tasks }
+    ensures refuses { RefusesSo result (source_at (P.source protocol.now) set.now) }
+    ensures names { NamesTask set.now result }
+    ensures bits { IfOk result (λ settled. RefusesIn64Bits settled) }
 {
     match rise(alloc, set, protocol, search, Points::Rounded, allowance) {
         Ok(Risen::Late(Some(refusal))) => answer_confirmed(rt, alloc, set, protocol, refusal, task),

@@ -1,14 +1,15 @@
-ghost use Rattle.std.specs.Prelude.{◌≡◌, ℕ, ◌↔◌, List, IfOk};
+ghost use Rattle.std.specs.Prelude.{◌≡◌, ℕ, ◌<◌, ◌↔◌, List, IfOk, length};
 ghost use Rattle.program_sources.specs.Recurrence.{source_at};
 ghost use Rattle.program_sources.specs.Fitting.{AreFitting};
 ghost use Rattle.response_fixpoint.specs.Rounds.{Ending, EndsIn};
 ghost use Rattle.response_fixpoint.specs.Runs.{rounds_of};
 ghost use Rattle.settling.specs.Answers.{AnswersSo, GivesRefusal, GivesWide};
-ghost use Rattle.settling.specs.Answers.{Settles, IsRight, IsSchedulable, IsSound, Keeps, NamesTask, RefusesBySmallSteps};
+ghost use Rattle.settling.specs.Answers.{Settles, IsRight, IsSchedulable, IsSound, Keeps, NamesTask};
+ghost use Rattle.settling.specs.Answers.{RefusesBySmallSteps, RefusesIn64Bits};
 
 use crate::answer::{SettleStop, Settled};
 use crate::finding::Points;
-use crate::refusals::{answer_confirmed, refuse_by_rounded_points};
+use crate::refusals::{answer_confirmed, keeps_64_bits, refuse_by_rounded_points};
 use crate::rising::{Risen, rise};
 use crate::search::{Exchanges, Search};
 use charged_protocols::{ChargedProtocol, charged_protocols_are_analysed};
@@ -32,7 +33,10 @@ fn settle_wide<R: Threads + Sync, P: ProgramSource + Sync, S: Search>(
     allowance: u64,
 ) -> Result<Settled, SettleStop>
     requires serves { P.serves protocol.now set.now }
-    ensures { GivesWide result (source_at (P.source protocol.now) set.now) }
+    requires task { task.0 < length set.now.tasks }
+    ensures gives { GivesWide result (source_at (P.source protocol.now) set.now) }
+    ensures names { NamesTask set.now result }
+    ensures bits { IfOk result (λ settled. RefusesIn64Bits settled) }
 {
     match rise(alloc, set, protocol, search, Points::Exact, allowance) {
         Ok(Risen::Least(certificate)) => Ok(Settled::Schedulable(certificate)),
@@ -55,10 +59,15 @@ fn refuse<R: Threads + Sync, P: ProgramSource + Sync, S: Search>(
 ) -> Result<Settled, SettleStop>
     requires serves { P.serves protocol.now set.now }
     requires none { (s : List ℕ) → AreFitting (source_at (P.source protocol.now) set.now) s → ⊥ }
-    ensures { GivesRefusal result (source_at (P.source protocol.now) set.now) allowance }
+    ensures gives { GivesRefusal result (source_at (P.source protocol.now) set.now) allowance }
+    ensures names { NamesTask set.now result }
+    ensures bits { IfOk result (λ settled. RefusesIn64Bits settled) }
 {
     match refute(alloc, set, protocol, allowance) {
-        Ok(Answer::Refused(refusal)) => Ok(Settled::Refused(refusal)),
+        Ok(Answer::Refused(refusal)) => {
+            keeps_64_bits(&refusal);
+            Ok(Settled::Refused(refusal))
+        }
         Ok(Answer::Schedulable) => unreachable!(),
         Err(RefuteStop::Wide(task)) => {
             refuse_by_rounded_points(rt, alloc, set, protocol, search, task, allowance)
@@ -78,7 +87,9 @@ fn settle<R: Threads + Sync, P: ProgramSource + Sync, S: Search>(
     allowance: u64,
 ) -> Result<Settled, SettleStop>
     requires serves { P.serves protocol.now set.now }
-    ensures { AnswersSo result (source_at (P.source protocol.now) set.now) allowance }
+    ensures answers { AnswersSo result (source_at (P.source protocol.now) set.now) allowance }
+    ensures names { NamesTask set.now result }
+    ensures bits { IfOk result (λ settled. RefusesIn64Bits settled) }
 {
     match analyse_with(rt, alloc, set, protocol, allowance) {
         Ok(Verdict::Schedulable(certificate)) => Ok(Settled::Schedulable(certificate)),
@@ -117,6 +128,7 @@ pub fn settle_by<R: Threads + Sync, P: ProgramSource + Sync, S: Search>(
     ensures names { NamesTask set.now result }
     ensures small_steps { IfOk result (λ settled. RefusesBySmallSteps settled) }
 {
+    set.keeps_the_model();
     the_rounds_have_one_ending();
     settle(rt, alloc, set, protocol, search, allowance)
 }

@@ -1,6 +1,5 @@
-use Rattle.std.proofs.Common.{◌≡◌, ◌<◌, ◌≤◌, length, sym, subst, arith, rules}
+use Rattle.std.proofs.Common.{◌≤◌, sym, subst, arith, rules}
 use Rattle.program_form.specs.Certificate.{DualDef, dual_seen}
-use Rattle.program_sources.specs.Valid.{dual_at}
 use Rattle.response_fixpoint.specs.Answers.{IsSmallDual}
 use Rattle.dual_check.proofs.PassLaws.{one_more}
 use Rattle.dual_check.proofs.WorthLaws.{dual_seen_at}

@@ -1,4 +1,4 @@
-use Rattle.std.proofs.Common.{◌≡◌, ℕ, arith}
+use Rattle.std.proofs.Common.{arith}
 use Rattle.program_sources.specs.Recurrence.{SourceDef, source_at}
 use Rattle.settling.specs.Rising.{IsReached}
 use Rattle.settling.proofs.RiseLaws.{none_reached, one_more_reached}
@@ -12,7 +12,7 @@ loop-i-init g c =
 pub loop-i-preserved : goal.loop-i-preserved
 loop-i-preserved g c =
     let f : SourceDef = source_at (g.P.ProgramSource.source c.args.protocol.now) c.args.set.now in
-    let own : IsReached f c.args.bounds.now c.loop-i.i c.in-Ok.reached.ticks = c.in-Ok.ensures in
+    let own : IsReached f c.args.bounds.now c.loop-i.i c.in-Ok.reached.ticks = c.in-Ok.ensures.reached in
     let each = one_more_reached f c.args.bounds.now c.loop-i.all.items c.loop-i.i c.in-Ok.reached c.loop-i.invariant.one_each
     c.loop-i.invariant.each own in
     let items = c.in_ok-push.ensures.items in

@@ -6,8 +6,8 @@ use Rattle.settling.specs.Rising.{IsReached}
 use Rattle.settling.proofs.RiseLaws.{reached_at}
 use Rattle.settling.proofs.reached.reach_task.Goals as goal
 
-pub returns-then-eq : goal.returns-then-eq
-returns-then-eq g c =
+pub returns-then-eq-clause-reached : goal.returns-then-eq-clause-reached
+returns-then-eq-clause-reached g c =
     let f : SourceDef = source_at (g.P.ProgramSource.source c.args.protocol.now) c.args.set.now in
     let look = c.in-Some.ensures.lookup in
     let got : slice_get c.args.before.now c.args.i.0 ≡ Some c.in-Some.last.now =

@@ -5,12 +5,12 @@ use Rattle.settling.specs.Rising.{AreReached}
 use Rattle.settling.proofs.rising.rise.Given as goal
 
 -- the bounds are at most every fitting vector, and what was reached before is reached at them
-abbrev pub invariant-loop-all : goal.invariant-loop-all
-invariant-loop-all g l = record {
+abbrev pub invariant-loop-steps : goal.invariant-loop-steps
+invariant-loop-steps g l = record {
   range : IsInRange l.set l.bounds.items;
   below : AreBelowAllFitting (source_at (g.P.ProgramSource.source l.protocol) l.set) l.bounds.items;
   reached : AreReached (source_at (g.P.ProgramSource.source l.protocol) l.set) l.bounds.items l.reached.items;
 }
 
-abbrev pub decreases-loop-all : goal.decreases-loop-all
-decreases-loop-all g l = l.left
+abbrev pub decreases-loop-steps : goal.decreases-loop-steps
+decreases-loop-steps g l = l.left

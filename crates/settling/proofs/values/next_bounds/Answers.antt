@@ -1,4 +1,4 @@
-use Rattle.std.proofs.Common.{◌≡◌, ℕ, List, arith}
+use Rattle.std.proofs.Common.{ℕ, List, arith}
 use Rattle.program_sources.specs.Recurrence.{SourceDef, source_at}
 use Rattle.settling.specs.Rising.{IsNextBound}
 use Rattle.settling.proofs.RiseLaws.{reached_here, one_more_bound}
