@@ -60,7 +60,7 @@ abbrev pub NamesTask : SetDef → Result Settled SettleStop → Type 0
 NamesTask set (Ok settled) = Unit {0}
 NamesTask set (Err stop) = StopsWithin set stop
 
--- Is the answer right: are the bounds the least that fit, with a valid certificate, or does the refusal hold, so that nothing fits?
+-- Is the answer right? The bounds are the least that fit, with a valid certificate. Or the refusal holds, so that nothing fits.
 abbrev pub IsRight : Settled → SourceDef → Type 0
 IsRight (settled.Schedulable certificate) f = IsProvedLeast f (certificate_seen certificate)
 IsRight (settled.Refused refusal) f = (Holds f (steps_seen refusal)) × ((s : List ℕ) → AreFitting f s → ⊥)

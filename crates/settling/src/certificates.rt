@@ -51,7 +51,7 @@ fn duals_of(alloc: Global, reached: Vec<Reached>) -> Result<Vec<Dual>, AllocErro
     Ok(duals)
 }
 
-/// Why settling stops where a certificate isn't valid.
+/// Why settling stops if a certificate isn't valid.
 fn stop_at(set: &TaskSet, invalid: Invalid) -> SettleStop
     requires { IsWithin set.now invalid }
     ensures { StopsWithin set.now result }

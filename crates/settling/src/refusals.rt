@@ -47,7 +47,7 @@ pub(crate) fn keeps_64_bits(refusal: &Refusal)
     }
 }
 
-/// Answers the refusal, where it holds. Where it doesn't, settling stops at this task.
+/// Answers the refusal if it holds. If it doesn't, settling stops at this task.
 pub(crate) fn answer_confirmed<R: Threads + Sync, P: ProgramSource + Sync>(
     rt: &R,
     alloc: Global,
