@@ -30,10 +30,10 @@ from dataclasses import dataclass
 from pathlib import Path
 
 from commands import TOP
-from cizborg.blocking_programs import Shape, TaskSet, as_lp, program_of
+from cizborg.blocking_programs import TaskSet, as_lp, program_of
 from cizborg.protocols import WORDS as PROTOCOLS
 from generated_sets import generated, seeded
-from program_lines import as_line
+from other_solvers import Distinct, alone_in, bounds_by, whole
 
 PROGRAM = TOP / "crates" / "block_cli" / "out" / "block_cli"
 SIZES = (8, 16, 32, 64)
@@ -81,79 +81,6 @@ def units_of(protocol, where, status):
         done = subprocess.run([PROGRAM, "analyse", protocol, "set", str(middle)], cwd=where, capture_output=True)
         low, high = (low, middle) if done.returncode == status else (middle + 1, high)
     return low
-
-
-def bounds_by(blocking, s, protocol):
-    """The bounds that the rounds end with, or none where a value passes its deadline or has none. `blocking` is asked for the blocking
-    of a task at some bounds."""
-    bounds = list(s.cost)
-    while True:
-        values = []
-        for i in range(s.n):
-            blocked = blocking(i, bounds)
-            if blocked is None:
-                return None
-            values.append(s.cost[i] + blocked + s.interference(protocol, bounds, i))
-            if values[i] > s.latest[i]:
-                return None
-        if values == bounds:
-            return bounds
-        bounds = values
-
-
-def whole(value):
-    """The whole ticks of a value in floating point."""
-    return int(value + 1e-6)
-
-
-class Alone:
-    """One process that solves programs by GLPK, and says of each how long that alone took."""
-
-    def __init__(self, folder):
-        program = folder / "glpk_time"
-        subprocess.run(["cc", "-O2", TOP / "bench" / "glpk_time.c", "-o", program, "-lglpk"], check=True, capture_output=True)
-        self.process = subprocess.Popen([program], stdin=subprocess.PIPE, stdout=subprocess.PIPE, text=True)
-
-    def solved(self, line):
-        """The whole ticks of a program's optimum, or None where GLPK finds none, and the seconds that it took."""
-        self.process.stdin.write(line + "\n")
-        self.process.stdin.flush()
-        value, *rest = self.process.stdout.readline().split()
-        return (None, 0.0) if value == "stopped" else (whole(float(value)), int(rest[0]) / 1e9)
-
-    def end(self):
-        self.process.stdin.close()
-        self.process.wait()
-
-
-def alone_in(folder):
-    """GLPK in a process of its own, or None with a word where it can't be compiled."""
-    try:
-        return Alone(folder)
-    except (OSError, subprocess.CalledProcessError):
-        print("bench/glpk_time.c can't be compiled (cc and the package libglpk-dev): GLPK's solving alone is left out")
-        return None
-
-
-class Distinct:
-    """The distinct programs of one analysis, each solved once by GLPK alone."""
-
-    def __init__(self, alone, s, protocol):
-        self.alone = alone
-        self.shapes = [Shape(s, protocol, i) for i in range(s.n)]
-        self.answers = {}
-
-    def blocking(self, i, bounds):
-        shape = self.shapes[i]
-        if not shape.costs:
-            return 0
-        line = as_line(shape.costs, [(limit, row) for (row, _), limit in zip(shape.rows, shape.limits(bounds))])
-        if line not in self.answers:
-            self.answers[line] = self.alone.solved(line)
-        return self.answers[line][0]
-
-    def seconds(self):
-        return sum(took for _, took in self.answers.values())
 
 
 class Usual:

@@ -4,8 +4,9 @@
     python3 bench/fuzz.py [PROGRAM] [--seconds N | --runs N] [--seed SEED] [--only COMMAND] [--limit SECONDS] [--jobs N] [--keep FOLDER]
 
 A find is a run that a signal ends, that takes longer than the limit, that ends with a status which no run over plain files has, that
-writes something to standard error, or whose text isn't of a form of its status; and a certificate that `analyse` writes and `check`
-doesn't call valid, or a schedule that `simulate` writes and `conform` doesn't call lawful. Its inputs are kept in FOLDER (finds/ where
+writes something to standard error, or whose text isn't of a form of its status; and a certificate that `analyse` or `settle` writes
+and `check` doesn't call valid, a refusal that `refute` or `settle` writes and `confirm` doesn't confirm, or a schedule that `simulate` writes
+and `conform` doesn't call lawful. Its inputs are kept in FOLDER (finds/ where
 none is given), and the script ends with status 1. PROGRAM is what `rt ci` or `./block` built, where none is given. A command that the program doesn't
 have is left out with a word. Commands and protocols come up in turn, and run number N of a seed always bends the same inputs in the
 same way.
@@ -23,12 +24,15 @@ import sys
 import tempfile
 import time
 from pathlib import Path
+from typing import NamedTuple
 
 from bends import MILD, NUMBERS, ROUGH
 from commands import BUILT, TOP, built
 from cizborg.protocols import AT_HOMES, WORDS
 
 EXAMPLES = TOP / "examples"
+# a longer text isn't read
+MOST_BYTES = 67_108_864
 # of a set: its jobs, how many ticks are simulated, and its rows, where they aren't those that the program makes
 SCHEDULES = {"pair.json": ("pair-jobs.csv", 50, "pair-rows.csv"), "plant.json": ("plant-jobs.csv", 100000, None)}
 
@@ -39,20 +43,24 @@ PLACE = rb"(root|(resource|task) [0-9]+|request [0-9]+ [0-9]+)"
 SET_REASON = rb"(absent|toolong|notjson|notask|shape %s|size (processors|tasks|resources|requests)|(name|twicename|processor|period|deadline|cost|local|resource|twicerequest|count|length|home|nohome) %s)" % (PLACE, PLACE)
 CERT_REASON = rb"(absent|toolong|notjson|shape|shape (root|bounds|dual [0-9]+)|version|otherprotocol)"
 LINE_REASON = rb"(absent|toolong( [0-9]+)?|(fields|number|unknownname|script|overbudget|tooclose|toomany|unknownjob) [0-9]+)"
+CERTIFICATE = rb'\{"bounds":\[[0-9,]+\],"duals":\[.*\],"protocol":"%s","set":"[0-9a-f]{64}","verdict":"schedulable","version":2\}\n' % WORD
+REFUSAL = rb'\{"protocol":"%s","set":"[0-9a-f]{64}","steps":\[.*\],"verdict":"notshown","version":1\}\n' % WORD
+NO = rb"(not shown %s [0-9]+ [0-9]+|schedulable|invalid (otherset|open|step [0-9]+ (after|task|rising|size|row [0-9]+|low)|size|(bound|dualsize|small) %s|cover %s [0-9]+)|broken [0-9]+ (run|keep|grant|idle|priority))\n" % (NAME, NAME, NAME)
 ANSWERS = {
     0: {
-        "analyse": rb'\{"bounds":\[[0-9,]+\],"duals":\[.*\],"protocol":"%s","set":"[0-9a-f]{64}","verdict":"schedulable","version":2\}\n' % WORD,
+        "analyse": CERTIFICATE,
+        "settle": CERTIFICATE,
         "report": rb"task {28}cpu .*\n(.*\n)+(load [0-9]+ [0-9]+\n)+",
         "check": rb"valid\n",
-        "refute": rb'\{"protocol":"%s","set":"[0-9a-f]{64}","steps":\[.*\],"verdict":"notshown","version":1\}\n' % WORD,
+        "refute": REFUSAL,
         "confirm": rb"confirmed\n",
-        "upgrade": rb'\{"bounds":\[[0-9,]+\],"duals":\[.*\],"protocol":"%s","set":"[0-9a-f]{64}","verdict":"schedulable","version":2\}\n' % WORD,
+        "upgrade": CERTIFICATE,
         "conform": rb"lawful [0-9]+\n(%s [0-9]+ ([0-9]+|-) [0-9]+\n)+" % NAME,
         "simulate": rb"ticks(,[A-Za-z0-9_.-]+)+\n([0-9]+(,[0-9]*)+\n)+",
         "audit": rb"kept [0-9]+\n(%s ([0-9]+|-)( [0-9]+){6}\n)+" % NAME,
         "study": rb"step mpcp fmlp\+ dpcp\n([1-8]( [0-9]+){3}\n){8}stopped [0-9]+\n",
     },
-    1: rb"(not shown %s [0-9]+ [0-9]+|schedulable|invalid (otherset|open|step [0-9]+ (after|task|rising|size|row [0-9]+|low)|size|(bound|dualsize|small) %s|cover %s [0-9]+)|broken [0-9]+ (run|keep|grant|idle|priority))\n" % (NAME, NAME, NAME),
+    1: {"settle": REFUSAL, **dict.fromkeys(("analyse", "refute", "check", "confirm", "upgrade", "report", "conform", "audit"), NO)},
     2: rb"refused words\n",
     3: rb"refused (set %s|cert %s|(jobs|rows) %s)\n" % (SET_REASON, CERT_REASON, LINE_REASON),
     5: rb"wide %s\n" % NAME,
@@ -90,6 +98,7 @@ def base_commands(program, folder):
     """Each command over examples that it accepts. Certificates come from the program itself, and so do schedules where there are none."""
     found = [Command("study 0 1", {})]
     for protocol in WORDS:
+        found.append(Command(f"settle {protocol} set", {"set": example("wide.json")}))
         for name in ("pair.json", "plant.json", "three.json", "overloaded.json"):
             text = example(name)
             if protocol in AT_HOMES and b"home" not in text and b"resources" in text:
@@ -102,7 +111,7 @@ def base_commands(program, folder):
                 old = re.sub(rb'"set":"[0-9a-f]{64}",', b"", certificate).replace(b'"version":2', b'"version":1')
                 found.append(Command(f"upgrade {protocol} set old", {"set": text, "old": old}))
             refute = Command(f"refute {protocol} set", {"set": text})
-            found.append(refute)
+            found += [refute, Command(f"settle {protocol} set", {"set": text}), Command(f"settle {protocol} set 1000", {"set": text})]
             status, refusal, _ = refute.run(program, folder, refute.files, refute.words, 600)
             if status == 0:
                 found.append(Command(f"confirm {protocol} set cert", {"set": text, "cert": refusal}))
@@ -166,15 +175,36 @@ def complaint(words, files, status, written, error):
     return None if re.fullmatch(form, written) else f"with status {status} it wrote {written[:200]!r}"
 
 
-def disagreement(program, folder, known, words, files, written, limit):
-    """What is wrong with a certificate or a schedule that the program wrote, by its own judgement, or None. It is kept among the files."""
-    name, kind = ("cert", ("check", 2)) if words[0] == "analyse" else ("rows", ("conform", 3))
-    if words[0] not in ("analyse", "simulate") or kind not in known or name in files:
+class Judging(NamedTuple):
+    """How what a command wrote is judged: the name of its file, the command that judges, how many files that reads, and how its answer begins."""
+
+    name: str
+    command: str
+    files: int
+    says: bytes
+
+
+VALID, CONFIRMED = Judging("cert", "check", 2, b"valid\n"), Judging("cert", "confirm", 2, b"confirmed\n")
+JUDGINGS = {
+    ("analyse", 0): VALID,
+    ("settle", 0): VALID,
+    ("settle", 1): CONFIRMED,
+    ("refute", 0): CONFIRMED,
+    ("simulate", 0): Judging("rows", "conform", 3, b"lawful "),
+}
+
+
+def disagreement(program, folder, known, words, files, ended, limit):
+    """What is wrong with a certificate, a refusal or a schedule that the program wrote, by its own judgement, or None. It is kept among the files."""
+    status, written = ended
+    one = JUDGINGS.get((words[0], status))
+    if one is None or (one.command, one.files) not in known or one.name in files or len(written) > MOST_BYTES:
         return None
-    files[name] = written
-    judging = [kind[0], *words[1 : 3 if name == "cert" else 4], name]
-    status, answer, error = Command(" ".join(judging), files).run(program, folder, {name: written}, judging, limit)
-    is_well = status == 0 and not error and answer.startswith(b"valid\n" if name == "cert" else b"lawful %s\n" % words[-1].encode())
+    files[one.name] = written
+    judging = [one.command, *words[1 : 1 + one.files], one.name]
+    status, answer, error = Command(" ".join(judging), files).run(program, folder, {one.name: written}, judging, limit)
+    says = one.says + b"%s\n" % words[-1].encode() if one.name == "rows" else one.says
+    is_well = status == 0 and not error and answer.startswith(says)
     return None if is_well else f"{' '.join(judging)} says of what it wrote, with status {status}: {answer[:200]!r}"
 
 
@@ -188,8 +218,8 @@ def one_run(program, commands, seed, number, limit):
     with tempfile.TemporaryDirectory(prefix="fuzz-") as name:
         status, written, error = command.run(program, Path(name), files, words, limit)
         why = complaint(words, files, status, written, error)
-        if why is None and status == 0:
-            why = disagreement(program, Path(name), known, words, files, written, limit)
+        if why is None:
+            why = disagreement(program, Path(name), known, words, files, (status, written), limit)
     return command.name, status, (why, words, files) if why else None
 
 

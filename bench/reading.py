@@ -35,12 +35,14 @@ BOUNDS = ["run_plans/Bounding:IsBounding"]
 HEADLINE = ["run_plans/Headline:IsProvedAnalysis,IsProvedCheck", "command_words/Spelled:analyse_words,check_words"]
 CLOCKS = ["run_plans/OnClocks:IsOnClocks"]
 REFUSALS = [
-    "run_plans/Refused:IsProvedRefutation,IsProvedConfirmation", "run_plans/Auditing:IsProvedAudit",
-    "command_words/Spelled:refute_words,confirm_words,audit_words",
+    "run_plans/Refused:IsProvedRefutation,IsProvedConfirmation", "run_plans/Settled:IsSettling", "run_plans/Upgraded:IsProvedUpgrade",
+    "run_plans/Auditing:IsProvedAudit", "command_words/Spelled:refute_words,confirm_words,settle_words,upgrade_words,audit_words",
 ]
 BEYOND = [
     "run_plans/Headline:IsHeadline,Analyses", "run_plans/Checked:ChecksWhatWasWritten,FindsValid,ChecksForAnotherSet,FindsOtherSet",
-    "run_plans/Confirmed:ConfirmsWhatWasWritten,FindsConfirmed,ChecksAndConfirms", "run_plans/Compared:AnalyseOneSet,RaisesNoBound",
+    "run_plans/Checked:ChecksWhatWasSettled,ChecksWhatWasUpgraded",
+    "run_plans/Confirmed:ConfirmsWhatWasWritten,ConfirmsWhatWasSettled,FindsConfirmed,ChecksAndConfirms",
+    "run_plans/Compared:AnalyseOneSet,RaisesNoBound",
     "run_plans/Twice:AreSteady!,IsCompleteCall!",
 ]
 TIES = [
@@ -54,7 +56,7 @@ LISTS = (
     ("`bounding`, the bounds alone", BOUNDS),
     ("`analysed` and `checked`, the headline", HEADLINE),
     ("`on_clocks`, the bounds on the machine's clock", CLOCKS),
-    ("`refuted`, `confirmed` and `audited`", REFUSALS),
+    ("`refuted`, `confirmed`, `settled`, `upgraded` and `audited`", REFUSALS),
     ("`headline` and the laws of two calls", BEYOND),
     ("`IsRun` itself with `asked`, what fills its `Call`, and what the program's own shelf and sink show", TIES),
 )

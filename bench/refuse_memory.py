@@ -129,14 +129,16 @@ def over_pair(program, folder, protocol):
     old.write_bytes(re.sub(rb'"set":"[0-9a-f]{64}",', b"", certificate.read_bytes()).replace(b'"version":2', b'"version":1'))
     refusal.write_bytes(subprocess.run([program, "refute", protocol, short], capture_output=True).stdout)
     yield from (["check", protocol, pair, str(certificate)], ["report", protocol, pair, str(certificate)], ["upgrade", protocol, pair, str(old)])
-    yield from (["refute", protocol, short], ["confirm", protocol, short, str(refusal)])
+    yield from (["refute", protocol, short], ["settle", protocol, short], ["confirm", protocol, short, str(refusal)])
     yield from (["conform", protocol, pair, jobs, rows], ["simulate", protocol, pair, jobs, "50"], ["audit", protocol, pair, str(certificate), jobs, rows])
 
 
 def commands_of(program, folder):
     """Words of each command that the program has, over the examples."""
     plant = str(EXAMPLES / "plant.json")
-    every = [[command, protocol, plant] for protocol in WORDS for command in ("analyse", "report")]
+    every = [[command, protocol, plant] for protocol in WORDS for command in ("analyse", "settle", "report")]
+    # the search is made where the analysis is wide
+    every += [["settle", protocol, str(EXAMPLES / "wide.json")] for protocol in WORDS]
     every += [["analyse", "mpcp", str(EXAMPLES / "overloaded.json")], ["analyse", "fmlp+", str(EXAMPLES / "none.json")], ["--help"], ["study", "0", "1"]]
     every += [words for protocol in WORDS for words in over_pair(program, folder, protocol)]
     for words in every:

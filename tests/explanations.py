@@ -11,8 +11,8 @@ sys.path.insert(0, str(TOP / "tools" / "explain"))
 import json_text  # noqa: E402
 
 WORDS: list[tuple[list[str | bytes], list[str]]] = [
-    ([], ["a command is missing: analyse, refute, check, confirm, upgrade, report, conform, simulate, study and audit are there", "block --help lists the forms"]),
-    (["solve"], ['"solve" is no command: analyse, refute, check, confirm, upgrade, report, conform, simulate, study and audit are there', "block --help lists the forms"]),
+    ([], ["a command is missing: analyse, settle, refute, check, confirm, upgrade, report, conform, simulate, study and audit are there", "block --help lists the forms"]),
+    (["solve"], ['"solve" is no command: analyse, settle, refute, check, confirm, upgrade, report, conform, simulate, study and audit are there', "block --help lists the forms"]),
     (["analyze", "fmlp+", "set"], ['"analyze" is no command; near to it is "analyse"', "the form is: block analyse PROTOCOL SET"]),
     (["Analyse", "fmlp+", "set", "8"], ['"Analyse" is no command; near to it is "analyse"', "the form is: block analyse PROTOCOL SET ALLOWANCE"]),
     (["sensitivty", "fmlp+", "set"], ['"sensitivty" is no command; near to it is "sensitivity"', "the form is: block sensitivity PROTOCOL SET"]),
@@ -183,7 +183,7 @@ def silent_problems(copy: Copy) -> Iterator[str | None]:
     python = copy.file("bin/python3", "#!/bin/sh\nexit 127\n", LATER)
     lines = [copy.run("report", "fmlp+", "set", "a", "b").err.count("\n"), copy.run("report", "fmlp+", "none").err]
     python.unlink()
-    yield unless(lines == [14, ""], "./block without Python says", lines)
+    yield unless(lines == [16, ""], "./block without Python says", lines)
 
 
 def problems(folder: str | Path, program: Path) -> Iterator[str | None]:

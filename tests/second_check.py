@@ -120,9 +120,9 @@ def certified(program: str, folder: Path, number: int, text: bytes, protocol: st
     """The certificate or the refusal that the program writes for a set, to be judged; None where it writes none."""
     path = folder / f"{number}-{protocol}"
     path.write_bytes(text)
-    for command, judged in (("analyse", "check"), ("refute", "confirm")):
+    for command, status, judged in (("analyse", 0, "check"), ("refute", 0, "confirm"), ("settle", 0, "check"), ("settle", 1, "confirm")):
         ran = subprocess.run([program, command, protocol, path, ALLOWANCE], capture_output=True)
-        if ran.returncode == 0:
+        if ran.returncode == status:
             return Judgement(judged, protocol, text, ran.stdout)
     return None
 

@@ -271,7 +271,7 @@ def control(tree: Tree, version: str) -> str:
         f"Installed-Size: {size}",
         "Depends: libc6 (>= 2.34)",
         "Recommends: python3",
-        "Suggests: python3-matplotlib, python3-scipy, python3-jsonschema",
+        "Suggests: python3-matplotlib, python3-jsonschema",
         "Section: science",
         "Priority: optional",
         "Description: proved response-time analysis of real-time tasks that share resources",

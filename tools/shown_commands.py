@@ -4,9 +4,11 @@ from pathlib import Path
 from typing import Iterator, NamedTuple, Optional
 
 # The commands of the program. A line that shows another word behind ./block is of a tool.
-COMMANDS = ("analyse", "refute", "check", "confirm", "upgrade", "report", "conform", "simulate", "study", "audit")
+COMMANDS = ("analyse", "settle", "refute", "check", "confirm", "upgrade", "report", "conform", "simulate", "study", "audit")
 # The status isn't shown: it follows from how the answer begins.
 STATUSES = {"not shown ": 1, "broken ": 1, "invalid ": 1, "refused ": 3, "wide ": 5}
+# A refusal is what `refute` is asked for, and a no of `settle`.
+REFUSAL = '{"protocol":'
 
 
 def documents_in(top: Path) -> list[Path]:
@@ -47,5 +49,6 @@ def commands_of(document: Path) -> Iterator[Shown]:
             line, _, answer = shown.partition("\n")
             words, _, saves = line.removeprefix("./block ").partition(" >")
             if line.startswith("./block ") and words.split()[0] in COMMANDS:
-                status = next((status for start, status in STATUSES.items() if answer.startswith(start)), 0)
+                statuses = {**STATUSES, REFUSAL: 1} if words.startswith("settle ") else STATUSES
+                status = next((status for start, status in statuses.items() if answer.startswith(start)), 0)
                 yield Shown(line, words, answer, status, saves.strip())

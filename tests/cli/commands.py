@@ -20,6 +20,7 @@ class Command:
 
 COMMANDS = [
     Command("analyse fmlp+ set", PAIR_CERTIFICATE),
+    Command("settle fmlp+ set", PAIR_CERTIFICATE),
     Command("refute mpcp short", SHORT_REFUSAL),
     Command("check fmlp+ set cert", "valid\n"),
     Command("confirm mpcp short refusal", "confirmed\n"),

@@ -54,12 +54,15 @@ def clipped(text):
 
 
 def differences(case, program):
-    out, err, status = setting.run(case, program)
+    try:
+        out, err, status, says = setting.run(case, program)
+    except setting.Unready as why:
+        return [f"    {why}"]
     if case.saves:
         (case.at / case.saves).write_bytes(out)
     found = []
-    if not case.saves and not setting.matches(case.says, out):
-        found.append(f"    it wrote {clipped(out)}\n    and not  {clipped(case.says)}")
+    if not case.saves and not setting.matches(says, out):
+        found.append(f"    it wrote {clipped(out)}\n    and not  {clipped(says)}")
     if err:
         found.append(f"    to standard error it wrote {clipped(err)}")
     if status != case.status:

@@ -21,7 +21,8 @@ NOBODY = 65534
 class Case:
     """One run of the program: what it shows, its words, the whole of what it writes to standard output, and its status.
 
-    What it writes may be given as a pattern, which then has to match the whole of it. Standard error has to stay empty. The words are one
+    What it writes may be given as a pattern, which then has to match the whole of it, or as what it was run for before. Standard error has to stay
+    empty. The words are one
     text that is split at spaces, or a list of texts or bytes. The program runs in a folder that holds the files: a name, and a text, bytes
     or one of the kinds below. Where `at` is given it runs there instead.
     """
@@ -42,7 +43,7 @@ class Case:
     as_nobody: bool = False
     """Whether another user runs it where root runs the test, since root reads every file."""
     before: tuple = ()
-    """What the program is run for beforehand in the same folder: words, and the file that gets the answer."""
+    """What the program is run for beforehand in the same folder: words, the file that gets the answer, and the status where that isn't 0."""
     at: object = None
     saves: str = ""
     """The file there to which the answer is saved, which may then be any."""
@@ -63,6 +64,17 @@ def runs_on(own):
         return Case(shows, f"{command} set {' '.join(files)}", says, status, {"set": set, **files})
 
     return run
+
+
+class Unready(Exception):
+    """What a case runs before ended otherwise than it says."""
+
+
+@dataclass(frozen=True)
+class Saved:
+    """What a run before wrote to this file."""
+
+    file: str
 
 
 @dataclass(frozen=True)
@@ -167,14 +179,14 @@ def can_be_nobody():
 
 
 def run(case, program):
-    """What the program wrote to standard output and standard error, and its status."""
+    """What the program wrote to standard output and standard error, its status, and what it should have written."""
     with tempfile.TemporaryDirectory(prefix="block-") as name:
         folder = Path(name)
         folder.chmod(0o755)
         (folder / "files").mkdir()
         later = [make(folder / "files" / file, kind) for file, kind in case.files.items()]
-        for words, saved in case.before:
-            run_before(program, words.split(), folder / "files", saved)
+        for words, saved, *status in case.before:
+            run_before(program, words.split(), folder / "files" / saved, *status)
         with (folder / "out").open("w+b") as out, (folder / "err").open("w+b") as err:
             started = start(case, program, folder / "files", out, err)
             for thread in filter(None, later):
@@ -182,12 +194,19 @@ def run(case, program):
             status = end_of(case, started)
             out.seek(0)
             err.seek(0)
-            return out.read(), err.read(), status
+            return out.read(), err.read(), status, wanted(case, folder / "files")
 
 
-def run_before(program, words, folder, saved):
-    with (folder / saved).open("wb") as out:
-        subprocess.run([program, *words], cwd=folder, stdin=subprocess.DEVNULL, stdout=out, timeout=SECONDS, check=True)
+def run_before(program, words, saved, status=0):
+    with saved.open("wb") as out:
+        done = subprocess.run([program, *words], cwd=saved.parent, stdin=subprocess.DEVNULL, stdout=out, timeout=SECONDS)
+    if done.returncode != status:
+        raise Unready(f"{' '.join(words)} ended before with status {done.returncode}, and not {status}")
+
+
+def wanted(case, folder):
+    """What the case says that the program writes."""
+    return (folder / case.says.file).read_bytes() if isinstance(case.says, Saved) else case.says
 
 
 def matches(says, out):

@@ -54,6 +54,15 @@ class Compare(ToolCase):
                 self.assertEqual([(task["task"], task["bound"], task["slack"], task["at_most"]) for task in one["tasks"]], [("a", 6, 4, False), ("b", None, -2, True), ("c", 6, 4, False)])
                 self.assertEqual((one["answer"], one["relaxed"], one["aside"]), ("not shown b 12 10", [], ["b"]))
 
+    def test_where_analyse_is_wide(self) -> None:
+        found = {one["word"]: one for one in self.compared("examples/wide.json")["words"]}
+        mpcp = found["mpcp"]
+        # the deadlines less the least bounds, in exact fractions of any size
+        self.assertEqual([task["slack"] for task in mpcp["tasks"]], [50000000 - 24617120, 100000000 - 26689594, 200000000 - 26689594])
+        self.assertEqual((mpcp["answer"], mpcp["backed_by"]), ("schedulable", "block settle mpcp examples/wide.json"))
+        said = self.tool("compare", "examples/wide.json", at=TOP).stdout
+        self.assertRegex(said, r"(?m)^mpcp.*: the analysis is wide, and block settle answered$")
+
     def test_no_task_is_left(self) -> None:
         parts = task_set(1, [], task("a", 1, 1, 1), task("b", 1, 1, 1))
         found = self.compared(self.file("none-left", parts), status=1)["words"][0]

@@ -182,7 +182,9 @@ class Dossier(ToolCase):
 
     def test_who_blocks_where_analyse_is_wide(self) -> None:
         wide = [EXAMPLES / "wide.json", EXAMPLES / "wide-certificate.json"]
-        self.assert_dossier(["mpcp", *wide], wide, [(BLOCKING, [])], ["Who blocks is not told: the program finds no least bounds of this set"])
+        page = self.assert_done(self.tool("dossier", "mpcp", *wide))
+        self.assertEqual({row[0] for row in Page(page).table(BLOCKING) or []}, {"steer", "look", "plan"})
+        self.assertNotIn("Who blocks is not told", page)
 
     def test_contents_and_origin(self) -> None:
         page = self.assert_done(self.tool("dossier", "fmlp+", *PLANT))

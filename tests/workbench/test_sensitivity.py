@@ -102,7 +102,31 @@ t     period     10      2      -8   -80.0 %  1: limit (refused set task 1)
 
 {FACTOR}
 {PERIOD}
+10 of the 20 analyses were wide, and block settle was asked.
 10 of the 20 analyses answered wide or allowance: nothing is known of those sets.
+"""
+# it is wide from a cost of 6 on, and settles that the task is schedulable up to 6
+SETTLER = """#!/usr/bin/env python3
+import json, sys
+task = json.load(open(sys.argv[3]))["tasks"][0]
+refused = task["cost"] + task.get("jitter", 0) > task["period"]
+status = 3 if refused else 0 if task["cost"] <= 5 else 5 if sys.argv[1] == "analyse" else 0 if task["cost"] <= 6 else 1
+lines = {0: "{}", 1: json.dumps({"steps": [{"task": 1, "value": 4}, {"task": 1, "value": 11}]}), 3: "refused set task 1", 5: "wide t"}
+print(lines[status])
+sys.exit(status)
+"""
+SETTLED_TABLE = f"""block COMMAND mpcp SET answers: schedulable.
+At each edge it answers the same, with all else as it is, and at the next value what stands behind it.
+
+task  number    now   edge      by           at the next value
+*     factor  1.000  1.000  +0.000   +0.0 %  1.001: not shown t 11 10
+t     cost        6      6      +0   +0.0 %  7: not shown t 11 10
+t     jitter      0      4      +4           5: limit (refused set task 1)
+t     period     10      6      -4  -40.0 %  5: limit (refused set task 1)
+
+{FACTOR}
+{PERIOD}
+15 of the 17 analyses were wide, and block settle was asked.
 """
 
 # three tasks that each take half of their processor at the least
@@ -175,9 +199,16 @@ class Sensitivity(ToolCase):
         unsure = self.sensitivity("mpcp", one, program=self.file("unsure", UNSURE))
         self.assert_ends(unsure, 0, UNSURE_TABLE.replace("SET", str(one)), "")
 
-    def test_statuses_are_those_of_analyse(self) -> None:
+    def test_what_settle_answers_where_analyse_is_wide(self) -> None:
+        one = self.file("one", task_set(1, [], task("t", 1, 10, 6)))
+        settled = self.sensitivity("mpcp", one, program=self.file("settler", SETTLER))
+        self.assert_ends(settled, 0, SETTLED_TABLE.replace("SET", str(one)).replace("COMMAND", "settle"), "")
+
+    def test_statuses_are_those_of_the_program(self) -> None:
+        one = self.file("one", task_set(1, [], task("t", 1, 10, 6)))
+        unsure = self.sensitivity("mpcp", one, program=self.file("unsure", UNSURE))
+        self.assert_refused(unsure, 5, "sensitivity", [f"block settle mpcp {one} answers wide t: nothing is known of the set"])
         for words, status, line in (
-            (["mpcp", "examples/wide.json"], 5, "block analyse mpcp examples/wide.json answers wide steer: nothing is known of the set"),
             (["mpcp", PAIR, "--allowance", "1"], 6, f"block analyse mpcp {PAIR} 1 answers allowance: nothing is known of the set"),
             (["mpcp", "none"], 3, "refused set absent"),
             (["mpcp", "examples"], 4, "analyse ended with status 4: fault read set"),

@@ -31,6 +31,13 @@ SPIN: dict[str, tuple[list[tuple[str, str, str, int]], list[tuple[str, int, int]
     "send": ([("log", "bus", "direct", 3)], [("guard", 2, 2)]),
     "log": ([("send", "bus", "direct", 2)], []),
 }
+# it accepts each set, and nothing is known of it
+UNSURE = """#!/bin/sh
+case $1 in
+report) echo table ;;
+*) echo wide t; exit 5 ;;
+esac
+"""
 # it is schedulable with the bound 3, and its refusals come to nothing
 LIAR = """#!/bin/sh
 case $1 in
@@ -111,9 +118,21 @@ class Why(ToolCase):
         self.assertEqual((one["value"], one["cost"]), (4, 4))
         self.assert_parts(one, [], [])
 
+    def test_where_analyse_is_wide(self) -> None:
+        told = self.told("mpcp", "examples/wide.json")
+        # in exact fractions steer is blocked for 166383318391163/7356521 ticks, the others for whole ones
+        self.assertEqual([one["value"] for one in told.values()], [24617120, 26689594, 26689594])
+        for one in told.values():
+            ticks = sum(Fraction(part["ticks"]["num"], part["ticks"]["den"]) for part in one["blocking"]["parts"])
+            self.assertEqual(one["cost"] + int(ticks) + one["interference"]["ticks"], one["value"])
+        text = self.tool("why", "mpcp", "examples/wide.json", at=TOP).stdout
+        self.assertIn("\nThis rests on block settle mpcp examples/wide.json, and for each task on block ", text)
+        self.assertIn("  blocking (whole ticks of about 22617120.020613)  ", text)
+
     def test_where_nothing_is_known(self) -> None:
-        said = "block analyse mpcp examples/wide.json answers wide steer: nothing is known of the set"
-        self.assert_refused(self.tool("why", "mpcp", "examples/wide.json", at=TOP), 5, "why", [said])
+        one = self.file("one", task_set(1, [], task("t", 1, 10, 2)))
+        said = f"block settle mpcp {one} answers wide t: nothing is known of the set"
+        self.assert_refused(self.tool("why", "mpcp", one, program=self.file("unsure", UNSURE)), 5, "why", [said])
         said = "block analyse fmlp+ examples/pair.json 1 answers allowance: nothing is known of the set"
         self.assert_refused(self.tool("why", "fmlp+", "examples/pair.json", "--allowance", 1, at=TOP), 6, "why", [said])
 

@@ -185,7 +185,7 @@ def blocking_table(evidence: Evidence) -> str:
     words = (
         "The columns of a best point of each task's blocking program at the least bounds (`docs/ANALYSIS.md`). Direct: the task waits for the request. Indirect: it waits for "
         "something else, whose holder can't run while the request does, or for which a task of its processor spins. Preemption: the request runs in its place. From the program's "
-        "answer to `refute` of the set with the task's deadline one tick below its bound, which `confirm` confirms."
+        "answer to `refute`, or to `settle` where that is wide, of the set with the task's deadline one tick below its bound, which `confirm` confirms."
     )
     return table(["Task", "Blocked by", "Resource", "Way", "Requests", "Ticks of each", "Blocked ticks"], rows, words) + other_blocking(evidence)
 

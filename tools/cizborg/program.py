@@ -25,10 +25,11 @@ def default_program() -> Path:
 
 
 class Answer(NamedTuple):
-    """What the program answered: its status, and what it wrote."""
+    """What the program answered: its status, what it wrote, and the command that answered."""
 
     status: int
     text: str
+    by: str
 
     def line(self) -> str:
         """The first line."""
@@ -41,7 +42,7 @@ def asked(program: Path, *words: Union[str, Path]) -> Answer:
     if done.returncode not in ANSWERS:
         status = done.returncode if done.returncode > 0 else Status.LACKING
         raise Stop(f"{words[0]} ended with status {done.returncode}: {done.stdout.strip() or 'it wrote nothing'}", status)
-    return Answer(done.returncode, done.stdout)
+    return Answer(done.returncode, done.stdout, str(words[0]))
 
 
 class Block:
@@ -65,8 +66,20 @@ class Block:
         return path
 
     def analysed(self, parts: Parts, *allowance: str) -> Answer:
-        """Its answer to `analyse` of a set."""
-        return self.answer("analyse", self.file(json.dumps(parts)), *allowance)
+        """Its answer to `analyse` of a set, or where that is wide to `settle`."""
+        path = self.file(json.dumps(parts))
+        answer = self.answer("analyse", path, *allowance)
+        return self.settled(parts, path, *allowance) if answer.status == Status.WIDE else answer
+
+    def settled(self, parts: Parts, path: Path, *allowance: str) -> Answer:
+        """Its answer to `settle` of the set of a file. A refusal is put in the words of `analyse`, by its last step."""
+        answer = self.answer("settle", path, *allowance)
+        if answer.status != Status.NO:
+            return answer
+        last = json.loads(answer.text)["steps"][-1]
+        task = parts["tasks"][last["task"] - 1]
+        latest = task.get("deadline", task["period"]) - task.get("jitter", 0)
+        return Answer(answer.status, f"not shown {task['name']} {last['value']} {latest}\n", answer.by)
 
 
 def set_of(path: Union[str, Path]) -> Parts:

@@ -11,7 +11,7 @@ from typing import NoReturn
 
 from .statuses import Status, Stop
 
-PACKAGES = {"matplotlib": "python3-matplotlib", "scipy": "python3-scipy"}
+PACKAGES = {"matplotlib": "python3-matplotlib"}
 # set where the tool has gone on in another Python already
 MOVED = "CIZBORG_PYTHON"
 
@@ -35,11 +35,11 @@ def go_on_in(python: str) -> NoReturn:
     os.execve(python, [python, str(Path(__file__).resolve().parent), *sys.argv[1:]], {**os.environ, MOVED: python})
 
 
-def need(module: str, otherwise: str = "") -> None:
+def need(module: str) -> None:
     """Goes on where a Python has the module: here, or in another one. Called before any work, since the call begins anew."""
     if importlib.util.find_spec(module) is not None:
         return
     for python in [] if MOVED in os.environ else others():
         if has(python, module):
             go_on_in(python)
-    raise Stop(f"no Python here has {module}: apt-get install {PACKAGES.get(module, module)}{otherwise}", Status.LACKING)
+    raise Stop(f"no Python here has {module}: apt-get install {PACKAGES.get(module, module)}", Status.LACKING)

@@ -2,7 +2,7 @@
 
 The program writes points of blocking programs only in refusals. So for a task of a schedulable set it is asked to refute the same set with
 the task's deadline one tick below its bound: the last step of that refusal is of this task and comes to the bound, and its point is worth
-the blocking. Deadlines are no part of a program but for windows that are longer than them; these count nothing there.
+the blocking. Where `analyse` or `refute` is wide `settle` is asked, whose points may be rounded down, and come to the same whole ticks. Deadlines are no part of a program but for windows that are longer than them; these count nothing there.
 """
 from __future__ import annotations
 
@@ -12,13 +12,18 @@ import os
 from concurrent.futures import ThreadPoolExecutor
 from dataclasses import dataclass
 from fractions import Fraction
+from pathlib import Path
 from typing import Any, Optional, Sequence
 
 from .blocking_programs import KINDS, Bounds, TaskSet, columns_of
 from .changes import with_task
-from .program import Block, Parts
+from .program import Answer, Block, Parts
 from .progress import Progress
 from .statuses import UNKNOWN, Status, Stop
+
+
+# a fraction over more is rounded where it is printed
+MOST_DENOMINATOR = 1_000_000
 
 
 @dataclass(frozen=True)
@@ -95,7 +100,9 @@ def steps_of(text: str) -> list[Step]:
 
 
 def number(value: Fraction) -> str:
-    """A number of requests or ticks."""
+    """A number of requests or ticks. A fraction that is too long to be read is rounded."""
+    if value.denominator > MOST_DENOMINATOR:
+        return f"about {float(value):.6f}"
     return str(value.numerator) if value.denominator == 1 else f"{value.numerator}/{value.denominator}"
 
 
@@ -141,30 +148,45 @@ class Asking:
         self.block, self.parts, self.path, self.allowance = block, parts, path, allowance
         self.s = TaskSet(parts)
         self.words = " ".join([block.protocol, path, *allowance])
+        # the command that has shown the set, where it is schedulable, and those that wrote refusals
+        self.shown_by = "analyse"
+        self.refused_by: set[str] = set()
 
-    def refused_steps(self, parts: Parts) -> list[Step]:
-        """The steps of a set's refusal, which the program has confirmed."""
+    def refusal_of(self, path: Path) -> Answer:
+        """The refusal of a set of a file, by `refute` or where that is wide by `settle`, or the end of the tool."""
+        answer = self.block.answer("refute", path, *self.allowance)
+        is_refused = answer.status == Status.DONE
+        if answer.status == Status.WIDE:
+            answer = self.block.answer("settle", path, *self.allowance)
+            is_refused = answer.status == Status.NO
+        if not is_refused:
+            raise Stop(f"block {answer.by} answers {answer.line()}", answer.status or Status.LACKING)
+        return answer
+
+    def refused_steps(self, parts: Parts) -> tuple[str, list[Step]]:
+        """Which command refused a set, and the steps of the refusal, which the program has confirmed."""
         text = json.dumps(parts)
-        answer = self.block.answer("refute", self.block.file(text), *self.allowance)
-        if answer.status != Status.DONE:
-            raise Stop(f"block refute answers {answer.line()}", answer.status or Status.LACKING)
+        answer = self.refusal_of(self.block.file(text))
         # the folder's file of this thread holds the set; the refusal goes to one beside it
         place = self.block.file(text)
         refusal = place.with_name(f"{place.name}.refusal")
         refusal.write_text(answer.text, encoding="utf-8")
         confirmed = self.block.answer("confirm", place, refusal)
         if confirmed.line() != "confirmed":
-            raise Stop(f"block confirm answers {confirmed.line()} to what block refute wrote", Status.LACKING)
-        return steps_of(answer.text)
+            raise Stop(f"block confirm answers {confirmed.line()} to what block {answer.by} wrote", Status.LACKING)
+        self.refused_by.add(answer.by)
+        return answer.by, steps_of(answer.text)
 
     def shown(self, place: int, bounds: Bounds) -> Reason:
         """The reason of a task of a schedulable set with these bounds."""
         s, name = self.s, self.s.tasks[place]["name"]
+        shown_by = f"block {self.shown_by} {self.words}"
         if bounds[place] == s.cost[place]:
-            return reason_of(s, self.block.protocol, place, bounds[place], None, bounds, [f"block analyse {self.words}"])
+            return reason_of(s, self.block.protocol, place, bounds[place], None, bounds, [shown_by])
         deadline = bounds[place] + s.jitter[place] - 1
-        last = self.refused_steps(with_task(self.parts, place, {**self.parts["tasks"][place], "deadline": deadline}))[-1]
-        backed_by = [f"block analyse {self.words}", f"block refute {self.words}, with the deadline of {name} at {deadline}", "block confirm of that refusal"]
+        by, steps = self.refused_steps(with_task(self.parts, place, {**self.parts["tasks"][place], "deadline": deadline}))
+        last = steps[-1]
+        backed_by = [shown_by, f"block {by} {self.words}, with the deadline of {name} at {deadline}", "block confirm of that refusal"]
         reason = reason_of(s, self.block.protocol, place, bounds[place], last.point, bounds, backed_by)
         come_to = reason.cost + reason.blocking() + reason.interference()
         if (last.place, last.value) != (place, bounds[place]) or come_to != bounds[place]:
@@ -173,8 +195,9 @@ class Asking:
 
     def not_shown(self, wanted: Optional[int]) -> Reason:
         """The reason at the refusal of a set that isn't shown: of the task that passes its deadline, or what a wanted task had come to."""
-        backed_by = [f"block refute {self.words}", "block confirm of that refusal"]
-        return at_refusal(self.s, self.block.protocol, self.refused_steps(self.parts), wanted, backed_by)
+        by, steps = self.refused_steps(self.parts)
+        backed_by = [f"block {by} {self.words}", "block confirm of that refusal"]
+        return at_refusal(self.s, self.block.protocol, steps, wanted, backed_by)
 
 
 def bounds_of(asking: Asking) -> Optional[list[int]]:
@@ -183,7 +206,8 @@ def bounds_of(asking: Asking) -> Optional[list[int]]:
     if answer.status == Status.REFUSED:
         raise Stop(answer.line(), answer.status)
     if answer.status in UNKNOWN:
-        raise Stop(f"block analyse {asking.words} answers {answer.line()}: nothing is known of the set", answer.status)
+        raise Stop(f"block {answer.by} {asking.words} answers {answer.line()}: nothing is known of the set", answer.status)
+    asking.shown_by = answer.by
     bounds: list[int] = json.loads(answer.text)["bounds"] if answer.status == Status.DONE else []
     return bounds or None
 

@@ -21,8 +21,10 @@ class Edge:
     following: int
     answer: Answer
     analyses: int
+    settled: int
+    """How many of the analyses were too wide, so that `settle` was asked."""
     unknown: int
-    """How many of the analyses were too wide, or wanted more than their allowance."""
+    """How many gave no answer in the end: too wide, or more than their allowance."""
 
 
 class Asking:
@@ -55,9 +57,10 @@ class Asking:
 
     def edge(self, shown: Optional[int], other: int) -> Edge:
         """What was seen at two neighbours; `shown` is None where no schedulable value was."""
-        unknown = sum(answer.status in UNKNOWN for answer in self.answers.values())
+        asked = [answer for distance, answer in self.answers.items() if distance]
+        settled, unknown = sum(answer.by == "settle" for answer in asked), sum(answer.status in UNKNOWN for answer in asked)
         value = None if shown is None else self.value(shown)
-        return Edge(self.number, value, self.value(other), self.answers[other], len(self.answers) - 1, unknown)
+        return Edge(self.number, value, self.value(other), self.answers[other], len(asked), settled, unknown)
 
 
 def last_schedulable(block: Block, parts: Parts, allowance: Sequence[str], number: Number, base: Answer) -> Edge:

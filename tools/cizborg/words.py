@@ -23,6 +23,7 @@ class Form:
 
 PROGRAM = (
     Form("analyse", (PROTOCOL, SET, UNITS)),
+    Form("settle", (PROTOCOL, SET, UNITS)),
     Form("refute", (PROTOCOL, SET, UNITS)),
     Form("check", (PROTOCOL, SET, CERT)),
     Form("confirm", (PROTOCOL, SET, CERT)),

@@ -1,4 +1,4 @@
--- Adding one item more to the sums of its task.
+-- Adding one more item to the sums of its task.
 use Rattle.std.proofs.Common.{◌≡◌, ℕ, ◌+◌, ◌<◌, ◌==◌, ◌&&◌, Bool, true, false, List, [], length, get_or, set, take}
 use Rattle.std.proofs.Common.{refl, sym, ap, ◌∙◌, arith, inl, inr, sum_by}
 use Rattle.std.proofs.lemmas.Bool.{cases_eq, eq-eqb, ne_eqb}
@@ -18,7 +18,7 @@ pub sums_begin : (jobs : List JobDef) (x : ℕ) → no_sums ≡ item_sums jobs x
 unfolding item_sums
 sums_begin jobs x = refl
 
--- What has stopped stays where it is.
+-- A sum that has stopped stays where it is.
 counted_more : (s t : ℕ) → counted (counted s + t) ≡ counted (s + t)
 counted_more s t = omega arith
 
@@ -38,7 +38,7 @@ same_sums : (s : ClassSums) (d i p : ℕ) → s.direct ≡ d → s.indirect ≡ 
     → s ≡ record { direct = d; indirect = i; preemption = p }
 same_sums s d i p e f g = rw (← e, ← f, ← g) refl
 
--- The sums of the item's own task have it.
+-- The sums of the item's own task get it.
 own_more : (jobs : List JobDef) (x : ℕ) (items : List ChargeItem) (i : ℕ) (d : ChargeItem) (sums : ClassSums) → i < length items
     → (job_of jobs (get_or items i d).blocked.0).task ≡ x → sums ≡ item_sums jobs x (take i items)
     → sums_with sums (get_or items i d) ≡ item_sums jobs x (take (i + 1) items)
@@ -63,7 +63,7 @@ other_more jobs x items i d l other = rw (of Direct, of Indirect, of Preemption)
   of : (c : Class) → sum_by (item_ticks jobs x c) (take (i + 1) items) ≡ sum_by (item_ticks jobs x c) (take i items)
   of c = let next = sum_more jobs x c items i d false l (ne_eqb _ _ other) in omega (arith, next)
 
--- So one item more is added to the sums.
+-- So one more item is added to the sums.
 pub sums_step : (jobs : List JobDef) (x y : ℕ) (items : List ChargeItem) (i : ℕ) (d : ChargeItem) (sums : List ClassSums) → i < length items
     → (job_of jobs (get_or items i d).blocked.0).task ≡ y → y < length sums → sums_at sums x ≡ item_sums jobs x (take i items)
     → sums_at (set sums y (sums_with (sums_at sums y) (get_or items i d))) x ≡ item_sums jobs x (take (i + 1) items)

@@ -1,4 +1,4 @@
--- What a valid certificate and a lawful schedule give to the figures.
+-- What a valid certificate and a lawful schedule imply for the figures.
 use Rattle.std.proofs.Common.{◌≡◌, ℕ, ◌<◌, Bool, List, length, get_or, map, sym, ap, ◌∙◌, subst, arith, Option}
 use Rattle.std.specs.Prelude.{slice_index}
 use Rattle.std.specs.List.{All}
@@ -41,7 +41,7 @@ items_listed charges interferes w bound n items table k d l =
     subst (λ item. item.blocked < length w.jobs) (get_or-map item_seen items k d (item_seen d) l)
     (table.listed k (item_seen d) (rw (length-map items item_seen) l))
 
--- Figures beside the values as they are listed are those beside the duals' values.
+-- The figures with the values as a list are the figures with the duals' values.
 pub same_values : (charges : Trace → ℕ → ℕ → Option Charge) (interferes : Trace → ℕ → ℕ → Bool) (w : Trace) (bound v u : ℕ → ℕ) (n : ℕ)
     (figures : List TaskFigures) → ((x : ℕ) → x < length w.set.tasks → v x ≡ u x) → AreFigures charges interferes w bound v n figures
     → AreFigures charges interferes w bound u n figures
@@ -61,7 +61,7 @@ same_values charges interferes w bound v u n figures same are = record {
     preemption = class_sum charges w bound n Preemption x;
   }
 
--- In a schedule that keeps its bounds and values, the figures lie within them.
+-- In a schedule that keeps its bounds and values, the figures are within them.
 pub lie_within : (charges : Trace → ℕ → ℕ → Option Charge) (interferes : Trace → ℕ → ℕ → Bool) (w : Trace) (bounds values : List ℕ) (n : ℕ)
     (figures : List TaskFigures) → KeepsBounds interferes w n bounds values
     → AreFigures charges interferes w (slice_index bounds) (slice_index values) n figures → All LieWithin figures
@@ -72,7 +72,7 @@ lie_within charges interferes w bounds values n figures kept are k d l =
       blocking = measured_blocking interferes w n bounds values k kept;
     })
 
--- And their ticks are all blocked ticks.
+-- And their ticks are all the blocked ticks.
 pub add_up : (charges : Trace → ℕ → ℕ → Option Charge) (interferes : Trace → ℕ → ℕ → Bool) (w : Trace) (bound value : ℕ → ℕ) (n : ℕ)
     (figures : List TaskFigures) → ChargesBlocked charges interferes w → BlockedCharged charges interferes w n
     → AreFigures charges interferes w bound value n figures → (x : ℕ) → x < length w.set.tasks

@@ -45,7 +45,7 @@ request_parts r item h =
     let three = and_parts _ _ two.1 in
     record { blocker = eqb-true _ _ one.0; request = eqb-true _ _ two.0; class = eqb-true _ _ three.1 }
 
--- Two items of one request of one job stand at the same place of the order.
+-- Two items of one request of one job have the same place in the order.
 tied : (r : ChargedRequest) (a b : ItemDef) → a.blocked ≡ b.blocked → SameRequest r a → SameRequest r b → item_cmp a b ≡ Equal
 tied r a b same of_a of_b = rw (
   itself same,
@@ -56,7 +56,7 @@ tied r a b same of_a of_b = rw (
   itself : {x y : ℕ} → x ≡ y → nat_cmp x y ≡ Equal
   itself {x} {y} e = ap (λ k. nat_cmp k y) e ∙ tied_itself nat_cmp_total y
 
--- So no two items of a sorted table are.
+-- So a sorted table has no two such items.
 never_two : (r : ChargedRequest) (items : List ItemDef) (i k : ℕ) → IsStrictlySortedBy item_cmp items → i < k → k < length items
     → (item_at items i).blocked ≡ (item_at items k).blocked → is_of (item_at items i) (Some r) ≡ true
     → is_of (item_at items k) (Some r) ≡ true → ⊥
@@ -114,7 +114,7 @@ counts_once items j c r sorted item there own is =
         with_true true = refl
         with_true false = refl
 
--- And nothing counts for no request.
+-- And for no request nothing counts.
 pub counts_nowhere : (items : List ItemDef) (j : ℕ) (c : Class)
     → count_below (length items) (λ k. counts_for j c None (item_at items k)) ≡ 0
 counts_nowhere items j c =

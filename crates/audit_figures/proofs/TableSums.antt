@@ -136,7 +136,7 @@ task_sum charges interferes w bound n items c x only table =
       of_job : ℕ → ℕ → ℕ
       of_job j k = only_if (((item_at items k).blocked == j) && is_same_class c (item_at items k).class) (item_at items k).ticks
 
--- The same of the items as they stand in the code's list.
+-- The same for the items as the code's list has them.
 abbrev pub no_charge : ChargeItem
 no_charge = record {
   blocked = record { 0 = 0 };

@@ -1,4 +1,4 @@
--- What is put together are the figures.
+-- What is put together is the figures.
 use Rattle.std.proofs.Common.{◌≡◌, ℕ, ◌*◌, ◌<◌, ◌≤◌, ◌==◌, Bool, List, length, get_or, map, refl, sym, ap, ◌∙◌, subst}
 use Rattle.std.proofs.Common.{arith, Option, sum_by}
 use Rattle.std.specs.Prelude.{slice_index, Result, Ok, Err, IfOk}
@@ -87,7 +87,7 @@ figures_are charges interferes w n bounds values measured items sums figures job
   sum : (c : Class) (x : ℕ) → counted (sum_by (item_ticks w.jobs x c) items) ≡ class_sum charges w (slice_index bounds) n c x
   sum c x = sum_counted charges interferes w (slice_index bounds) n items c x jobs rows only table
 
--- The answer on the figures, by what it is put together from.
+-- The answer on the figures, from its parts.
 pub answer_is : (r : Result (Vec TaskFigures Global) AllocError) (list : JobsDef) (measured : Measured) (bounds values : List ℕ)
     (items : List ChargeItem) (sums : List ClassSums) → length list.jobs ≤ MOST_JOBS → length measured.tasks.items ≡ length list.set.tasks
     → ((x : ℕ) → x < length list.set.tasks → sums_at sums x ≡ item_sums list.jobs x items)

@@ -1,4 +1,4 @@
--- The sums of a table of charges: for each task those of the items whose blocked job is of it, by their classes.
+-- The sums of a table of charges. A task's sums are over the items whose blocked job is of the task, by their classes.
 use Rattle.std.specs.Prelude.{ℕ, ◌+◌, ◌-◌, ◌^◌, ◌==◌, ◌&&◌, min, List, slice_index_or, sum_by}
 use Rattle.number_laws.specs.Sums.{only_if}
 use Rattle.schedule_model.specs.JobDef.{JobDef, job_of}
@@ -16,11 +16,11 @@ no_sums = record { direct = 0; indirect = 0; preemption = 0 }
 abbrev pub sums_at : List ClassSums → ℕ → ClassSums
 sums_at sums x = slice_index_or sums x no_sums
 
--- A number as far as it can be counted.
+-- A number, up to the greatest that can be counted.
 abbrev pub counted : ℕ → ℕ
 counted n = min n (2 ^ 64 - 1)
 
--- The sums with those of one item more.
+-- The sums with one more item.
 abbrev pub sums_with : ClassSums → ChargeItem → ClassSums
 sums_with sums item = record {
   direct = counted (sums.direct + only_if (is_same_class Direct item.class) item.ticks);
@@ -28,7 +28,7 @@ sums_with sums item = record {
   preemption = counted (sums.preemption + only_if (is_same_class Preemption item.class) item.ticks);
 }
 
--- The ticks of an item, where its blocked job is of task x and it is of this class; 0 where it isn't.
+-- The ticks of an item, if its blocked job is of task x and it is of this class. If not, 0.
 abbrev pub item_ticks : List JobDef → ℕ → Class → ChargeItem → ℕ
 item_ticks jobs x c item = only_if (((job_of jobs item.blocked.0).task == x) && is_same_class c item.class) item.ticks
 

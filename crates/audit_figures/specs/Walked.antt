@@ -1,4 +1,4 @@
--- What a walk over a schedule that measures and charges it comes to.
+-- The result of a walk over a schedule that measures and charges it.
 use Rattle.std.specs.Prelude.{ℕ, Bool, Option, Result, Ok, Err}
 use Rattle.std.specs.Global.{Global}
 use Rattle.std.specs.declared.vec.Vec.{Vec}
@@ -11,8 +11,8 @@ use Rattle.schedule_answers.specs.declared.judged.Unlawful.TheVariants as stop
 use Rattle.charge_laws.specs.Charges.{Charge}
 use Rattle.figure_laws.specs.Figures.{AreFigures}
 
--- Each of the n rows keeps the rules, and these are the figures of each task beside the bounds and the values; or the first row is named
--- that breaks a rule, and its first broken rule. Only want of memory says nothing of the schedule.
+-- Each of the n rows keeps the rules, and these are the figures of each task, with the bounds and the values. Or this is the first row
+-- that breaks a rule, with its first broken rule. Running out of memory says nothing about the schedule.
 abbrev pub HasFigures : (Rule → Trace → ℕ → Type 0) → (Trace → ℕ → ℕ → Bool) → (Trace → ℕ → ℕ → Option Charge) → Trace → (ℕ → ℕ)
     → (ℕ → ℕ) → ℕ → Result (Vec TaskFigures Global) Unlawful → Type 0
 HasFigures keeps interferes charges w bound value n (Ok figures) =

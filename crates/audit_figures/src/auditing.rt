@@ -27,7 +27,7 @@ use std::alloc::Global;
 use trace_conform::{JobCounter, measures_of, no_counts};
 use trace_walk::{Both, walk};
 
-/// The figures of a schedule beside bounds and values, by one walk over it that measures and charges; or the first row that breaks a
+/// The figures of a schedule, with bounds and values, by one walk over it that measures and charges. Or the first row that breaks a
 /// rule.
 fn walked_figures<P: ChargedProtocol, R: RowReader>(
     alloc: Global,
@@ -61,8 +61,8 @@ fn walked_figures<P: ChargedProtocol, R: RowReader>(
     Ok(figures)
 }
 
-/// Judges the certificate, then the rows that are read, and sets what the rows did to each task beside what the certificate proves of
-/// it. Each dual's denominator is at least 1. At first the reader stands at the first run.
+/// Judges the certificate, then the rows that are read. Shows what happened to each task in the rows, next to what the certificate
+/// proves of it. Each dual's denominator is at least 1. The reader starts at the first run.
 pub fn audit_rows_with<P: ChargedProtocol, R: RowReader>(
     alloc: Global,
     protocol: &P,
@@ -94,7 +94,7 @@ pub fn audit_rows_with<P: ChargedProtocol, R: RowReader>(
     Ok(figures)
 }
 
-/// The same of a list of rows.
+/// The same for a list of rows.
 pub fn audit_with<P: ChargedProtocol>(
     alloc: Global,
     protocol: &P,
@@ -118,7 +118,7 @@ pub fn audit_with<P: ChargedProtocol>(
     )
 }
 
-/// `audit_rows_with` by the protocol's name. Under DPCP each resource has a home.
+/// `audit_rows_with` for the protocol of this name. Under DPCP each resource has a home.
 pub fn audit_rows<R: RowReader>(
     alloc: Global,
     protocol: Protocol,
@@ -140,7 +140,7 @@ pub fn audit_rows<R: RowReader>(
     }
 }
 
-/// The same of a list of rows.
+/// The same for a list of rows.
 pub fn audit(
     alloc: Global,
     protocol: Protocol,

@@ -55,8 +55,8 @@ fn put_together(
     Ok(figures)
 }
 
-/// The figures of each task, from what was measured of a schedule, the bounds and values that were proved, and the schedule's table of
-/// charges. It refuses for want of memory alone.
+/// The figures of each task. They come from what was measured of a schedule, the bounds and values that were proved, and the schedule's
+/// table of charges. It fails only if memory runs out.
 pub(crate) fn figures(
     alloc: Global,
     jobs: &JobList,

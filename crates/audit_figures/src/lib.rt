@@ -1,5 +1,5 @@
-//! Audits a schedule against a certificate: judges both, and sets what the schedule did to each task beside what the
-//! certificate proves of it. Beside that stand the blocked ticks of its jobs, by the way in which a request blocked them.
+//! Audits a schedule against a certificate. It judges both, and shows what happened to each task in the schedule next to what the
+//! certificate proves of it. It also shows the blocked ticks of each task's jobs, by the way in which a request blocked them.
 #![tactic(auto)]
 
 mod auditing;

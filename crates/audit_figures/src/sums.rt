@@ -7,7 +7,7 @@ use charge::{ChargeItem, ChargeTable};
 use schedule_model::JobList;
 use std::alloc::{AllocError, Global};
 
-/// The ticks at which the jobs of a task were blocked within their bounds, by the ways in which they were.
+/// The ticks at which the jobs of a task were blocked within their bounds, by the way in which they were blocked.
 #[derive(Clone, Copy, Debug, PartialEq, Eq)]
 pub struct ClassSums {
     pub direct: u64,
@@ -15,7 +15,7 @@ pub struct ClassSums {
     pub preemption: u64,
 }
 
-/// The sums with those of one item more. A sum that would pass the greatest number stops there.
+/// The sums with one more item. A sum that would pass the greatest number stops there.
 fn sums_with(sums: ClassSums, item: &ChargeItem) -> ClassSums
     ensures { result ≡ sums_with sums item.now }
 {
@@ -59,7 +59,7 @@ fn no_sums(alloc: Global, tasks: u32) -> Result<Vec<ClassSums>, AllocError>
     Ok(sums)
 }
 
-/// Adds all items to the sums of the tasks of their blocked jobs, where there are none yet.
+/// Adds each item to the sums of its blocked job's task. The sums start empty.
 fn add_items(sums: &mut [ClassSums], jobs: &JobList, items: &[ChargeItem])
     requires size { length sums.old ≡ length jobs.now.set.tasks }
     requires none { (x : ℕ) → sums_at sums.old x ≡ no_sums }
@@ -72,7 +72,7 @@ fn add_items(sums: &mut [ClassSums], jobs: &JobList, items: &[ChargeItem])
     }
 }
 
-/// The sums of each task, over the items whose blocked job is of it.
+/// The sums of each task, over the items whose blocked job is of the task.
 pub(crate) fn sums_of_tasks(
     alloc: Global,
     jobs: &JobList,

@@ -28,13 +28,14 @@ begins_tied : (P : Plan → Type 0) (protocol : ProtocolName) (name : List ℕ) 
     → ((next : List ℕ → SetDef → Plan) → P (Reading (set_input protocol) name next)) → P (plan_of (tied_form protocol name w))
 begins_tied P protocol name (tied.Analyse allowance) holds = holds _
 begins_tied P protocol name (tied.Refute allowance) holds = holds _
+begins_tied P protocol name (tied.Settle allowance) holds = holds _
 begins_tied P protocol name (tied.Check certificate) holds = holds _
 begins_tied P protocol name (tied.Confirm refusal) holds = holds _
 begins_tied P protocol name (tied.Upgrade certificate) holds = holds _
 begins_tied P protocol name (tied.FullReport certificate) holds = holds _
 begins_tied P protocol name (tied.Audit inputs) holds = holds _
 
--- So what is answered of a set of which nothing is got is the reply to each of them.
+-- So the answer to a set that gives nothing is the reply to each command.
 pub ungot_plain : (old new : ShelfDef) (protocol : ProtocolName) (name : List ℕ) (w : PlainWork) (h : Halt)
     → HaltsWith h (IsUngot (shown old new) (set_input protocol) name)
     → HaltsWith h (IsReplyOf (shown old new) (plan_of (plain_form protocol name w)))

@@ -15,16 +15,16 @@ use Rattle.run_plans.specs.Run.{IsRun}
 abbrev pub GivenWords : Type 0
 GivenWords = Result (IntoIter (String Global) Global) Error
 
--- The words after the program's name. Where std has none for another reason than want of memory, as for a word that isn't UTF-8,
--- there are none.
+-- The words after the program's name. If std has none for another reason than running out of memory, such as a word that isn't UTF-8, there
+-- are none.
 abbrev pub GivesWords : GivenWords → Result (Vec (String Global) Global) AllocError → Type 0
 GivesWords (Ok args) (Ok words) = words.items ≡ drop 1 (into_iter_items args)
 GivesWords (Ok args) (Err e) = Unit {0}
 GivesWords (Err error) (Ok words) = (words.items ≡ []) × (error_kind error ≢ OutOfMemory)
 GivesWords (Err error) (Err e) = error_kind error ≡ OutOfMemory
 
--- Does the program run with these words, over this shelf and this sink, and end with this status? Where memory ran out before it had
--- the words, nothing was read or written.
+-- Does the program run with these words, over this shelf and this sink, and end with this status? If memory ran out before it had the
+-- words, nothing was read or written.
 abbrev pub Runs : ShelfDef → ShelfDef → SinkDef → SinkDef → ℕ → Result (Vec (String Global) Global) AllocError → Type 0
 Runs shelf_before shelf_now sink_before sink_now status (Ok words) = IsRun (record {
   words = words_seen words.items;
@@ -36,7 +36,7 @@ Runs shelf_before shelf_now sink_before sink_now status (Ok words) = IsRun (reco
 })
 Runs shelf_before shelf_now sink_before sink_now status (Err e) = (status ≡ 7) × (shelf_now ≡ shelf_before) × (sink_now ≡ sink_before)
 
--- Does it run so with the words that were given? `gives` says which these may be.
+-- Does it run in this way with the words that were given? `gives` says which these may be.
 pub record Answers (gives : GivenWords → Type 0) (shelf_before shelf_now : ShelfDef)
     (sink_before sink_now : SinkDef) (status : ℕ) : Type 0 where
   pub given : GivenWords

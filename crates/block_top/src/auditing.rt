@@ -28,7 +28,7 @@ use sporadic_model::TaskSet;
 use std::alloc::{AllocError, Global};
 use trace_csv::RowText;
 
-/// The reply where each row keeps the rules, and so the bounds.
+/// The reply if each row keeps the rules, and so the bounds.
 fn kept_reply(
     alloc: Global,
     set: &TaskSet,

@@ -15,6 +15,7 @@ ghost use Rattle.command_inputs.specs.Halts.{reply_seen};
 ghost use Rattle.run_plans.specs.Replies.{AnswersPlan};
 
 use crate::auditing::audit;
+use crate::deciding::settlement;
 use crate::judging::{judgement, proved_table};
 use crate::refusing::{confirmation, refutation};
 use crate::study::study_counts;
@@ -224,7 +225,7 @@ fn audited_reply<S: Shelf>(
     )
 }
 
-/// Reads the set of this name, and then what else the work asks for, and does it.
+/// Reads the set of this name and then what else the work asks for, and does the work.
 #[tactic(auto, using(crate::proofs::SetPlans::ungot_plain))]
 fn plain_reply<S: Shelf>(
     alloc: Global,
@@ -247,7 +248,7 @@ fn plain_reply<S: Shelf>(
     }
 }
 
-/// The same of a work with certificates, which carry the digest of the set's bytes.
+/// The same for a work with certificates. They carry the digest of the set's bytes.
 #[tactic(auto, using(crate::proofs::SetPlans::ungot_tied))]
 fn tied_reply<R: Threads + Sync, S: Shelf>(
     rt: &R,
@@ -264,6 +265,7 @@ fn tied_reply<R: Threads + Sync, S: Shelf>(
     match work {
         TiedWork::Analyse { allowance } => analysis(rt, alloc, &digest, &set, protocol, allowance),
         TiedWork::Refute { allowance } => refutation(alloc, &digest, &set, protocol, allowance),
+        TiedWork::Settle { allowance } => settlement(rt, alloc, &digest, &set, protocol, allowance),
         TiedWork::Check { certificate } => {
             judgement_reply(alloc, shelf, protocol, &digest, &set, certificate)
         }
@@ -304,7 +306,7 @@ fn command_reply<R: Threads + Sync, S: Shelf>(
     }
 }
 
-/// The reply to words: all that comes before the first write. An error is want of memory.
+/// The reply to words: all that comes before the first write. An error means that memory ran out.
 pub fn reply_to<R: Threads + Sync, S: Shelf>(
     rt: &R,
     alloc: Global,

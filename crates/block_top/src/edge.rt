@@ -14,18 +14,18 @@ use std::process::{ExitCode, Termination};
 use std::rt::Runtime;
 use std::thread::Threads;
 
-/// What gives the words that the program was started with.
+/// The source of the words that the program was started with.
 ///
 /// `gives` says what these may be. So a contract that cites it says that they were asked for.
 pub trait Words {
     ghost gives: { Self → GivenWords → Type 0 };
 
-    /// All words, of which the program's name is the first; or why there are none.
+    /// All words, the program's name first. Or why there are none.
     fn words(&self) -> io::Result<Args>
         ensures { gives self.now result };
 }
 
-/// The words of this process. No clause can say that they are: that is read in the one line of `words`.
+/// The words of this process. No clause can say that they are: you see it in the one line of `words`.
 #[derive(Drop)]
 pub struct ProcessWords<'a, R: Runtime + AllocGlobal> {
     runtime: &'a R,
@@ -46,7 +46,7 @@ impl<'a, R: Runtime + AllocGlobal> Words for ProcessWords<'a, R> {
     }
 }
 
-/// How the process ends: with the status of one call of [`answered`], which alone makes such a value.
+/// How the process ends: with the status of one call of [`answered`]. Only that call makes such a value.
 ///
 /// It isn't `Drop`, so nobody can let it go. A `main` that returns it ends with what that call answered.
 pub struct Ended {
@@ -62,11 +62,10 @@ impl Termination for Ended {
     }
 }
 
-/// Answers the words that the program was started with, over this shelf and this sink, with this runtime's memory and
-/// threads.
+/// Answers the words that the program was started with, over this shelf and this sink. It uses this runtime's memory and threads.
 ///
-/// The status is that of one `run` with the words behind the program's name. It is 7 where memory ran out before, and
-/// then nothing was read or written.
+/// The status is that of one `run` with the words after the program's name. It is 7 if memory ran out before that, and then nothing was
+/// read or written.
 pub fn answered<R: Runtime + AllocGlobal + Threads + Sync, W: Words, S: Shelf, K: Sink>(
     rt: &R,
     words: &W,
@@ -98,7 +97,7 @@ fn run_over<R: Runtime + AllocGlobal + Threads + Sync, S: Shelf, K: Sink>(
     }
 }
 
-/// The words that std gives, behind the program's name. There are none where one isn't UTF-8.
+/// The words that std gives, after the program's name. There are none if one isn't UTF-8.
 fn words_of(alloc: Global, given: io::Result<Args>) -> Result<Vec<String>, AllocError>
     ensures { GivesWords given result }
 {

@@ -23,7 +23,7 @@ use report::full_table;
 use sporadic_model::TaskSet;
 use std::alloc::{AllocError, Global};
 
-/// The reply where a certificate isn't valid.
+/// The reply if a certificate isn't valid.
 pub(crate) fn invalid_reply(
     alloc: Global,
     set: &TaskSet,
@@ -38,7 +38,7 @@ pub(crate) fn invalid_reply(
     })
 }
 
-/// The reply where a certificate is valid.
+/// The reply if a certificate is valid.
 fn valid_reply(alloc: Global) -> Result<Reply, AllocError>
     ensures { IfOk result (λ r. reply_seen r ≡ checked_answer) }
 {
@@ -48,8 +48,8 @@ fn valid_reply(alloc: Global) -> Result<Reply, AllocError>
     })
 }
 
-/// What the certificate proves, where it is valid. Else halts with the reply that names its first failure, which is the judgement whatever
-/// a valid one is told.
+/// What the certificate proves, if it is valid. If not, halts with the reply that names its first failure. This reply is the judgement,
+/// whatever the answer on a valid certificate is.
 pub(crate) fn validity(
     alloc: Global,
     protocol: ProtocolName,

@@ -3,6 +3,7 @@
 
 mod auditing;
 mod commands;
+mod deciding;
 mod edge;
 mod judging;
 mod refusing;

@@ -45,7 +45,7 @@ fn refused_reply(
     })
 }
 
-/// The reply where a set is schedulable, so that there is no refusal.
+/// The reply if a set is schedulable, so that there is no refusal.
 fn schedulable_reply(alloc: Global) -> Result<Reply, AllocError>
     ensures { IfOk result (λ r. reply_seen r ≡ record { status = 1; text = schedulable_text }) }
 {
@@ -90,7 +90,7 @@ pub fn refutation(
     Ok(refuting_reply(alloc, protocol, digest, set, answer)?)
 }
 
-/// The reply where a refusal holds.
+/// The reply if a refusal holds.
 fn confirmed_reply(alloc: Global) -> Result<Reply, AllocError>
     ensures { IfOk result (λ r. reply_seen r ≡ confirmed_answer) }
 {
@@ -100,7 +100,7 @@ fn confirmed_reply(alloc: Global) -> Result<Reply, AllocError>
     })
 }
 
-/// The reply where a refusal doesn't hold.
+/// The reply if a refusal doesn't hold.
 fn unconfirmed_reply(alloc: Global, fault: Fault) -> Result<Reply, AllocError>
     ensures { IfOk result (λ r. reply_seen r ≡ unconfirmed_answer fault) }
 {
@@ -129,7 +129,7 @@ fn refusal_judgement<R: Threads + Sync>(
     }
 }
 
-/// The work of `confirm`, on the set of this digest, where the refusal's file has its own digest.
+/// The work of `confirm`, on the set of this digest. `own` is the digest that the refusal's file names.
 pub fn confirmation<R: Threads + Sync>(
     rt: &R,
     alloc: Global,

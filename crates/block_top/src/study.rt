@@ -1,4 +1,4 @@
-//! The work of `study`, which reads no input.
+//! The work of `study`. It reads no input.
 
 ghost use Rattle.std.specs.Prelude.{◌≤◌};
 ghost use Rattle.run_plans.specs.Commands.{IsStudyAnswer};

@@ -10,13 +10,12 @@ use outside_ports::{Shelf, Sink, SinkFault, put_all};
 use std::alloc::{AllocError, Global};
 use std::thread::Threads;
 
-/// Answers the words: loads and reads the inputs that they name from the shelf, each after the one before is
-/// accepted, does the work, and writes the answer's text to the sink. Nothing is written before the whole text is
-/// made.
+/// Answers the words. Loads and reads the inputs that they name from the shelf, each after the one before is accepted. Then does the work,
+/// and writes the answer's text to the sink. Nothing is written before the whole text is made.
 ///
-/// Status 4 comes only where the shelf's or the sink's count of faults rose in this call; with status 7 nothing is
-/// written; with every other status the whole text is out. What the shelf and the sink tell of themselves stays, and
-/// a shelf that promises that no call fails raises no count.
+/// Status 4 comes only if the shelf's or the sink's count of faults rose in this call. With status 7 nothing is written. With every other
+/// status the whole text is out. What the shelf and the sink tell of themselves stays. A shelf that promises that no call fails raises no
+/// count.
 pub fn run<R: Threads + Sync, S: Shelf, K: Sink>(
     rt: &R,
     alloc: Global,

@@ -9,7 +9,7 @@ use command_inputs::{Reply, Status};
 use reply_texts::other_set_line;
 use std::alloc::{AllocError, Global};
 
-/// The reply where a certificate is of another set.
+/// The reply if a certificate is of another set.
 pub(crate) fn other_set_reply(alloc: Global) -> Result<Reply, AllocError>
     ensures { IfOk result (λ r. reply_seen r ≡ other_set_answer) }
 {
@@ -26,7 +26,7 @@ pub(crate) fn are_same(own: &[u8; 32], digest: &[u8; 32]) -> bool
     own.as_slice() == digest.as_slice()
 }
 
-/// The reply that the certificate is of another set than that of this digest; none where it is of it.
+/// The reply that the certificate isn't of the set of this digest. None if it is.
 pub(crate) fn untied_reply(
     alloc: Global,
     file: &CertFile,

@@ -52,7 +52,7 @@ pub(crate) fn certificate_reply(
     })
 }
 
-/// The reply where a task's value passes its latest bound.
+/// The reply if a task's value passes its latest bound.
 fn not_shown_reply(
     alloc: Global,
     set: &TaskSet,
@@ -71,7 +71,7 @@ fn not_shown_reply(
     })
 }
 
-/// The reply where a task's program is too wide.
+/// The reply if a task's program is too wide.
 pub(crate) fn wide_reply(alloc: Global, set: &TaskSet, task: TaskId) -> Result<Reply, AllocError>
     requires { task.0 < length set.now.tasks }
     ensures { IfOk result (λ r. reply_seen r ≡ record { status = 5; text = wide_text (task_at set.now task.0).name }) }
@@ -82,7 +82,7 @@ pub(crate) fn wide_reply(alloc: Global, set: &TaskSet, task: TaskId) -> Result<R
     })
 }
 
-/// The reply where the programs want more units than the allowance.
+/// The reply if the programs want more units than the allowance.
 pub(crate) fn allowance_reply(alloc: Global) -> Result<Reply, AllocError>
     ensures { IfOk result (λ r. reply_seen r ≡ record { status = 6; text = allowance_text }) }
 {
@@ -140,7 +140,7 @@ pub fn table(alloc: Global, set: &TaskSet) -> Result<Reply, Halt>
     })
 }
 
-/// The reply where each row keeps the rules.
+/// The reply if each row keeps the rules.
 fn lawful_reply(
     alloc: Global,
     set: &TaskSet,
@@ -159,7 +159,7 @@ fn lawful_reply(
     })
 }
 
-/// The reply where a row breaks a rule.
+/// The reply if a row breaks a rule.
 pub(crate) fn broken_reply(alloc: Global, breach: Breach) -> Result<Reply, AllocError>
     ensures { IfOk result (λ r. reply_seen r ≡ record { status = 1; text = broken_text breach.tick breach.rule }) }
 {

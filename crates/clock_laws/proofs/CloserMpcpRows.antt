@@ -1,5 +1,5 @@
--- The closer rows of MPCP in cycles beside those in ticks, and with them whole programs. Their limits read numbers of ticks only by how many
--- jobs can run.
+-- The closer rows of MPCP in cycles beside those in ticks, and with them whole programs. Their limits depend on numbers of ticks only
+-- by how many jobs can run.
 use Rattle.std.proofs.Common.{◌≡◌, ℕ, ◌+◌, ◌<◌, ◌==◌, ◌&&◌, not, nat_lt, Bool, List, [], ◌∷◌, ◌++◌, length, refl}
 use Rattle.std.specs.Prelude.{slice_index}
 use Rattle.number_laws.specs.Sums.{sum_below, only_if}

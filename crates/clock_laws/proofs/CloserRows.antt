@@ -1,4 +1,5 @@
--- The closer rows of FMLP+ in cycles beside those in ticks, and with them whole programs. None of their limits reads a number of ticks.
+-- The closer rows of FMLP+ in cycles beside those in ticks, and with them whole programs. None of their limits depends on a number of
+-- ticks.
 use Rattle.std.proofs.Common.{◌≡◌, ℕ, ◌+◌, ◌<◌, ◌==◌, ◌&&◌, not, Bool, List, [], ◌∷◌, ◌++◌, length, refl}
 use Rattle.std.specs.Prelude.{slice_index}
 use Rattle.number_laws.specs.Sums.{sum_below, only_if}

@@ -1,4 +1,4 @@
--- The columns of a task do not change where its set is said in cycles: they go by processors, homes, users and ceilings.
+-- The columns of a task don't change when its set is put in cycles. They depend on processors, homes, users and ceilings.
 use Rattle.std.proofs.Common.{◌≡◌, ℕ, Bool, length, refl, ◌==◌, ◌&&◌, ◌||◌, not, nat_lt, nat_le}
 use Rattle.std.specs.List.{filter}
 use Rattle.number_laws.specs.Tests.{any_below}
@@ -14,7 +14,7 @@ use Rattle.blocking_columns.specs.Columns.{may_block, columns_by, columns_of}
 use Rattle.clock_laws.specs.Cycles.{in_cycles}
 use Rattle.clock_laws.proofs.Sets.{tasks_in, processor_in, users_in, one_processor_in, higher_in, lower_in, rank_in, remote_rank_in}
 
--- What may block a task in one way may in the other, so the columns are the same.
+-- What may block a task in ticks may block it in cycles, and the other way round. So the columns are the same.
 pub columns_same : (k : ℕ) (set : SetDef) (i : ℕ) (fine coarse : ℕ → ℕ → Class → Bool)
     → ((x q : ℕ) (c : Class) → fine x q c ≡ coarse x q c) → columns_by fine (in_cycles k set) i ≡ columns_by coarse set i
 columns_same k set i fine coarse same = λ j. filter

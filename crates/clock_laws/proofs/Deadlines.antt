@@ -1,5 +1,5 @@
--- A job that is lawful for what was measured has ended by its deadline, in each schedule that keeps the bounds in cycles; so it has where
--- the bounds are sound on clocks.
+-- A job that is lawful for the measured set has ended by its deadline, in each schedule that keeps the bounds in cycles. It has ended
+-- as well if the bounds are sound on clocks.
 use Rattle.std.proofs.Common.{◌≡◌, ℕ, ◌+◌, ◌*◌, ◌<◌, ◌≤◌, Bool, List, length, sym, subst, arith}
 use Rattle.std.specs.Prelude.{slice_index}
 use Rattle.sporadic_model.specs.SetDef.{SetDef, task_at}

@@ -1,4 +1,4 @@
--- A formed set stays formed where it is said in cycles: only the upper limits of numbers of ticks may be passed.
+-- A formed set stays formed when it is put in cycles: only the upper limits of numbers of ticks may be passed.
 use Rattle.std.proofs.Common.{◌≡◌, ◌∙◌, ℕ, zero, suc, ◌+◌, ◌*◌, ◌≤◌, List, [], ◌∷◌, map, length, refl, sym, arith, subst, IsTrue}
 use Rattle.std.specs.Prelude.{slice_index_or}
 use Rattle.std.proofs.Math.Nat.{mul-zero, mul-le-mul_left}

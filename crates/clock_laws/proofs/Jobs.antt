@@ -1,4 +1,4 @@
--- As many jobs of each task, and as many requests, run in k times as many cycles; and interference takes k times as many of them.
+-- In k times as many cycles, as many jobs of each task run, with as many requests. So interference takes k times as many cycles.
 use Rattle.std.proofs.Common.{◌≡◌, ◌∙◌, ℕ, ◌+◌, ◌-◌, ◌*◌, ◌<◌, List, length, sym, arith, Bool, ◌==◌}
 use Rattle.std.specs.Prelude.{slice_index}
 use Rattle.std.specs.Int.{div_ceil}
@@ -13,7 +13,7 @@ use Rattle.clock_laws.specs.Cycles.{in_cycles, times_each}
 use Rattle.clock_laws.proofs.Scaled.{div_ceil_scaled, only_times, each_at}
 use Rattle.clock_laws.proofs.Sets.{period_in, jitter_in, count_in, higher_in}
 
--- Bounds, each k times as great.
+-- Bounds, each multiplied by k.
 abbrev pub fine : ℕ → (ℕ → ℕ) → ℕ → ℕ
 fine k bounds x = k * bounds x
 
@@ -44,7 +44,7 @@ requests_at_in k set i m = λ j. sum_below (length set.resources) (λ q. only_if
 rest : (k b c g : ℕ) → k * b + k * c - k * g ≡ k * (b + c - g)
 rest k b c g = let sum : k * b + k * c ≡ k * (b + c) = omega arith in (λ j. sum j - k * g) ∙ sym (mul-sub k (b + c) g)
 
--- What is counted for jobs of one higher task,
+-- What is counted for jobs of one higher task.
 by_one : (k : ℕ) (g fine_g : ℕ → ℕ) (set : SetDef) (bounds : List ℕ) (i h : ℕ) → 0 < k → fine_g h ≡ k * g h
     → interference_by fine_g (in_cycles k set) (times_each k bounds) i h ≡ k * interference_by g set bounds i h
 by_one k g fine_g set bounds i h some same =
@@ -63,7 +63,7 @@ by_one k g fine_g set bounds i h some same =
       times_later : (m n : ℕ) → m * (k * n) ≡ k * (m * n)
       times_later m n = omega arith
 
--- and so for all of them.
+-- And for all of them.
 pub interference_scaled : (k : ℕ) (g fine_g : ℕ → ℕ) (set : SetDef) (bounds : List ℕ) (i : ℕ) → 0 < k → ((h : ℕ) → fine_g h ≡ k * g h)
     → interference_of fine_g (in_cycles k set) (times_each k bounds) i ≡ k * interference_of g set bounds i
 interference_scaled k g fine_g set bounds i some same =

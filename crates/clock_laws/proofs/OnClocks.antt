@@ -1,5 +1,5 @@
 -- Bounds that a valid certificate proves in ticks are sound on clocks, for every source whose programs and interfering costs are
--- rescaled: what a job may execute, its value and its interference in cycles are at most k times its bound, together.
+-- rescaled. In cycles, the sum of what a job may execute, its value and its interference is at most k times its bound.
 use Rattle.std.proofs.Common.{◌≡◌, ℕ, zero, suc, ◌+◌, ◌-◌, ◌*◌, ◌%◌, ◌<◌, ◌≤◌, Bool, true, false, List, [], ◌∷◌, length, refl}
 use Rattle.std.proofs.Common.{arith, inl, inr, if◌then◌else◌}
 use Rattle.std.specs.Prelude.{slice_index}
@@ -27,7 +27,7 @@ use Rattle.clock_laws.proofs.Formed.{formed_in_cycles}
 use Rattle.clock_laws.proofs.Jobs.{interference_scaled}
 use Rattle.clock_laws.proofs.Programs.{IsRescaled, fine_dual, covers_rescaled, value_rescaled, whole_rescaled}
 
--- The programs and interfering costs of a source, of a set in cycles beside those of the set in ticks.
+-- The programs and interfering costs of a source, for a set in cycles beside those for the set in ticks.
 pub record IsRescaledSource (source : SetDef → SourceDef) : Type 0 where
   pub programs : (k : ℕ) (set : SetDef) (bounds : List ℕ) (i : ℕ) → 0 < k
       → IsRescaled k ((source set).program i bounds) ((source (in_cycles k set)).program i (times_each k bounds))

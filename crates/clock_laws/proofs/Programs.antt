@@ -1,5 +1,5 @@
--- Programs in cycles beside programs in ticks: a dual of the one, each multiplier as many times as great as its row says, is a dual
--- of the other, and is worth k times as much and a part of k at most.
+-- Programs in cycles beside programs in ticks. Take a dual of the one, and multiply each multiplier as its row says. This is a dual of
+-- the other. Its value is at most k times as great, plus less than k.
 use Rattle.std.proofs.Common.{◌≡◌, ◌∙◌, ℕ, ◌+◌, ◌-◌, ◌*◌, ◌%◌, ◌<◌, ◌≤◌, List, [], ◌∷◌, map, zero, suc}
 use Rattle.std.proofs.Common.{ap, sym, subst, arith}
 use Rattle.std.specs.Prelude.{slice_index}
@@ -102,7 +102,7 @@ over_same k set bounds columns xs ys some given = record {
   at_each : fine k (slice_index bounds) ≡ slice_index (times_each k bounds)
   at_each = sym (λ j x. each_at k bounds x j)
 
--- And where the columns are said otherwise.
+-- And if the columns are given in another way.
 pub programs_rescaled : (k : ℕ) (set : SetDef) (bounds : List ℕ) (columns others : List ColumnDef) (xs ys : List ConstraintDef) → 0 < k
     → others ≡ columns → AreRescaled k (slice_index bounds) xs ys
     → IsRescaled k (program_with set columns xs bounds) (program_with (in_cycles k set) others ys (times_each k bounds))

@@ -1,5 +1,5 @@
--- A row in cycles beside the one in ticks: one that counts has the same coefficients and the same limit, so its multiplier grows k
--- times; one of time has both k times as great, so its multiplier stays. In both the multiplier in cycles does k times as much.
+-- A row in cycles beside the one in ticks. A row that counts has the same coefficients and the same limit, so its multiplier grows k
+-- times. A row of time has both k times as great, so its multiplier stays. In both, the multiplier in cycles does k times as much.
 use Rattle.std.proofs.Common.{◌≡◌, ◌∙◌, ℕ, zero, suc, ◌*◌, ◌<◌, ◌≤◌, List, [], ◌∷◌, ◌++◌, map, length, Bool, true, false}
 use Rattle.std.proofs.Common.{ap, refl, sym, subst, arith, inl, inr, if◌then◌else◌}
 use Rattle.std.specs.Prelude.{slice_index, slice_index_or}
@@ -68,7 +68,7 @@ collected k bounds (suc n) f g each =
     appended k bounds (collect_below n f) (collect_below n g) (f n) (g n) (collected k bounds n f g (λ x l. each x (omega arith)))
     (each n (omega arith))
 
--- One for each number below n: in cycles n may be written otherwise.
+-- One row for each number below n. In cycles n may be written in another way.
 pub each_per : (k : ℕ) (bounds : ℕ → ℕ) (n m : ℕ) (f g : ℕ → ConstraintDef) → m ≡ n
     → ((x : ℕ) → x < n → IsRescaledRow k bounds (f x) (g x)) → AreRescaled k bounds (per n f) (per m g)
 each_per k bounds n m f g same each = subst (λ o. AreRescaled k bounds (per n f) (per o g)) (sym same)
@@ -92,7 +92,7 @@ each_where k bounds test fine_test n m f g tests same each =
     (collected k bounds n (λ x. if test x then f x ∷ [] else []) (λ x. if test x then g x ∷ [] else [])
     (λ x l. if_there k bounds (test x) (f x) (g x) (each x l))))
 
--- A row is there in cycles exactly where it is in ticks.
+-- A row is nonzero in cycles if and only if it is in ticks.
 there_same : (k : ℕ) (bounds : ℕ → ℕ) (columns : List ColumnDef) (a b : ConstraintDef) → 0 < k → IsRescaledRow k bounds a b
     → holds_some columns b ≡ holds_some columns a
 there_same k bounds columns a b some row =

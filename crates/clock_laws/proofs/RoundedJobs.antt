@@ -1,5 +1,5 @@
--- A job that is lawful for a set measured in cycles is one of the set in ticks, said in cycles; it leaves part of a tick of its cost,
--- and it is to be finished before its deadline.
+-- A job that is lawful for a set measured in cycles is a job of the set in ticks, put in cycles. It leaves part of a tick of its cost,
+-- and has to end before its deadline.
 use Rattle.std.proofs.Common.{◌≡◌, ℕ, ◌+◌, ◌-◌, ◌*◌, ◌≤◌, Bool, true, List, [], ◌∷◌, length, refl}
 use Rattle.std.proofs.Common.{arith, inl, inr, Option, None, Some, nat_lt}
 use Rattle.std.specs.Prelude.{nat_le}
@@ -83,7 +83,7 @@ jobs_in_cycles k measured set jobs some accepted rounding lawful = record {
       omega (arith, lawful.apart a b less l same, rounded.period, period_in k set (job_of jobs a).task);
 }
 
--- With a bound that is at most the latest one, a job's release and its bound in cycles end within its deadline.
+-- If a bound is at most the latest one, a job's release and its bound in cycles end within its deadline.
 pub due_by_deadline : (k : ℕ) (measured set : SetDef) (job : JobDef) (bound : ℕ) → IsAccepted set → IsRounding k measured set
     → IsLawfulJob measured job → bound ≤ latest_bound (task_at set job.task)
     → job.release + k * bound ≤ job.arrival + (task_at measured job.task).deadline

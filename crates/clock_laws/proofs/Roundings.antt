@@ -1,4 +1,4 @@
--- A set that is rounded to ticks, with a tick more in each cost, is a rounding of what was measured.
+-- A set that is rounded to ticks, with a tick more in each cost, is a rounding of the measured one.
 use Rattle.std.proofs.Common.{◌≡◌, ◌∙◌, ℕ, ◌+◌, ◌-◌, ◌*◌, ◌<◌, ◌≤◌, length, sym, arith, subst, Option, None, Some, option_map}
 use Rattle.std.specs.Prelude.{find}
 use Rattle.std.specs.Int.{div_ceil}
@@ -12,7 +12,7 @@ use Rattle.sporadic_model.specs.Users.{entry_of, count_of, length_of}
 use Rattle.sporadic_model.proofs.Mapped.{find-map}
 use Rattle.clock_laws.specs.Rounding.{IsRoundedTask, IsRounding, rounded_request, rounded_task, rounded}
 
--- As many ticks have no fewer cycles.
+-- A number of cycles that is rounded up to ticks has at least as many cycles as before.
 enough_ticks : (k n : ℕ) → 1 ≤ k → n ≤ k * div_ceil n k
 enough_ticks k n some = omega (arith, (div_ceil_times n k some).0)
 

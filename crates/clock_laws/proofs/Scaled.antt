@@ -1,4 +1,4 @@
--- Numbers that are k times as great: quotients stay, and what is left of a product is k times as great too.
+-- Numbers multiplied by k: quotients stay, and remainders are multiplied by k too.
 use Rattle.std.proofs.Common.{◌≡◌, ◌∙◌, ℕ, zero, suc, ◌+◌, ◌-◌, ◌*◌, ◌/◌, ◌%◌, ◌<◌, ◌≤◌, ap, ap₂, refl, sym, arith, min, inl, inr, Bool, true, false}
 use Rattle.std.proofs.Common.{List, [], ◌∷◌}
 use Rattle.std.specs.Prelude.{slice_index, nat_lt, max}
@@ -10,12 +10,12 @@ use Rattle.number_laws.proofs.Divisors.{times_mod}
 use Rattle.number_laws.specs.Sums.{only_if}
 use Rattle.clock_laws.specs.Cycles.{times_each}
 
--- A product is 0 where a factor is.
+-- A product with a k above 0 is 0 if and only if its other factor is.
 min_once : (m k : ℕ) → 0 < k → min 1 (m * k) ≡ min 1 m
 min_once zero k some = omega arith
 min_once (suc m) k some = let more : 1 * k ≤ suc m * k = mul-le-mul_right k (omega arith) in omega (arith, more)
 
--- A quotient that is rounded up is the same where both numbers are k times as great.
+-- A quotient that is rounded up stays the same if both numbers are multiplied by k.
 pub div_ceil_scaled : (k a p : ℕ) → 0 < k → div_ceil (k * a) (k * p) ≡ div_ceil a p
 div_ceil_scaled k a zero some =
     rw (mul-zero, div-zero, div-zero, mod-zero, mod-zero) (ap (λ m. 0 + min 1 m) (mul_comm k a) ∙ ap (λ m. 0 + m) (min_once a k some))
@@ -68,7 +68,7 @@ max_times k m n = elim (cases_lt m n) [
       omega (arith, more, ap (λ z. k * z) greater)
 ]
 
--- The number at a place of a list, each number k times as great.
+-- The number at a place of a list, with each number multiplied by k.
 pub each_at : (k : ℕ) (ns : List ℕ) (x : ℕ) → slice_index (times_each k ns) x ≡ k * slice_index ns x
 each_at k [] x = sym (mul-zero k)
 each_at k (n ∷ ns) zero = refl

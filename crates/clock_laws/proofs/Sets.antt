@@ -1,5 +1,5 @@
--- A set said in cycles has the same tasks on the same processors, with the same users of each resource; each of its numbers of
--- ticks is k times as great.
+-- A set in cycles has the same tasks on the same processors, with the same users of each resource. Each of its numbers of ticks is
+-- multiplied by k.
 use Rattle.std.proofs.Common.{◌≡◌, ◌∙◌, ℕ, zero, suc, ◌*◌, List, [], ◌∷◌, map, length, refl, sym, Option, None, Some}
 use Rattle.std.proofs.Common.{option_map, ◌==◌, ◌&&◌, not, nat_lt}
 use Rattle.std.specs.Prelude.{slice_index_or, find, unwrap_or}
@@ -50,7 +50,7 @@ local_in k set x = λ j. (task_in k set x j).local
 pub jitter_in : (k : ℕ) (set : SetDef) (x : ℕ) → (task_at (in_cycles k set) x).jitter ≡ k * (task_at set x).jitter
 jitter_in k set x = λ j. (task_in k set x j).jitter
 
--- The entry of a task for a resource is the same one, said in cycles.
+-- The entry of a task for a resource is the same one, put in cycles.
 entry_in : (k : ℕ) (set : SetDef) (x q : ℕ) → entry_of (in_cycles k set) x q ≡ option_map (request_in_cycles k) (entry_of set x q)
 entry_in k set x q = (λ j. find (λ e. bytes_eq e.resource (resource_at set q).name) (task_in k set x j).requests)
     ∙ find-map (request_in_cycles k) (λ e. bytes_eq e.resource (resource_at set q).name) (task_at set x).requests
@@ -71,7 +71,7 @@ count_in k set x q = (λ j. option_map_or (λ e. e.count) (entry_in k set x q j)
 pub length_in : (k : ℕ) (set : SetDef) (x q : ℕ) → length_of (in_cycles k set) x q ≡ k * length_of set x q
 length_in k set x q = (λ j. option_map_or (λ e. e.length) (entry_in k set x q j) 0) ∙ times_length k (entry_of set x q)
 
--- So each test that reads no number of ticks is the same.
+-- So each test that depends on no number of ticks is the same.
 pub users_in : (k : ℕ) (set : SetDef) → is_user (in_cycles k set) ≡ is_user set
 users_in k set = λ j q x. nat_lt 0 (count_in k set x q j)
 

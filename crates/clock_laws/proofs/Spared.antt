@@ -1,5 +1,5 @@
--- A schedule in which each job leaves all but one cycle of a tick of its cost is one in which no job executes more cycles than it may,
--- of whichever tasks the value is whole.
+-- Let each job of a schedule leave all but one cycle of a tick of its cost. Then no job executes more cycles than it may, whichever
+-- tasks are marked as having whole values.
 use Rattle.std.proofs.Common.{◌≡◌, ℕ, ◌+◌, ◌-◌, ◌*◌, ◌<◌, ◌≤◌, Bool, false, length, subst, arith, inl, inr}
 use Rattle.std.proofs.lemmas.Bool.{cases_Bool}
 use Rattle.sporadic_model.specs.SetDef.{SetDef, task_at}

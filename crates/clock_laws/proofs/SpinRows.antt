@@ -35,7 +35,7 @@ from_in k set = λ j m q c. (processor_in k set c.task j == m) && (c.resource ==
 pub used_below_in : (k : ℕ) (set : SetDef) → is_used_below (in_cycles k set) ≡ is_used_below set
 used_below_in k set = λ j i q. any_below (tasks_in k set j) (λ x. lower_in k set j i x && users_in k set j q x)
 
--- What the higher tasks of i's processor request, and the limit of a row of spinning.
+-- What the higher tasks on i's processor request, and the limit of a row of spinning.
 pub higher_in_cycles : (k : ℕ) (set : SetDef) (bounds : ℕ → ℕ) (i q : ℕ) → 0 < k
     → higher_requests (in_cycles k set) (fine k bounds) i q ≡ higher_requests set bounds i q
 higher_in_cycles k set bounds i q some = higher_requests_in k set bounds i (λ h. have_one_processor (in_cycles k set) h i)

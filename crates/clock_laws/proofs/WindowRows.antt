@@ -1,5 +1,5 @@
--- The window of a request under DPCP in cycles: k times as many as the window in ticks are enough, so no more requests run within it.
--- So each row of windows is rescaled, with a limit that is no greater.
+-- The window of a request under DPCP in cycles. A window k times as long as the one in ticks is enough, so no more requests run within
+-- it. So each row of windows is rescaled, with a limit that is no greater.
 use Rattle.std.proofs.Common.{◌≡◌, ◌∙◌, ℕ, zero, suc, ◌+◌, ◌*◌, ◌<◌, ◌≤◌, ◌==◌, ◌&&◌, not, List, length, true, false, refl, sym}
 use Rattle.std.proofs.Common.{arith, inl, inr, nat_lt, nat_le, Some}
 use Rattle.std.specs.Prelude.{slice_index, max}
@@ -66,7 +66,7 @@ longest_in k set i m = (λ j. greatest_below (tasks_in k set j) (λ x. by_task x
           ∙ ((λ j. greatest_below (length set.resources) (λ q. only_times (may_hold_up set i m x q) k (length_of set x q) j))
           ∙ greatest_times k (length set.resources) (one x))
 
--- In k times as many cycles k times as many of them may be taken by requests.
+-- In a window with k times as many cycles, requests may take k times as many of them.
 there_in : (k : ℕ) (set : SetDef) (bounds : ℕ → ℕ) (i q w : ℕ) → 0 < k
     → ticks_there (in_cycles k set) (fine k bounds) i q (k * w) ≡ k * ticks_there set bounds i q w
 there_in k set bounds i q w some =
@@ -81,7 +81,7 @@ there_in k set bounds i q w some =
       each x = (λ j. jobs_in_cycles k set bounds w x some j * time_in k set x (home_in set q) j)
           ∙ swapped k (jobs_during set bounds w x) (time_at set x (home_in set q))
 
--- So where a request has a window in ticks it has one in cycles, which is at most k times as long.
+-- So a request that has a window in ticks has one in cycles, which is at most k times as long.
 fine_window : (k : ℕ) (set : SetDef) (bounds : ℕ → ℕ) (i q w : ℕ) → 0 < k → window_of set bounds i q ≡ Some w
     → Found (suc (task_at (in_cycles k set) i).deadline) (is_enough (in_cycles k set) (fine k bounds) i q) (k * w)
 fine_window k set bounds i q w some e =

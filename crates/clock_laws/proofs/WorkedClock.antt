@@ -1,5 +1,5 @@
--- The worked schedule is lawful in cycles, and its first job ends when its bound says, no cycle before. And the program of seven rows in
--- cycles reaches 14 of them, where a tick has three and its value in ticks is 4.
+-- The worked schedule is lawful in cycles, and its first job ends when its bound says, and no cycle before. Besides, the program of
+-- seven rows in cycles reaches 14 of them, where a tick has three cycles and its value in ticks is 4.
 use Rattle.std.proofs.Common.{◌≡◌, ℕ, zero, suc, ◌+◌, ◌*◌, ◌<◌, ◌≤◌, [], ◌∷◌, length, refl, arith}
 use Rattle.std.specs.Prelude.{slice_index, nat_le}
 use Rattle.std.proofs.Math.Dec.{eqb-zero-suc}
@@ -33,7 +33,7 @@ use Rattle.clock_laws.specs.Clock.{IsLawfulInCycles}
 use Rattle.clock_laws.specs.Whole.{is_whole}
 use Rattle.clock_laws.specs.Worked.{seven_rows_in_cycles, jobs_on_clock, trace_on_clock}
 
--- A job of the schedule requests no other resource than the first.
+-- A job of the schedule requests no resource but the first.
 no_other : (local length more q : ℕ) → number_of_requests (then_request local 0 length ∷ local_only more ∷ []) (suc q) ≡ 0
 no_other local length more q = rw (eqb-zero-suc q) refl
 

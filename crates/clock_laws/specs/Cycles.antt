@@ -1,5 +1,5 @@
--- A task set said in cycles: each tick is k cycles, so each number of ticks is k times as great. All else is as it was: names,
--- processors, resources with their homes, and how often a job may request each.
+-- A task set in cycles. Each tick is k cycles, so each number of ticks is multiplied by k. The rest stays: names, processors, resources
+-- with their homes, and how often a job may request each.
 use Rattle.std.specs.Prelude.{◌≡◌, refl, ℕ, ◌+◌, ◌-◌, ◌*◌, Bool, List, [], ◌∷◌, map, if◌then◌else◌}
 use Rattle.sporadic_model.specs.SetDef.{SetDef, TaskDef, RequestDef, task_at}
 
@@ -19,12 +19,12 @@ task_in_cycles k t = record t {
 abbrev pub in_cycles : ℕ → SetDef → SetDef
 in_cycles k set = record set { tasks = map (task_in_cycles k) set.tasks }
 
--- Numbers of ticks, each said in cycles.
+-- Numbers of ticks, each in cycles.
 abbrev pub times_each : ℕ → List ℕ → List ℕ
 times_each k ns = map (λ n. k * n) ns
 
--- How many cycles may a job of task i execute? As many as its cost in ticks has, where it says of the task that its value is whole;
--- else one of these ticks counts for one cycle alone.
+-- How many cycles may a job of task i execute? If the task's value is marked as whole, all cycles of its cost. If not, one tick of its
+-- cost counts for a single cycle.
 abbrev pub own_cycles : (ℕ → Bool) → ℕ → SetDef → ℕ → ℕ
 own_cycles whole k set i = if whole i then k * (task_at set i).cost else k * ((task_at set i).cost - 1) + 1
 

@@ -1,11 +1,12 @@
--- A set that was measured in cycles, and a set in ticks that it is rounded to: what a job may take is rounded up, and the time that it
--- has is rounded down. A tick more stands in each cost.
+-- A set that was measured in cycles, and the set in ticks that it is rounded to. What a job may take is rounded up. The time that it
+-- has is rounded down. Each cost has a tick more.
 use Rattle.std.specs.Prelude.{◌≡◌, refl, ℕ, ◌+◌, ◌-◌, ◌*◌, ◌/◌, ◌<◌, ◌≤◌, [], ◌∷◌, map, length}
 use Rattle.std.specs.Int.{div_ceil}
 use Rattle.sporadic_model.specs.SetDef.{SetDef, TaskDef, RequestDef, task_at}
 use Rattle.sporadic_model.specs.Users.{count_of, length_of}
 
--- Is the task rounded so? A job that takes no more cycles than were measured leaves all but one cycle of a tick of its cost.
+-- Is the task a rounding in this sense? A job that takes no more cycles than were measured leaves all but one cycle of a tick of its
+-- cost.
 pub record IsRoundedTask (k : ℕ) (measured task : TaskDef) : Type 0 where
   pub cost : measured.cost ≤ k * (task.cost - 1) + 1
   pub local : measured.local ≤ k * task.local
@@ -13,7 +14,7 @@ pub record IsRoundedTask (k : ℕ) (measured task : TaskDef) : Type 0 where
   pub period : k * task.period ≤ measured.period
   pub deadline : k * task.deadline ≤ measured.deadline
 
--- Is each task, and may each of its jobs request each resource as often, and for as long?
+-- Is each task such a rounding? And may each of its jobs request each resource as often, and for as long?
 pub record IsRounding (k : ℕ) (measured set : SetDef) : Type 0 where
   pub resources : length measured.resources ≤ length set.resources
   pub tasks : length measured.tasks ≤ length set.tasks
@@ -21,7 +22,7 @@ pub record IsRounding (k : ℕ) (measured set : SetDef) : Type 0 where
   pub counts : (x q : ℕ) → x < length measured.tasks → count_of measured x q ≤ count_of set x q
   pub lengths : (x q : ℕ) → x < length measured.tasks → length_of measured x q ≤ k * length_of set x q
 
--- The least set in ticks that this is so of.
+-- The least set in ticks that is such a rounding.
 abbrev pub rounded_request : ℕ → RequestDef → RequestDef
 rounded_request k e = record e { length = div_ceil e.length k }
 
@@ -38,7 +39,7 @@ rounded_task k t = record t {
 abbrev pub rounded : ℕ → SetDef → SetDef
 rounded k measured = record measured { tasks = map (rounded_task k) measured.tasks }
 
--- With ten cycles in a tick: a cost of 23 cycles takes 3 ticks and one more, and a period of 1009 is 100.
+-- With ten cycles in a tick, a cost of 23 cycles becomes 3 ticks and one more, and a period of 1009 cycles becomes 100 ticks.
 abbrev measured_task : TaskDef
 measured_task = record {
   name = [];

@@ -1,4 +1,4 @@
--- Of which tasks is the value of a certificate's dual whole: its denominator divides its total?
+-- Is the value of a task's dual in a certificate a whole number: does the dual's denominator divide its total?
 use Rattle.std.specs.Prelude.{ℕ, ◌%◌, ◌==◌, Bool, slice_index}
 use Rattle.program_form.specs.Certificate.{CertificateDef}
 use Rattle.program_form.specs.Duals.{dual_total}

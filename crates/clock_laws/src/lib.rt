@@ -1,7 +1,7 @@
-//! Bounds on the machine's clock: a set is analysed in ticks, and the machine acts at cycles, of which a tick has any number.
+//! Bounds on the machine's clock. A set is analysed in ticks, and the machine acts at cycles. A tick has any number of cycles.
 //!
-//! Each function here does nothing: its contract is a law. `specs/` says what a set in cycles is, and what bounds in ticks promise
-//! of schedules whose rows are cycles; the lemmas stand in `proofs/`.
+//! Each function here does nothing: its contract is a law. `specs/` says what a set in cycles is, and what bounds in ticks promise for
+//! schedules whose rows are cycles. The lemmas are in `proofs/`.
 #![tactic(auto)]
 
 ghost use Rattle.std.specs.Prelude.{◌≡◌, ℕ, ◌+◌, ◌<◌, ◌≤◌, Bool, [], ◌∷◌, List, length, slice_index};
@@ -47,10 +47,10 @@ ghost use Rattle.clock_laws.specs.Worked.{seven_rows_in_cycles, trace_on_clock};
 
 use schedule_model::BlockingProtocol;
 
-/// Of an accepted set, the bounds of a valid certificate and the values of its duals are sound on clocks, under each of the
-/// analyses. However many cycles a tick has: in every schedule whose rows are cycles, of lawful jobs of the set said in cycles, which
-/// keeps the protocol's rules and in which no job executes more cycles than it may, each job whose window lies within it ends within
-/// its bound in cycles. And no job is blocked in its window at more cycles than its dual's value in cycles and a part of a tick.
+/// The bounds of a valid certificate of an accepted set, and the values of its duals, are sound on clocks, under each of the analyses.
+/// However many cycles a tick has, take a schedule whose rows are cycles, of lawful jobs of the set in cycles. It keeps the protocol's
+/// rules, and no job executes more cycles than it may. Then each job whose window lies within the schedule ends within its bound in
+/// cycles. And no job is blocked in its window at more cycles than its dual's value in cycles and a part of a tick.
 pub fn valid_certificates_are_sound_on_clocks()
     ensures mpcp { (set : SetDef) (c : CertificateDef) (values : List ℕ) → IsAccepted set → IsValid (source_of protocol.Mpcp set) c
         → AreValues (source_of protocol.Mpcp set) c values
@@ -87,8 +87,8 @@ pub fn valid_certificates_are_sound_on_clocks()
         → SoundOnClocks spin_rule is_shared_interference (is_whole (spin_closer_source set) c) set c.bounds values }
 {}
 
-/// Let an accepted set in ticks be a rounding of what was measured in cycles. Then jobs that are lawful for what was measured are
-/// lawful jobs of the set in cycles, and leave all but one cycle of a tick of their costs.
+/// Let an accepted set in ticks be a rounding of a set that was measured in cycles. Then jobs that are lawful for the measured set are
+/// lawful jobs of the accepted set in cycles, and leave all but one cycle of a tick of their costs.
 pub fn rounded_jobs_are_lawful_in_cycles()
     ensures lawful { (k : ℕ) (measured set : SetDef) (jobs : List JobDef) → 1 ≤ k → IsAccepted set → IsRounding k measured set
         → AreLawfulIn measured jobs → AreLawfulIn (in_cycles k set) jobs }
@@ -97,8 +97,8 @@ pub fn rounded_jobs_are_lawful_in_cycles()
         → total_ticks (job_of jobs j).script ≤ own_cycles whole k set (job_of jobs j).task }
 {}
 
-/// So they meet their deadlines, under every protocol: where bounds within the deadlines are sound on clocks, each such job of a
-/// schedule of the set in cycles that keeps the rules has ended by its measured deadline, where that lies within the rows.
+/// So they meet their deadlines, under every protocol. Let bounds within the deadlines be sound on clocks. In a schedule of the set in
+/// cycles that keeps the rules, each such job has ended by its measured deadline, if that lies within the rows.
 pub fn rounded_jobs_meet_their_deadlines<P: BlockingProtocol>()
     ensures { (p : P) (whole : ℕ → Bool) (k : ℕ) (measured set : SetDef) (w : Trace) (n : ℕ) (bounds values : List ℕ) (j : ℕ) → 1 ≤ k
         → IsAccepted set → IsRounding k measured set → AreWithinDeadlines set bounds
@@ -108,28 +108,28 @@ pub fn rounded_jobs_meet_their_deadlines<P: BlockingProtocol>()
         → phase_of w ((job_of w.jobs j).arrival + (task_at measured (task_of w j)).deadline) j ≡ Finished }
 {}
 
-/// Where costs, local limits, jitters and lengths are rounded up to ticks, with a tick more in each cost, and periods and deadlines
-/// down, the set is such a rounding.
+/// Round costs, local limits, jitters and lengths up to ticks, with a tick more in each cost. Round periods and deadlines down. The set
+/// that this gives is such a rounding.
 pub fn sets_are_rounded()
     ensures { (k : ℕ) (measured : SetDef) → 1 ≤ k → IsRounding k measured (rounded k measured) }
 {}
 
-/// A formed set stays formed where it is said in cycles, and no column of a blocking program changes.
+/// A formed set stays formed when it is put in cycles, and no column of a blocking program changes.
 pub fn sets_keep_their_form()
     ensures formed { (k : ℕ) (set : SetDef) → 1 ≤ k → IsFormed set → IsFormed (in_cycles k set) }
     ensures columns { (p : Protocol) (k : ℕ) (set : SetDef) (i : ℕ) → columns_of p (in_cycles k set) i ≡ columns_of p set i }
 {}
 
-/// A part of a tick counts: where a tick has three cycles, a program whose value is 4 ticks, of a total of 14 over 3, reaches 14
-/// cycles, which are more than three times 4.
+/// A part of a tick counts. Where a tick has three cycles, a program whose value is 4 ticks, from a total of 14 over 3, reaches 14
+/// cycles. These are more than three times 4.
 pub fn a_part_of_a_tick_counts()
     ensures ticks { dual_value seven_rows seven_rows_dual.den (slice_index seven_rows_dual.num) ≡ 4 }
     ensures cycles { Reaches seven_rows_in_cycles 14 }
 {}
 
-/// A worked schedule of ten cycles, with two of them in a tick, is lawful for the set of two tasks under FMLP+, and its jobs ask for
-/// the resource after one cycle. Its first job is blocked for the four cycles of its value, and still executes in the last cycle of its
-/// bound, of 5 ticks.
+/// A worked schedule of ten cycles, with two of them in a tick. It is lawful for the set of two tasks under FMLP+. Its jobs ask for the
+/// resource after one cycle. Its first job is blocked for the four cycles of its value, and still executes in the last cycle of its
+/// bound, which is 5 ticks.
 pub fn a_bound_is_met_on_a_clock()
     ensures lawful { IsLawfulInCycles (shared_rule fmlp_plus) (is_whole (source_of protocol.FmlpPlus two_tasks) two_bounds) 2 two_tasks
         trace_on_clock 10 }

@@ -6,9 +6,9 @@ use Rattle.sporadic_model.specs.SetDef.{SetDef}
 use Rattle.sporadic_model.specs.Users.{count_of, is_user}
 use Rattle.sporadic_model.specs.declared.ids.ResourceId.{ResourceId}
 use Rattle.blocking_columns.specs.Columns.{have_one_processor}
-use Rattle.blocking_columns.specs.Windows.{requests_by_higher}
+use Rattle.blocking_columns.specs.Windows.{requests_in, requests_by_higher}
 use Rattle.indirect_constraints.specs.Rows.{is_beside}
-use Rattle.closer_laws.specs.CloserRows.{is_shared_out, is_held_there}
+use Rattle.closer_laws.specs.CloserRows.{is_shared_out}
 use Rattle.closer_mpcp_laws.specs.CloserMpcpRows.{goes_first, goes_before, is_away, away_holdings}
 use Rattle.closer_mpcp.specs.declared.places.Place.{Place}
 use Rattle.closer_mpcp.specs.declared.places.Place.TheVariants as place
@@ -18,11 +18,16 @@ abbrev pub passes : SetDef → ℕ → Option ResourceId → ℕ → Bool
 passes set x None r = goes_before set x r
 passes set x (Some q) r = goes_first set x q.0 r
 
--- Is a higher task y at this place of x; and is a lower one?
+-- Is a higher task y at this place of x?
 abbrev pub is_at : Place → SetDef → ℕ → ℕ → Bool
 is_at place.Beside set x y = is_beside set x y
 is_at place.Away set x y = is_away set x y
 
+-- How many requests of r does y make while a job of i runs, where it is higher than i and at this place of x?
+abbrev pub higher_at : Place → SetDef → (ℕ → ℕ) → ℕ → ℕ → ℕ → ℕ → ℕ
+higher_at p set bounds i x r y = only_if (nat_lt y i && is_at p set x y) (requests_in set bounds i y r)
+
+-- Is a lower one?
 abbrev pub is_lower_at : Place → SetDef → ℕ → ℕ → ℕ → Bool
 is_lower_at place.Beside set i x y = is_beside set x y
 is_lower_at place.Away set i x y = is_away set x y && is_away set i y
@@ -40,13 +45,9 @@ abbrev pub held_beside : SetDef → (ℕ → ℕ) → ℕ → ℕ → ℕ → �
 held_beside set bounds i x r = requests_by_higher set bounds i (is_beside set x) r
     + only_if (not (have_one_processor set x i)) (lower_held place.Beside set i x r)
 
--- Do they count: does i use r, which is shared out, and may x run requests meanwhile?
+-- Do they count: is r shared out, and may x run requests meanwhile?
 abbrev pub counts : SetDef → ℕ → ℕ → Option ResourceId → ℕ → Bool
-counts set i x q r = is_user set r i && (is_shared_out set i r && passes set x q r)
-
--- May i wait for r while a task of x's processor holds it?
-abbrev pub waits_there : SetDef → ℕ → ℕ → ℕ → Bool
-waits_there set i x r = is_user set r i && is_held_there set i x r
+counts set i x q r = is_shared_out set i r && passes set x q r
 
 -- How many requests of x can then run while i waits for r?
 abbrev pub runs_there : SetDef → (ℕ → ℕ) → ℕ → ℕ → ℕ → ℕ

@@ -7,12 +7,12 @@ ghost use Rattle.blocking_columns.specs.Windows.{requests_in, requests_by_higher
 ghost use Rattle.indirect_constraints.specs.Rows.{is_beside};
 ghost use Rattle.closer_laws.specs.CloserRows.{is_held_there};
 ghost use Rattle.closer_mpcp_laws.specs.CloserMpcpRows.{shared_holdings, away_holdings, away_row};
-ghost use Rattle.closer_mpcp.specs.Holdings.{passes, is_at, is_lower_at, has_lower, lower_held, held_beside, counts};
-ghost use Rattle.closer_mpcp.specs.Holdings.{waits_there, runs_there};
+ghost use Rattle.closer_mpcp.specs.Holdings.{passes, is_at, higher_at, is_lower_at, has_lower, lower_held, held_beside, counts};
+ghost use Rattle.closer_mpcp.specs.Holdings.{runs_there};
 
 use crate::ceilings::passes;
 use crate::places::Place;
-use fragments::{cnt, share_processor, uses};
+use fragments::{cnt, share_processor};
 use shared_requests::{Holders, has_holder, is_shared_out};
 use sporadic_model::{ResourceId, TaskId, TaskSet};
 
@@ -29,7 +29,7 @@ fn is_at(set: &TaskSet, place: Place, x: TaskId, y: TaskId) -> bool
     }
 }
 
-// The requests of `r` by `y` within the bound of a job of `i`, where it is at this place of `x`.
+// The requests of `r` by `y` within the bound of a job of `i`, where it is higher than `i` and at this place of `x`.
 fn requests_at(
     set: &TaskSet,
     place: Place,
@@ -44,10 +44,10 @@ fn requests_at(
     requires holder { y.0 < length set.now.tasks }
     requires resource { r.0 < length set.now.resources }
     requires within { AreWithinDeadlines set.now bounds.now }
-    ensures value { result ≡ only_if (is_at place set.now x.0 y.0) (requests_in set.now (slice_index bounds.now) i.0 y.0 r.0) }
+    ensures value { result ≡ higher_at place set.now (slice_index bounds.now) i.0 x.0 r.0 y.0 }
     ensures most { result ≤ 2000000000000 }
 {
-    if is_at(set, place, x, y) {
+    if y < i && is_at(set, place, x, y) {
         cnt(set, i, y, r, bounds)
     } else {
         0
@@ -72,9 +72,10 @@ fn higher_requests(
 {
     // a set has at most 64 tasks, so the sum fits
     let _tasks = set.tasks();
+    let users = set.users(r);
     let mut total = 0;
-    for y in 0..i.0 {
-        total += requests_at(set, place, i, x, TaskId(y), r, bounds);
+    for y in users {
+        total += requests_at(set, place, i, x, *y, r, bounds);
     }
     total
 }
@@ -141,7 +142,7 @@ fn held_beside(set: &TaskSet, i: TaskId, x: TaskId, r: ResourceId, bounds: &[u64
     }
 }
 
-// Do they count: does `i` use `r`, which is shared out, and may `x` run requests meanwhile?
+// Do they count: is `r` shared out, and may `x` run requests meanwhile?
 fn counts(set: &TaskSet, i: TaskId, x: TaskId, q: Option<ResourceId>, r: ResourceId) -> bool
     requires task { i.0 < length set.now.tasks }
     requires runner { x.0 < length set.now.tasks }
@@ -149,8 +150,7 @@ fn counts(set: &TaskSet, i: TaskId, x: TaskId, q: Option<ResourceId>, r: Resourc
     requires resource { r.0 < length set.now.resources }
     ensures { result ≡ counts set.now i.0 x.0 q r.0 }
 {
-    // most resources are none of `i`'s
-    uses(set, i, r) && is_shared_out(set, i, r) && passes(set, x, q, r)
+    is_shared_out(set, i, r) && passes(set, x, q, r)
 }
 
 // Those of `r` that count.
@@ -193,22 +193,24 @@ pub(crate) fn shared_holdings(
     ensures value { result ≡ shared_holdings set.now (slice_index bounds.now) i.0 x.0 (passes set.now x.0 q) }
     ensures most { result ≤ 4096000000032000 }
 {
+    // a set has at most 32 resources, so the sum fits
+    let _resources = set.resources();
+    let used = set.used_by(i);
     let mut total = 0;
-    for r in 0..set.resources() {
-        total += counted_of(set, i, x, q, ResourceId(r), bounds);
+    for r in used {
+        total += counted_of(set, i, x, q, *r, bounds);
     }
     total
 }
 
 // May `i` wait for `r` while a task of `x`'s processor holds it?
-fn waits_there(set: &TaskSet, i: TaskId, x: TaskId, r: ResourceId) -> bool
+fn is_held_there(set: &TaskSet, i: TaskId, x: TaskId, r: ResourceId) -> bool
     requires task { i.0 < length set.now.tasks }
     requires runner { x.0 < length set.now.tasks }
     requires resource { r.0 < length set.now.resources }
-    ensures { result ≡ waits_there set.now i.0 x.0 r.0 }
+    ensures { result ≡ is_held_there set.now i.0 x.0 r.0 }
 {
-    // most resources are none of `i`'s
-    uses(set, i, r) && is_shared_out(set, i, r) && has_holder(set, Holders::There, i, x, r)
+    is_shared_out(set, i, r) && has_holder(set, Holders::There, i, x, r)
 }
 
 // How many requests of `x` can then run while `i` waits for `r`?
@@ -230,10 +232,10 @@ fn run_of(set: &TaskSet, i: TaskId, x: TaskId, r: ResourceId, bounds: &[u64]) ->
     requires runner { x.0 < length set.now.tasks }
     requires resource { r.0 < length set.now.resources }
     requires within { AreWithinDeadlines set.now bounds.now }
-    ensures value { result ≡ only_if (waits_there set.now i.0 x.0 r.0) (runs_there set.now (slice_index bounds.now) i.0 x.0 r.0) }
+    ensures value { result ≡ only_if (is_held_there set.now i.0 x.0 r.0) (runs_there set.now (slice_index bounds.now) i.0 x.0 r.0) }
     ensures most { result ≤ 128000000002000 }
 {
-    if waits_there(set, i, x, r) {
+    if is_held_there(set, i, x, r) {
         runs_there(set, i, x, r, bounds)
     } else {
         0
@@ -248,9 +250,12 @@ pub(crate) fn run_beside_away_holdings(set: &TaskSet, i: TaskId, x: TaskId, boun
     requires within { AreWithinDeadlines set.now bounds.now }
     ensures { result ≡ (away_row set.now i.0 x.0).limit (slice_index bounds.now) }
 {
+    // a set has at most 32 resources, so the sum fits
+    let _resources = set.resources();
+    let used = set.used_by(i);
     let mut total = 0;
-    for r in 0..set.resources() {
-        total += run_of(set, i, x, ResourceId(r), bounds);
+    for r in used {
+        total += run_of(set, i, x, *r, bounds);
     }
     total
 }

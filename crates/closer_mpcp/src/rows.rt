@@ -1,10 +1,10 @@
 //! The closer rows.
 
-ghost use Rattle.std.specs.Prelude.{◌≡◌, ◌<◌, ◌+◌, ◌==◌, ◌&&◌, not, [], ◌∷◌, ◌++◌, map, length, slice_index, OnOk, if◌then◌else◌};
+ghost use Rattle.std.specs.Prelude.{◌≡◌, ◌<◌, ◌+◌, ◌==◌, ◌&&◌, [], ◌∷◌, ◌++◌, map, length, slice_index, OnOk, if◌then◌else◌};
 ghost use Rattle.std.proofs.Common.{ap};
 ghost use Rattle.number_laws.specs.Sums.{flag};
 ghost use Rattle.program_sources.specs.Bounds.{AreWithinDeadlines};
-ghost use Rattle.blocking_columns.specs.declared.columns.Class.TheVariants.{Indirect, Preemption};
+ghost use Rattle.blocking_columns.specs.declared.columns.Class.TheVariants.{Preemption};
 ghost use Rattle.blocking_columns.specs.ColumnDef.{column_seen, is_class, AreKnown};
 ghost use Rattle.blocking_columns.specs.Columns.{is_lower_local};
 ghost use Rattle.fragments.specs.Constraints.{per, per_pair, per_where};
@@ -16,9 +16,9 @@ ghost use Rattle.closer_mpcp_laws.specs.CloserMpcpRows.{shared_interval_row, low
 
 use crate::holdings::{run_beside_away_holdings, shared_holdings};
 use fragments::{
-    Constraint, EachRequest, EachTask, Fragment, PerTask, RequestRow, RowKind, RowTaker, TaskPlace,
-    TaskRow, add_per_lower_task, add_per_request_at, add_per_task, add_row, add_row_limited,
-    add_row_of_task, lower_local,
+    Constraint, Fragment, PerRequest, PerTask, RowKind, RowTaker, TaskPlace, TaskRow,
+    add_per_lower_task, add_per_request_at, add_per_task, add_row, add_row_limited,
+    add_row_of_task, add_row_within, lower_local,
 };
 use shared_requests::{LocalPreemptionRow, requests_shared_out, shared_out};
 use sporadic_model::{ResourceId, TaskId, TaskSet};
@@ -26,75 +26,167 @@ use std::alloc::{AllocError, Global};
 
 /// Of a task: in each holding of another task on its processor that is shared out, before which it may run a request, it runs at most one.
 #[derive(Drop)]
-struct SharedHoldingRow;
+struct SharedHoldingRow {
+    task: TaskId,
+}
 
-impl TaskRow for SharedHoldingRow {
-    ghost row_of = { λ k. shared_holding_row };
+impl RowKind for SharedHoldingRow {
+    ghost row_of = { λ k set i. shared_holding_row set i k.task.0 };
+
+    ghost fits = { λ k set. k.task.0 < length set.tasks };
+
+    ghost over = { λ k set i c. c.task ≡ k.task.0 };
+
+    fn coefficient(&self, _set: &TaskSet, _i: TaskId, column: Fragment) -> u64 {
+        if column.class.is_indirect() { 1 } else { 0 }
+    }
+}
+
+impl Constraint for SharedHoldingRow {
+    fn limit(&self, set: &TaskSet, i: TaskId, bounds: &[u64]) -> u64 {
+        shared_holdings(set, i, self.task, None, bounds)
+    }
+}
+
+/// The rows of shared holdings of each task. A limit is counted only where the row is there: many tasks have no such columns.
+#[derive(Drop)]
+struct SharedHoldingRows;
+
+impl PerTask for SharedHoldingRows {
+    ghost rows_of = { λ k set i x. shared_holding_row set i x ∷ [] };
 
     ghost fits = { λ k set i bounds. Unit {0} };
 
-    ghost alone = { λ k set i x c other. ap (λ b. flag (b && is_class Indirect c.class)) other };
-
-    fn coefficient(&self, _set: &TaskSet, _i: TaskId, _x: TaskId, column: Fragment) -> u64 {
-        if column.class.is_indirect() { 1 } else { 0 }
-    }
-
-    fn limit(&self, set: &TaskSet, i: TaskId, x: TaskId, _jobs: u64, bounds: &[u64]) -> u64 {
-        shared_holdings(set, i, x, None, bounds)
+    fn add<T: RowTaker>(
+        &self,
+        alloc: Global,
+        taker: &mut T,
+        set: &TaskSet,
+        i: TaskId,
+        x: TaskId,
+        _jobs: u64,
+        bounds: &[u64],
+        columns: &[Fragment],
+        stretch: (usize, usize),
+    ) -> Result<(), AllocError> {
+        // a set has at most 32 resources, so the slots of a task end before those of the next one
+        let _resources = set.resources();
+        let row = SharedHoldingRow { task: x };
+        add_row_within(alloc, taker, &row, set, i, bounds, columns, stretch)
     }
 }
 
 /// Of a task and a resource: in each such holding, before which it may run its request of the resource, it runs at most one of these.
 #[derive(Drop)]
-struct ResourceHoldingRow;
+struct ResourceHoldingRow {
+    task: TaskId,
+    resource: ResourceId,
+}
 
-impl RequestRow for ResourceHoldingRow {
-    ghost row_of = { λ k. resource_holding_row };
+impl RowKind for ResourceHoldingRow {
+    ghost row_of = { λ k set i. resource_holding_row set i k.task.0 k.resource.0 };
 
-    ghost alone = { λ k set i x q c other. ap (λ b. flag (b && is_class Indirect c.class)) other };
+    ghost fits = { λ k set. (k.task.0 < length set.tasks) × (k.resource.0 < length set.resources) };
 
-    fn coefficient(
-        &self,
-        _set: &TaskSet,
-        _i: TaskId,
-        _x: TaskId,
-        _q: ResourceId,
-        column: Fragment,
-    ) -> u64 {
+    ghost over = { λ k set i c. (c.task ≡ k.task.0) × (c.resource ≡ k.resource.0) };
+
+    fn coefficient(&self, _set: &TaskSet, _i: TaskId, column: Fragment) -> u64 {
         if column.class.is_indirect() { 1 } else { 0 }
     }
+}
 
-    fn limit(
+impl Constraint for ResourceHoldingRow {
+    fn limit(&self, set: &TaskSet, i: TaskId, bounds: &[u64]) -> u64 {
+        shared_holdings(set, i, self.task, Some(self.resource), bounds)
+    }
+}
+
+/// The rows of holdings by resource, of each task and each resource, whose limits are counted in the same way.
+#[derive(Drop)]
+struct ResourceHoldingRows;
+
+impl PerRequest for ResourceHoldingRows {
+    ghost use Rattle.std.proofs.Common.{refl};
+
+    ghost row_of = { λ k. resource_holding_row };
+
+    ghost apart = { λ k set i x q c other. rw other refl };
+
+    ghost fits = { λ k set i bounds. Unit {0} };
+
+    fn add<T: RowTaker>(
         &self,
+        alloc: Global,
+        taker: &mut T,
         set: &TaskSet,
         i: TaskId,
         x: TaskId,
         q: ResourceId,
         _jobs: u64,
         bounds: &[u64],
-    ) -> u64 {
-        shared_holdings(set, i, x, Some(q), bounds)
+        columns: &[Fragment],
+        stretch: (usize, usize),
+    ) -> Result<(), AllocError> {
+        // a set has at most 32 resources, so the slots of a task end before those of the next one
+        let _resources = set.resources();
+        let row = ResourceHoldingRow {
+            task: x,
+            resource: q,
+        };
+        add_row_within(alloc, taker, &row, set, i, bounds, columns, stretch)
     }
 }
 
 /// Of a task: while the analysed task waits for a request that is held on the task's processor, it runs at most one request, and one more for
 /// each time that it is held away from there before.
 #[derive(Drop)]
-struct AwayRow;
+struct AwayRow {
+    task: TaskId,
+}
 
-impl TaskRow for AwayRow {
-    ghost row_of = { λ k. away_row };
+impl RowKind for AwayRow {
+    ghost row_of = { λ k set i. away_row set i k.task.0 };
+
+    ghost fits = { λ k set. k.task.0 < length set.tasks };
+
+    ghost over = { λ k set i c. c.task ≡ k.task.0 };
+
+    fn coefficient(&self, _set: &TaskSet, _i: TaskId, column: Fragment) -> u64 {
+        if column.class.is_preemption() { 0 } else { 1 }
+    }
+}
+
+impl Constraint for AwayRow {
+    fn limit(&self, set: &TaskSet, i: TaskId, bounds: &[u64]) -> u64 {
+        run_beside_away_holdings(set, i, self.task, bounds)
+    }
+}
+
+/// The rows of away holdings of each task, whose limits are counted in the same way.
+#[derive(Drop)]
+struct AwayRows;
+
+impl PerTask for AwayRows {
+    ghost rows_of = { λ k set i x. away_row set i x ∷ [] };
 
     ghost fits = { λ k set i bounds. Unit {0} };
 
-    ghost alone = { λ k set i x c other. ap (λ b. flag (b && not (is_class Preemption c.class))) other };
-
-    fn coefficient(&self, _set: &TaskSet, _i: TaskId, _x: TaskId, column: Fragment) -> u64 {
-        if column.class.is_preemption() { 0 } else { 1 }
-    }
-
-    fn limit(&self, set: &TaskSet, i: TaskId, x: TaskId, _jobs: u64, bounds: &[u64]) -> u64 {
-        run_beside_away_holdings(set, i, x, bounds)
+    fn add<T: RowTaker>(
+        &self,
+        alloc: Global,
+        taker: &mut T,
+        set: &TaskSet,
+        i: TaskId,
+        x: TaskId,
+        _jobs: u64,
+        bounds: &[u64],
+        columns: &[Fragment],
+        stretch: (usize, usize),
+    ) -> Result<(), AllocError> {
+        // a set has at most 32 resources, so the slots of a task end before those of the next one
+        let _resources = set.resources();
+        let row = AwayRow { task: x };
+        add_row_within(alloc, taker, &row, set, i, bounds, columns, stretch)
     }
 }
 
@@ -197,14 +289,21 @@ fn add_holding_rows<T: RowTaker>(
         (per (length set.now.tasks) (shared_holding_row set.now i.0)
         ++ per_pair (length set.now.tasks) (length set.now.resources) (resource_holding_row set.now i.0)) bounds.now taker.new) }
 {
-    let of_tasks = EachTask(SharedHoldingRow);
-    add_per_task(alloc, taker, &of_tasks, set, i, bounds, columns, places)?;
-    let of_requests = EachRequest(ResourceHoldingRow);
+    add_per_task(
+        alloc,
+        taker,
+        &SharedHoldingRows,
+        set,
+        i,
+        bounds,
+        columns,
+        places,
+    )?;
     let tasks = set.tasks();
     add_per_request_at(
         alloc,
         taker,
-        &of_requests,
+        &ResourceHoldingRows,
         set,
         tasks,
         i,
@@ -292,8 +391,7 @@ pub(crate) fn add_further_rows<T: RowTaker>(
     let shared = shared_out(alloc, set, i)?;
     let intervals = 1 + requests_shared_out(set, i, &shared);
     add_holding_rows(alloc, taker, set, i, bounds, columns, places)?;
-    let aways = EachTask(AwayRow);
-    add_per_task(alloc, taker, &aways, set, i, bounds, columns, places)?;
+    add_per_task(alloc, taker, &AwayRows, set, i, bounds, columns, places)?;
     add_interval_rows(alloc, taker, set, i, bounds, columns, places, intervals)?;
     add_single_rows(alloc, taker, set, i, bounds, columns, intervals)?;
     Ok(())

@@ -45,15 +45,15 @@ ReadsSet protocol bytes (Err r) = Reads (Err r) bytes
 abbrev pub set_input : ProtocolName → Input
 set_input protocol = record { Value = SetDef; Refusal = SetRefusal; word = codes "set"; reads = ReadsSet protocol; reason = reason_text }
 
--- A certificate of this version for a protocol: the bytes are the text of one, and this is what their value writes; or this is why
--- their value is refused first. Only want of memory is no reading.
+-- Reads a certificate of this version for a protocol. Either the bytes are a text of one, and this is the certificate that their value
+-- gives. Or this is the first reason for which their value is refused. Running out of memory is no reading.
 abbrev pub ReadsCert : {A : Type 0} → Version → (Data → A) → ProtocolName → List ℕ → Result A CertRefusal → Type 0
 ReadsCert v writes protocol bytes (Ok c) = (d : Data) × IsValue bytes d × (has_form_of v (word_of protocol) d ≡ true) × (c ≡ writes d)
 ReadsCert v writes protocol bytes (Err cert.NotJson) = (d : Data) → IsValue bytes d → ⊥
 ReadsCert v writes protocol bytes (Err cert.Memory) = ⊥
 ReadsCert v writes protocol bytes (Err r) = (d : Data) × IsValue bytes d × (first_refusal v (word_of protocol) d ≡ Some r)
 
--- The bytes are the text of a certificate with its set's digest, for a protocol, and this is what their value writes.
+-- The bytes are a text of a certificate for a protocol, with its set's digest. This is the certificate that their value gives.
 abbrev pub IsFileText : ProtocolName → List ℕ → FileDef → Type 0
 IsFileText protocol bytes file = (d : Data) × IsValue bytes d × (has_form (word_of protocol) d ≡ true) × (file ≡ file_written d)
 
@@ -66,7 +66,7 @@ cert_input protocol = record {
   reason = cert_reason_text;
 }
 
--- One of the version before, which has no digest.
+-- A certificate of the version before, which has no digest.
 abbrev pub old_cert_input : ProtocolName → Input
 old_cert_input protocol = record {
   Value = CertificateDef;
@@ -76,12 +76,14 @@ old_cert_input protocol = record {
   reason = cert_reason_text;
 }
 
--- The bytes are the text of a certificate of refusal with its set's digest, for a protocol, and this is what their value writes.
+-- The bytes are a text of a certificate of refusal for a protocol, with its set's digest. This is the certificate that their value
+-- gives.
 abbrev pub IsRefusalText : ProtocolName → List ℕ → RefusalDef → Type 0
 IsRefusalText protocol bytes file = (d : Data) × IsValue bytes d × (is_refusal d ≡ true) × (is_for (word_of protocol) d ≡ true)
     × (file ≡ record { steps = steps_written d; digest = digest_written d })
 
--- One for a protocol, or why it is refused first. Only want of memory is no reading.
+-- Reads a certificate of refusal for a protocol, or gives the first reason for which it is refused. Running out of memory is no
+-- reading.
 abbrev pub ReadsRefusal : ProtocolName → List ℕ → Result RefusalDef ReadFault → Type 0
 ReadsRefusal protocol bytes (Ok file) = IsRefusalText protocol bytes file
 ReadsRefusal protocol bytes (Err fault.NotJson) = (d : Data) → IsValue bytes d → ⊥
@@ -99,7 +101,7 @@ refusal_input protocol = record {
   reason = refusal_reason_text;
 }
 
--- Jobs of a task set. Only want of memory is no reading.
+-- Reads jobs of a task set. Running out of memory is no reading.
 abbrev pub ReadsJobs : SetDef → List ℕ → Result JobsDef JobsRefusal → Type 0
 ReadsJobs set bytes (Err jobs.Memory) = ⊥
 ReadsJobs set bytes r = JobsRead r set bytes
@@ -107,7 +109,7 @@ ReadsJobs set bytes r = JobsRead r set bytes
 abbrev pub jobs_input : SetDef → Input
 jobs_input set = record { Value = JobsDef; Refusal = JobsRefusal; word = codes "jobs"; reads = ReadsJobs set; reason = jobs_reason_text }
 
--- Rows of these jobs.
+-- Reads rows of these jobs.
 abbrev pub ReadsRows : JobsDef → List ℕ → Result RowsDef RowsRefusal → Type 0
 ReadsRows list bytes (Err rows.Memory) = ⊥
 ReadsRows list bytes r = RowsRead r list bytes

@@ -1,4 +1,4 @@
--- What an input is, what is known of inputs, and what is answered to one that gives no value.
+-- What an input is, what is known of inputs, and what is answered to an input that gives no value.
 use Rattle.std.specs.Prelude.{◌≡◌, ℕ, ◌<◌, ◌≤◌, ◌⊎◌, Bool, true, false, List, [], ◌∷◌, ◌++◌, length, codes, refl}
 use Rattle.std.specs.Prelude.{Option, None, Some, IsSomeAnd, Result, Ok, Err}
 use Rattle.outside_ports.specs.Names.{Inputs, bytes_of, IsNamed, IsLonger, IsAbsent}
@@ -14,8 +14,8 @@ pub record Answer : Type 0 where
   pub status : ℕ
   pub text : List ℕ
 
--- An input that a command reads: its word in answers, how its bytes are read to a value or a refusal, and the reason
--- that a refusal prints.
+-- An input that a command reads: its word in answers, how its bytes are read to a value or a refusal, and the reason that a refusal
+-- prints.
 pub record Input : Type 1 where
   pub Value : Type 0
   pub Refusal : Type 0
@@ -23,16 +23,16 @@ pub record Input : Type 1 where
   pub reads : List ℕ → Result Value Refusal → Type 0
   pub reason : Refusal → List ℕ
 
--- An input is refused, for this reason.
+-- The answer that refuses an input for this reason.
 abbrev pub refused : List ℕ → List ℕ → Answer
 refused word reason = record { status = 3; text = refused_text word reason }
 
--- An input could not be read.
+-- The answer to an input that couldn't be read.
 abbrev pub read_fault : List ℕ → Answer
 read_fault word = record { status = 4; text = fault_text word }
 
--- What is known of inputs: may the one of this name be absent; may it be too long; may it have these bytes; may the one that is
--- read last have these; and may these be all that is asked for, the first one first?
+-- What is known of inputs. May the one of this name be absent? May it be too long? May it have these bytes? May the one that is read
+-- last have these? And may these be all readings, in this order?
 pub record Known : Type 1 where
   pub absent : List ℕ → Type 0
   pub longer : List ℕ → Type 0
@@ -40,7 +40,7 @@ pub record Known : Type 1 where
   pub last : List ℕ → Type 0
   pub asked : List Asked → Type 0
 
--- What is known of the rest, once this one was asked for.
+-- What is known of the rest, after this reading.
 abbrev pub past : Known → Asked → Known
 past known one = record {
   absent = known.absent;
@@ -50,7 +50,7 @@ past known one = record {
   asked = λ later. known.asked (one ∷ later);
 }
 
--- The readings of a shelf after these more, the first of which stands first. A shelf lists its last one first.
+-- The readings of a shelf after these further ones, which are given first to last. A shelf lists its last one first.
 abbrev pub readings_after : List Asked → List Asked → List Asked
 readings_after had [] = had
 readings_after had (one ∷ later) = readings_after (one ∷ had) later
@@ -60,7 +60,7 @@ pub readings_after-example : (set cert : List ℕ) → readings_after [] (wholly
     ≡ wholly (codes "cert") cert ∷ wholly (codes "set") set ∷ []
 readings_after-example set cert = refl
 
--- What is known where these are the named inputs.
+-- What is known if these are the named inputs.
 abbrev pub told : Inputs → Known
 told inputs = record {
   absent = λ name. bytes_of inputs name ≡ None;
@@ -70,8 +70,8 @@ told inputs = record {
   asked = λ readings. Unit {0};
 }
 
--- What a shelf shows of a call: its inputs, where it tells them; its count of faults before and after; the number of bytes that it
--- has given since the last start; and its readings before and after, the last one first.
+-- What a shelf shows of a call. Its inputs, if it tells them. Its count of faults before and after. The number of bytes that it has
+-- given since the last start. Its readings before and after, the last one first.
 pub record Shown : Type 0 where
   pub names : Option Inputs
   pub before : ℕ
@@ -80,7 +80,7 @@ pub record Shown : Type 0 where
   pub had : List Asked
   pub has : List Asked
 
--- What this shelf shows that became that one.
+-- What a shelf shows of a call that changes it from `old` to `new`.
 abbrev pub shown : ShelfDef → ShelfDef → Shown
 shown old new = record {
   names = old.names;
@@ -91,9 +91,9 @@ shown old new = record {
   has = new.readings;
 }
 
--- What is known from that: an input is absent where the told names lack it, or, where they aren't told, the count rose;
--- it is too long where too many bytes were given; the one that is read last has as many bytes as were given; and what was asked for
--- are the readings that the shelf has now, beyond those that it had.
+-- What is known from that. An input is absent if the told names lack it. If they aren't told, it is absent if the count rose. It is too
+-- long if too many bytes were given. The input that is read last has as many bytes as were given. The readings of the call are those
+-- that the shelf has beyond the ones that it had.
 abbrev pub shown_by : Shown → Known
 shown_by shelf = record {
   absent = λ name. IsAbsent shelf.names name shelf.before shelf.now × (shelf.given ≤ GREATEST_INPUT_BYTES);
@@ -103,8 +103,8 @@ shown_by shelf = record {
   asked = λ readings. shelf.has ≡ readings_after shelf.had readings;
 }
 
--- May an input of these bytes, or an absent one, have answered so: with this fault, or with these bytes and its end or not yet its end?
--- Of a start that failed for another reason nothing is known.
+-- Can an input with these bytes, or an absent one, have given this: this fault, or these bytes with or without its end? A start that
+-- failed for another reason says nothing.
 abbrev pub FitsWith : Option (List ℕ) → Option ShelfFault → Bool → List ℕ → Type 0
 FitsWith named (Some Absent) ended bytes = named ≡ None
 FitsWith named (Some _) ended bytes = Unit {0}
@@ -116,12 +116,12 @@ abbrev pub FitAll : Inputs → List Asked → Type 0
 FitAll inputs [] = Unit {0}
 FitAll inputs (one ∷ later) = FitsWith (bytes_of inputs one.name) one.fault one.ended one.bytes × FitAll inputs later
 
--- Are these the inputs of a call? They are those that the shelf tells, or they fit all that it was asked for and gave in the call.
+-- Are these the inputs of a call? The shelf tells them, or they fit all readings of the call.
 abbrev pub AreInputs : Shown → Inputs → Type 0
 AreInputs shelf inputs = (shelf.names ≡ Some inputs)
     ⊎ ((readings : List Asked) → shelf.has ≡ readings_after shelf.had readings → FitAll inputs readings)
 
--- Is this the answer to an input that gives no value: it is absent, too long or refused? It is the last that is asked for.
+-- Is this the answer to an input that gives no value: it is absent, too long or refused? It is the last input that is asked for.
 abbrev pub IsStopped : Known → Input → List ℕ → Answer → Type 0
 IsStopped known input name answer =
     (known.absent name × known.asked (unbegun name Absent ∷ []) × (answer ≡ refused input.word (codes "absent")))

@@ -1,4 +1,4 @@
--- What contracts see of a refusal that is read.
+-- What contracts see of a refusal that was read.
 use Rattle.std.specs.Prelude.{ℕ, List}
 use Rattle.refusal_laws.specs.declared.refusal.Refusal.{Refusal}
 use Rattle.refusal_laws.specs.Seen.{steps_seen}

@@ -13,10 +13,10 @@ pub struct Reply {
     pub text: Vec<u8>,
 }
 
-/// Why a command ends without its work.
+/// Why a command ends before its work.
 #[derive(Debug, Drop)]
 pub enum Halt {
-    /// An input gives no value, or one that serves no work, and this is the reply that says why.
+    /// An input gives no value, or a value that is no use for the work. This reply says why.
     Reply(Reply),
     /// No memory is left.
     Memory,
@@ -58,7 +58,7 @@ pub fn fault(alloc: Global, word: &str) -> Halt
     }
 }
 
-/// The reply of the work or of a halt. An error is want of memory.
+/// The reply of the work or of a halt. An error means that memory ran out.
 pub fn reply_of(reply: Result<Reply, Halt>) -> Result<Reply, AllocError>
     ensures { IsSettled reply result }
 {

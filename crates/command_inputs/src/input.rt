@@ -28,13 +28,13 @@ use trace_csv::{JobsRefusal, RowText, RowsRefusal, read_jobs};
 
 /// An input that commands read.
 pub trait Reader {
-    /// What it gives.
+    /// What reading it gives.
     type Value: Drop;
 
     /// The input, as the plans of commands have it.
     ghost input: { Self → Input };
 
-    /// What these see of a value.
+    /// What contracts see of a value.
     ghost value: { (r : Self) → Self.Value → (input r).Value };
 
     /// What is true of each value that is read.
@@ -51,7 +51,7 @@ pub trait Reader {
         ensures holds { IfOk result (holds self.now) };
 }
 
-/// Loads the input of this name, which answers call by this word.
+/// Loads the input of this name. Answers call it by this word.
 fn load_input<S: Shelf>(
     alloc: Global,
     shelf: &mut S,
@@ -118,7 +118,7 @@ fn rows_in<'a>(alloc: Global, jobs: &'a JobList<'a>, bytes: Vec<u8>) -> Result<R
     }
 }
 
-/// The rows of these jobs of this name, as the text that they stand in.
+/// The rows of these jobs under this name, as the text that has them.
 pub fn get_rows<'a, S: Shelf>(
     alloc: Global,
     shelf: &mut S,

@@ -1,4 +1,4 @@
-//! The inputs of commands: what each is, how it is loaded and read, and the replies where one gives no value.
+//! The inputs of commands: what each is, how it is loaded and read, and what is replied if one gives no value.
 #![tactic(auto)]
 
 mod halt;

@@ -6,9 +6,9 @@ ghost use Rattle.command_inputs.specs.Statuses.{number_of};
 pub enum Status {
     /// 0: done, or the answer is yes.
     Done,
-    /// 1: the answer is no: the set isn't shown to be schedulable, the certificate is invalid, or a rule is broken.
+    /// 1: the answer is no. The set isn't shown to be schedulable, the certificate is invalid, or a rule is broken.
     No,
-    /// 2: the words have none of the forms.
+    /// 2: the words have none of the known forms.
     RefusedWords,
     /// 3: an input is refused.
     RefusedInput,
@@ -16,7 +16,7 @@ pub enum Status {
     Fault,
     /// 5: a program is too wide for exact numbers.
     Wide,
-    /// 6: the programs want more units than the allowance.
+    /// 6: the programs need more units than the allowance.
     Allowance,
     /// 7: no memory is left.
     Memory,

@@ -1,4 +1,4 @@
--- Which words have the forms of `analyse`, `check` and `audit`.
+-- Which words have the forms of the commands with the strongest claims.
 use Rattle.std.proofs.Common.{◌≡◌, ℕ, ◌-◌, ◌^◌, Bool, true, false, List, [], ◌∷◌, Option, Some, None, option_map, IfSome, bytes_eq, codes}
 use Rattle.std.proofs.Common.{refl, ◌∙◌, ap, ap₂, subst, if◌then◌else◌}
 use Rattle.std.proofs.lemmas.Slice.Eq.{bytes_eq-Decides}
@@ -9,11 +9,12 @@ use Rattle.protocol_names.specs.declared.ProtocolName.{ProtocolName}
 use Rattle.protocol_names.specs.declared.ProtocolName.TheVariants as name
 use Rattle.text_pieces.specs.Numbers.{number_between}
 use Rattle.command_words.specs.declared.words.TheConstants.{DEFAULT_ALLOWANCE, GREATEST_ALLOWANCE, MOST_SETS}
-use Rattle.command_words.specs.Words.{Form, Analyse, Refute, Check, Confirm, Upgrade, Report, FullReport, Conform, Audit, study_form}
+use Rattle.command_words.specs.Words.{Form, Analyse, Refute, Settle, Check, Confirm, Upgrade, Report, FullReport, Conform, Audit, study_form}
 use Rattle.command_words.specs.Words.{form_of_three, both, allowed, form_of_four, simulate_form, form_of_five, form_of_six, form_of}
-use Rattle.command_words.specs.Spelled.{analyse_words, refute_words, allowance_of, check_words, confirm_words, audit_words, IsSpelled}
+use Rattle.command_words.specs.Spelled.{analyse_words, refute_words, settle_words, allowance_of, check_words, confirm_words}
+use Rattle.command_words.specs.Spelled.{upgrade_words, audit_words, IsSpelled}
 
--- ---- words that are spelled so have the form
+-- ---- words that are spelled in this way have the form
 
 named : (p : ProtocolName) → name_of (word_of p) ≡ Some p
 named (name.Base protocol.Mpcp) = refl
@@ -33,12 +34,14 @@ allowed_under : (make : ProtocolName → ℕ → Form) (p : ProtocolName) (o : O
 allowed_under make p None = refl
 allowed_under make p (Some n) = refl
 
+given_allowance : (make : ProtocolName → ℕ → Form) (p : ProtocolName) (o : Option ℕ)
+    → option_map (λ a. make a.0 a.1) (both (name_of (word_of p)) o) ≡ option_map (make p) o
+given_allowance make p o = ap (λ q. option_map (λ a. make a.0 a.1) (both q o)) (named p) ∙ allowed_under make p o
+
 pub form_of_analyse : (p : ProtocolName) (set : List ℕ) (more : List (List ℕ))
     → form_of (analyse_words p set more) ≡ option_map (λ n. Analyse p set n) (allowance_of more)
 form_of_analyse p set [] = ap (option_map (λ q. Analyse q set DEFAULT_ALLOWANCE)) (named p)
-form_of_analyse p set (last ∷ []) =
-    ap (λ o. option_map (λ a. Analyse a.0 set a.1) (both o (number_between 1 GREATEST_ALLOWANCE last))) (named p)
-    ∙ allowed_under (λ q n. Analyse q set n) p (number_between 1 GREATEST_ALLOWANCE last)
+form_of_analyse p set (last ∷ []) = given_allowance (λ q n. Analyse q set n) p (number_between 1 GREATEST_ALLOWANCE last)
 form_of_analyse p set (a ∷ b ∷ []) = refl
 form_of_analyse p set (a ∷ b ∷ c ∷ []) = refl
 form_of_analyse p set (a ∷ b ∷ c ∷ d ∷ more) = refl
@@ -46,12 +49,18 @@ form_of_analyse p set (a ∷ b ∷ c ∷ d ∷ more) = refl
 pub form_of_refute : (p : ProtocolName) (set : List ℕ) (more : List (List ℕ))
     → form_of (refute_words p set more) ≡ option_map (λ n. Refute p set n) (allowance_of more)
 form_of_refute p set [] = ap (option_map (λ q. Refute q set DEFAULT_ALLOWANCE)) (named p)
-form_of_refute p set (last ∷ []) =
-    ap (λ o. option_map (λ a. Refute a.0 set a.1) (both o (number_between 1 GREATEST_ALLOWANCE last))) (named p)
-    ∙ allowed_under (λ q n. Refute q set n) p (number_between 1 GREATEST_ALLOWANCE last)
+form_of_refute p set (last ∷ []) = given_allowance (λ q n. Refute q set n) p (number_between 1 GREATEST_ALLOWANCE last)
 form_of_refute p set (a ∷ b ∷ []) = refl
 form_of_refute p set (a ∷ b ∷ c ∷ []) = refl
 form_of_refute p set (a ∷ b ∷ c ∷ d ∷ more) = refl
+
+pub form_of_settle : (p : ProtocolName) (set : List ℕ) (more : List (List ℕ))
+    → form_of (settle_words p set more) ≡ option_map (λ n. Settle p set n) (allowance_of more)
+form_of_settle p set [] = ap (option_map (λ q. Settle q set DEFAULT_ALLOWANCE)) (named p)
+form_of_settle p set (last ∷ []) = given_allowance (λ q n. Settle q set n) p (number_between 1 GREATEST_ALLOWANCE last)
+form_of_settle p set (a ∷ b ∷ []) = refl
+form_of_settle p set (a ∷ b ∷ c ∷ []) = refl
+form_of_settle p set (a ∷ b ∷ c ∷ d ∷ more) = refl
 
 pub form_of_check : (p : ProtocolName) (set cert : List ℕ) → form_of (check_words p set cert) ≡ Some (Check p set cert)
 form_of_check p set cert = ap (option_map (λ q. Check q set cert)) (named p)
@@ -59,11 +68,14 @@ form_of_check p set cert = ap (option_map (λ q. Check q set cert)) (named p)
 pub form_of_confirm : (p : ProtocolName) (set cert : List ℕ) → form_of (confirm_words p set cert) ≡ Some (Confirm p set cert)
 form_of_confirm p set cert = ap (option_map (λ q. Confirm q set cert)) (named p)
 
+pub form_of_upgrade : (p : ProtocolName) (set cert : List ℕ) → form_of (upgrade_words p set cert) ≡ Some (Upgrade p set cert)
+form_of_upgrade p set cert = ap (option_map (λ q. Upgrade q set cert)) (named p)
+
 pub form_of_audit : (p : ProtocolName) (set cert jobs rows : List ℕ)
     → form_of (audit_words p set cert jobs rows) ≡ Some (Audit p set cert jobs rows)
 form_of_audit p set cert jobs rows = ap (option_map (λ q. Audit q set cert jobs rows)) (named p)
 
--- Where such words have a form it is that of some allowance.
+-- If such words have a form, it is that of some allowance.
 some_allowance : (make : ℕ → Form) (o : Option ℕ) (form : Option Form) → form ≡ option_map make o
     → (form ≡ None → ⊥) → (n : ℕ) × (form ≡ Some (make n))
 some_allowance make None form is some = absurd (some is)
@@ -79,10 +91,20 @@ pub refute_has_form : (words : List (List ℕ)) (p : ProtocolName) (set : List �
 refute_has_form words p set more is some =
     some_allowance (λ n. Refute p set n) (allowance_of more) (form_of words) (ap form_of is ∙ form_of_refute p set more) some
 
+pub settle_has_form : (words : List (List ℕ)) (p : ProtocolName) (set : List ℕ) (more : List (List ℕ)) → words ≡ settle_words p set more
+    → (form_of words ≡ None → ⊥) → (n : ℕ) × (form_of words ≡ Some (Settle p set n))
+settle_has_form words p set more is some =
+    some_allowance (λ n. Settle p set n) (allowance_of more) (form_of words) (ap form_of is ∙ form_of_settle p set more) some
+
 pub analyse_is_form : (words : List (List ℕ)) (p : ProtocolName) (set : List ℕ) (more : List (List ℕ)) (n : ℕ)
     → words ≡ analyse_words p set more → allowance_of more ≡ Some n → form_of words ≡ Some (Analyse p set n)
 analyse_is_form words p set more n is allows =
     ap form_of is ∙ form_of_analyse p set more ∙ ap (option_map (λ m. Analyse p set m)) allows
+
+pub settle_is_form : (words : List (List ℕ)) (p : ProtocolName) (set : List ℕ) (more : List (List ℕ)) (n : ℕ)
+    → words ≡ settle_words p set more → allowance_of more ≡ Some n → form_of words ≡ Some (Settle p set n)
+settle_is_form words p set more n is allows =
+    ap form_of is ∙ form_of_settle p set more ∙ ap (option_map (λ m. Settle p set m)) allows
 
 pub check_is_form : (words : List (List ℕ)) (p : ProtocolName) (set cert : List ℕ) → words ≡ check_words p set cert
     → form_of words ≡ Some (Check p set cert)
@@ -91,6 +113,10 @@ check_is_form words p set cert is = ap form_of is ∙ form_of_check p set cert
 pub confirm_is_form : (words : List (List ℕ)) (p : ProtocolName) (set cert : List ℕ) → words ≡ confirm_words p set cert
     → form_of words ≡ Some (Confirm p set cert)
 confirm_is_form words p set cert is = ap form_of is ∙ form_of_confirm p set cert
+
+pub upgrade_is_form : (words : List (List ℕ)) (p : ProtocolName) (set cert : List ℕ) → words ≡ upgrade_words p set cert
+    → form_of words ≡ Some (Upgrade p set cert)
+upgrade_is_form words p set cert is = ap form_of is ∙ form_of_upgrade p set cert
 
 pub audit_is_form : (words : List (List ℕ)) (p : ProtocolName) (set cert jobs rows : List ℕ) → words ≡ audit_words p set cert jobs rows
     → form_of words ≡ Some (Audit p set cert jobs rows)
@@ -101,7 +127,7 @@ audit_is_form words p set cert jobs rows is = ap form_of is ∙ form_of_audit p 
 same : (a b : List ℕ) → bytes_eq a b ≡ true → a ≡ b
 same a b = (bytes_eq-Decides a b).0
 
--- What holds of both sides holds of a choice between them, and what a value promises of itself a map of it keeps.
+-- What holds for both sides holds for a choice between them. A map carries a property of a value over to its result.
 either : {X : Type 0} (P : X → Type 0) (b : Bool) (x y : Option X) → (b ≡ true → IfSome x P) → IfSome y P → IfSome (if b then x else y) P
 either P true x y first other = first refl
 either P false x y first other = other
@@ -142,21 +168,14 @@ simulate_spelled words None set jobs n = tt
 simulate_spelled words (Some p) set jobs None = tt
 simulate_spelled words (Some p) set jobs (Some n) = tt
 
-analyse_spelled : (command word set last : List ℕ) (o : Option ProtocolName) (n : Option ℕ) → command ≡ codes "analyse"
+-- If an allowance is given last.
+allowance_spelled : (make : ProtocolName → ℕ → Form) (words : List (List ℕ)) (word last : List ℕ) (o : Option ProtocolName) (n : Option ℕ)
+    → ((p : ProtocolName) (m : ℕ) → Names word p → number_between 1 GREATEST_ALLOWANCE last ≡ Some m → Spells words (make p m))
     → IfSome o (Names word) → number_between 1 GREATEST_ALLOWANCE last ≡ n
-    → IfSome (option_map (λ a. Analyse a.0 set a.1) (both o n)) (Spells (command ∷ word ∷ set ∷ last ∷ []))
-analyse_spelled command word set last None n is names reads = tt
-analyse_spelled command word set last (Some p) None is names reads = tt
-analyse_spelled command word set last (Some p) (Some n) is names reads =
-    (last ∷ [], ap₂ (λ a b. a ∷ b ∷ set ∷ last ∷ []) is names, reads)
-
-refute_spelled : (command word set last : List ℕ) (o : Option ProtocolName) (n : Option ℕ) → command ≡ codes "refute"
-    → IfSome o (Names word) → number_between 1 GREATEST_ALLOWANCE last ≡ n
-    → IfSome (option_map (λ a. Refute a.0 set a.1) (both o n)) (Spells (command ∷ word ∷ set ∷ last ∷ []))
-refute_spelled command word set last None n is names reads = tt
-refute_spelled command word set last (Some p) None is names reads = tt
-refute_spelled command word set last (Some p) (Some n) is names reads =
-    (last ∷ [], ap₂ (λ a b. a ∷ b ∷ set ∷ last ∷ []) is names, reads)
+    → IfSome (option_map (λ a. make a.0 a.1) (both o n)) (Spells words)
+allowance_spelled make words word last None n spells names reads = tt
+allowance_spelled make words word last (Some p) None spells names reads = tt
+allowance_spelled make words word last (Some p) (Some n) spells names reads = spells p n names reads
 
 three_spelled : (command word last : List ℕ) → IfSome (form_of_three command word last) (Spells (command ∷ word ∷ last ∷ []))
 three_spelled command word last =
@@ -167,23 +186,33 @@ three_spelled command word last =
     (either (Spells words) (bytes_eq command (codes "refute")) (option_map (λ p. Refute p last DEFAULT_ALLOWANCE) (name_of word)) _
     (λ is. mapped (Names word) (Spells words) (λ p. Refute p last DEFAULT_ALLOWANCE) (name_of word) (word_names word)
     (λ p names. ([], ap₂ (λ a b. a ∷ b ∷ last ∷ []) (same command (codes "refute") is) names, refl)))
+    (either (Spells words) (bytes_eq command (codes "settle")) (option_map (λ p. Settle p last DEFAULT_ALLOWANCE) (name_of word)) _
+    (λ is. mapped (Names word) (Spells words) (λ p. Settle p last DEFAULT_ALLOWANCE) (name_of word) (word_names word)
+    (λ p names. ([], ap₂ (λ a b. a ∷ b ∷ last ∷ []) (same command (codes "settle") is) names, refl)))
     (either (Spells words) (bytes_eq command (codes "report")) (option_map (λ p. Report p last) (name_of word)) _
     (λ is. mapped (Names word) (Spells words) (λ p. Report p last) (name_of word) (word_names word) (λ p names. tt))
     (either (Spells words) (bytes_eq command (codes "study"))
     (study_form (number_between 0 (2 ^ 64 - 1) word) (number_between 1 MOST_SETS last)) None
-    (λ is. study_spelled words (number_between 0 (2 ^ 64 - 1) word) (number_between 1 MOST_SETS last)) tt)))
+    (λ is. study_spelled words (number_between 0 (2 ^ 64 - 1) word) (number_between 1 MOST_SETS last)) tt))))
 
 four_spelled : (command word set last : List ℕ) → IfSome (form_of_four command word set last) (Spells (command ∷ word ∷ set ∷ last ∷ []))
 four_spelled command word set last =
     let words : List (List ℕ) = command ∷ word ∷ set ∷ last ∷ [] in
     either (Spells words) (bytes_eq command (codes "analyse"))
     (option_map (λ a. Analyse a.0 set a.1) (allowed word last)) _
-    (λ is. analyse_spelled command word set last (name_of word) (number_between 1 GREATEST_ALLOWANCE last)
-    (same command (codes "analyse") is) (word_names word) refl)
+    (λ is. allowance_spelled (λ p n. Analyse p set n) words word last (name_of word) (number_between 1 GREATEST_ALLOWANCE last)
+    (λ p n names reads. (last ∷ [], ap₂ (λ a b. a ∷ b ∷ set ∷ last ∷ []) (same command (codes "analyse") is) names, reads))
+    (word_names word) refl)
     (either (Spells words) (bytes_eq command (codes "refute"))
     (option_map (λ a. Refute a.0 set a.1) (allowed word last)) _
-    (λ is. refute_spelled command word set last (name_of word) (number_between 1 GREATEST_ALLOWANCE last)
-    (same command (codes "refute") is) (word_names word) refl)
+    (λ is. allowance_spelled (λ p n. Refute p set n) words word last (name_of word) (number_between 1 GREATEST_ALLOWANCE last)
+    (λ p n names reads. (last ∷ [], ap₂ (λ a b. a ∷ b ∷ set ∷ last ∷ []) (same command (codes "refute") is) names, reads))
+    (word_names word) refl)
+    (either (Spells words) (bytes_eq command (codes "settle"))
+    (option_map (λ a. Settle a.0 set a.1) (allowed word last)) _
+    (λ is. allowance_spelled (λ p n. Settle p set n) words word last (name_of word) (number_between 1 GREATEST_ALLOWANCE last)
+    (λ p n names reads. (last ∷ [], ap₂ (λ a b. a ∷ b ∷ set ∷ last ∷ []) (same command (codes "settle") is) names, reads))
+    (word_names word) refl)
     (either (Spells words) (bytes_eq command (codes "check")) (option_map (λ p. Check p set last) (name_of word)) _
     (λ is. mapped (Names word) (Spells words) (λ p. Check p set last) (name_of word) (word_names word)
     (λ p names. ap₂ (λ a b. a ∷ b ∷ set ∷ last ∷ []) (same command (codes "check") is) names))
@@ -191,9 +220,10 @@ four_spelled command word set last =
     (λ is. mapped (Names word) (Spells words) (λ p. Confirm p set last) (name_of word) (word_names word)
     (λ p names. ap₂ (λ a b. a ∷ b ∷ set ∷ last ∷ []) (same command (codes "confirm") is) names))
     (either (Spells words) (bytes_eq command (codes "upgrade")) (option_map (λ p. Upgrade p set last) (name_of word)) _
-    (λ is. mapped (Names word) (Spells words) (λ p. Upgrade p set last) (name_of word) (word_names word) (λ p names. tt))
+    (λ is. mapped (Names word) (Spells words) (λ p. Upgrade p set last) (name_of word) (word_names word)
+    (λ p names. ap₂ (λ a b. a ∷ b ∷ set ∷ last ∷ []) (same command (codes "upgrade") is) names))
     (either (Spells words) (bytes_eq command (codes "report")) (option_map (λ p. FullReport p set last) (name_of word)) None
-    (λ is. mapped (Names word) (Spells words) (λ p. FullReport p set last) (name_of word) (word_names word) (λ p names. tt)) tt)))))
+    (λ is. mapped (Names word) (Spells words) (λ p. FullReport p set last) (name_of word) (word_names word) (λ p names. tt)) tt))))))
 
 five_spelled : (command word set jobs last : List ℕ)
     → IfSome (form_of_five command word set jobs last) (Spells (command ∷ word ∷ set ∷ jobs ∷ last ∷ []))

@@ -2,7 +2,7 @@
 use Rattle.std.specs.Prelude.{◌≤◌, ℕ, List}
 use Rattle.protocol_names.specs.declared.ProtocolName.{ProtocolName}
 use Rattle.sporadic_model.specs.declared.limits.TheConstants.{MOST_TICKS}
-use Rattle.command_words.specs.Words.{Form, Analyse, Refute, Check, Confirm, Upgrade, Report, FullReport, Conform, Simulate, Study, Audit}
+use Rattle.command_words.specs.Words.{Form, Analyse, Refute, Settle, Check, Confirm, Upgrade, Report, FullReport, Conform, Simulate, Study, Audit}
 use Rattle.command_words.specs.declared.words.Command.{Command}
 use Rattle.command_words.specs.declared.words.Command.TheVariants as command
 use Rattle.command_words.specs.declared.words.Work.{Work}
@@ -20,6 +20,7 @@ plain_form protocol set (plain.Simulate jobs ticks) = Simulate protocol set jobs
 abbrev pub tied_form : ProtocolName → List ℕ → TiedWork → Form
 tied_form protocol set (tied.Analyse allowance) = Analyse protocol set allowance
 tied_form protocol set (tied.Refute allowance) = Refute protocol set allowance
+tied_form protocol set (tied.Settle allowance) = Settle protocol set allowance
 tied_form protocol set (tied.Check certificate) = Check protocol set certificate.now
 tied_form protocol set (tied.Confirm refusal) = Confirm protocol set refusal.now
 tied_form protocol set (tied.Upgrade certificate) = Upgrade protocol set certificate.now

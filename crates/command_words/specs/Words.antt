@@ -15,6 +15,8 @@ pub data Form : Type 0 where
   Analyse : ProtocolName → List ℕ → ℕ → Form
   -- the protocol, the set, the allowance
   Refute : ProtocolName → List ℕ → ℕ → Form
+  -- the protocol, the set, the allowance
+  Settle : ProtocolName → List ℕ → ℕ → Form
   -- the protocol, the set, the certificate
   Check : ProtocolName → List ℕ → List ℕ → Form
   -- the protocol, the set, the certificate of refusal
@@ -34,7 +36,7 @@ pub data Form : Type 0 where
   -- the protocol, the set, the certificate, the jobs, the rows
   Audit : ProtocolName → List ℕ → List ℕ → List ℕ → List ℕ → Form
 
--- Which form have these words of `study`, given how their numbers were read?
+-- Which form do these words of `study` have, given how their numbers were read?
 abbrev pub study_form : Option ℕ → Option ℕ → Option Form
 study_form (Some seed) (Some sets) = Some (Study seed sets)
 study_form _ _ = None
@@ -44,6 +46,7 @@ abbrev pub form_of_three : List ℕ → List ℕ → List ℕ → Option Form
 form_of_three command second last =
     if bytes_eq command (codes "analyse") then option_map (λ p. Analyse p last DEFAULT_ALLOWANCE) (name_of second)
     else if bytes_eq command (codes "refute") then option_map (λ p. Refute p last DEFAULT_ALLOWANCE) (name_of second)
+    else if bytes_eq command (codes "settle") then option_map (λ p. Settle p last DEFAULT_ALLOWANCE) (name_of second)
     else if bytes_eq command (codes "report") then option_map (λ p. Report p last) (name_of second)
     else if bytes_eq command (codes "study") then study_form (number_between 0 (2 ^ 64 - 1) second) (number_between 1 MOST_SETS last)
     else None
@@ -61,13 +64,14 @@ abbrev pub form_of_four : List ℕ → List ℕ → List ℕ → List ℕ → Op
 form_of_four command protocol name last =
     if bytes_eq command (codes "analyse") then option_map (λ a. Analyse a.0 name a.1) (allowed protocol last)
     else if bytes_eq command (codes "refute") then option_map (λ a. Refute a.0 name a.1) (allowed protocol last)
+    else if bytes_eq command (codes "settle") then option_map (λ a. Settle a.0 name a.1) (allowed protocol last)
     else if bytes_eq command (codes "check") then option_map (λ p. Check p name last) (name_of protocol)
     else if bytes_eq command (codes "confirm") then option_map (λ p. Confirm p name last) (name_of protocol)
     else if bytes_eq command (codes "upgrade") then option_map (λ p. Upgrade p name last) (name_of protocol)
     else if bytes_eq command (codes "report") then option_map (λ p. FullReport p name last) (name_of protocol)
     else None
 
--- Which form have these words of `simulate`, given how their protocol and their ticks were read?
+-- Which form do these words of `simulate` have, given how their protocol and their ticks were read?
 abbrev pub simulate_form : Option ProtocolName → List ℕ → List ℕ → Option ℕ → Option Form
 simulate_form (Some protocol) set jobs (Some ticks) = Some (Simulate protocol set jobs ticks)
 simulate_form _ set jobs _ = None

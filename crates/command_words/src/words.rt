@@ -46,7 +46,7 @@ pub enum Work<'a> {
     Tied(TiedWork<'a>),
 }
 
-/// What is asked for of a set without a certificate.
+/// What is asked of a set without a certificate.
 #[derive(Clone, Copy, Debug)]
 pub enum PlainWork<'a> {
     /// Write the table of the set.
@@ -57,26 +57,28 @@ pub enum PlainWork<'a> {
     Simulate { jobs: &'a str, ticks: u64 },
 }
 
-/// What is asked for of a set and a certificate of it, or one of refusal.
+/// What is asked of a set and a certificate of it, or one of refusal.
 #[derive(Clone, Copy, Debug)]
 pub enum TiedWork<'a> {
     /// Find the least bounds of the set within this many units.
     Analyse { allowance: u64 },
     /// Show by a certificate of refusal that no bounds of the set fit, within this many units.
     Refute { allowance: u64 },
+    /// Settle the set: find its least bounds, or show that none fit, within this many units.
+    Settle { allowance: u64 },
     /// Judge the certificate.
     Check { certificate: &'a str },
     /// Judge the certificate of refusal.
     Confirm { refusal: &'a str },
-    /// Judge the certificate, which is of the version before, and write it with the set's digest.
+    /// Judge the certificate of the version before, and write it with the set's digest.
     Upgrade { certificate: &'a str },
     /// Write the table with what the certificate proves.
     FullReport { certificate: &'a str },
-    /// Judge the certificate and the rows, and set what the rows did beside what the certificate proves.
+    /// Judge the certificate and the rows, and show what happened in the rows next to what the certificate proves.
     Audit(AuditInputs<'a>),
 }
 
-/// The names of the inputs of an audit behind its set. The rows are of the jobs.
+/// The names of an audit's inputs after its set. The rows are of the jobs.
 #[derive(Clone, Copy, Debug)]
 pub struct AuditInputs<'a> {
     pub certificate: &'a str,
@@ -111,6 +113,9 @@ fn command_of_three<'a>(command: &str, second: &str, set: &'a str) -> Option<Com
             allowance: DEFAULT_ALLOWANCE,
         }),
         "refute" => Work::Tied(TiedWork::Refute {
+            allowance: DEFAULT_ALLOWANCE,
+        }),
+        "settle" => Work::Tied(TiedWork::Settle {
             allowance: DEFAULT_ALLOWANCE,
         }),
         "report" => Work::Plain(PlainWork::Report),
@@ -148,6 +153,9 @@ fn command_of_four<'a>(
             allowance: allowance_of(last)?,
         },
         "refute" => TiedWork::Refute {
+            allowance: allowance_of(last)?,
+        },
+        "settle" => TiedWork::Settle {
             allowance: allowance_of(last)?,
         },
         "check" => TiedWork::Check { certificate: last },
@@ -225,7 +233,7 @@ fn command_of_six<'a>(
     })
 }
 
-/// What the words ask for, or none if they have no form. The words are read by exact number and position.
+/// What the words ask for, or none if they have no form. The words are read by their number and position.
 pub fn command_of(words: &[String]) -> Option<Command<'_>>
     ensures form { option_map form_seen result ≡ form_of (words_seen words.now) }
     ensures ticks { IfSome result (λ c. HasFittingNumbers (form_seen c)) }

@@ -14,7 +14,7 @@ use Rattle.dual_check.specs.Lacks.{lack, AreLacking}
 one_more : (cs : List Coefficient) (k : ℕ) → k < length cs → take (k + 1) cs ≡ take k cs ++ coefficient_at cs k ∷ []
 one_more cs k below = take_more cs k (record { column = 0; number = 0 }) below
 
--- The next has its number at its column, where the first k have none.
+-- The next has its number at its own column, at which the first k have none.
 number_here : (n : ℕ) (cs : List Coefficient) (k : ℕ) → AreCoefficients n cs → k < length cs
     → number_at (take (k + 1) cs) (coefficient_at cs k).column ≡ (coefficient_at cs k).number
 number_here n cs k are below = rw (one_more cs k below) (number_push (take k cs) (coefficient_at cs k) (coefficients_before n cs k are below))
@@ -56,7 +56,7 @@ one_more_taken xs lacks cs m k are below long each v =
           rw (number_away cs k v below other) (get_or-set_other lacks c v next 0 away ∙ each v)
     ]
 
--- One row more is taken, its numerator times.
+-- One more row is taken, times its numerator.
 pub one_more_row : (p : ProgramDef) (d : DualDef) (n m : ℕ) (before lacks : List ℕ) (cs : List Coefficient) → AreLacking p d n before
     → m ≡ slice_index d.num n → full_row (columns p) cs ≡ row p n → length lacks ≡ length before
     → ((k : ℕ) → slice_index lacks k ≡ slice_index before k - m * number_at cs k) → AreLacking p d (n + 1) lacks

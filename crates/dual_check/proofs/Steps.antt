@@ -1,4 +1,4 @@
--- What the steps of judging come to, taken together.
+-- The steps of judging, taken together.
 use Rattle.std.proofs.Common.{◌≡◌, ◌∙◌, ℕ, ◌<◌, List, length, Err, Some, None, subst, arith}
 use Rattle.std.proofs.lemmas.List.{length-map}
 use Rattle.program_form.specs.Certificate.{CertificateDef, dual_seen, certificate_seen}
@@ -38,13 +38,13 @@ covers_each : (f : SourceDef) (c : CertificateDef) (worths : List DualWorth) (i 
     → i < tasks_of f → IsCovering (worth_at worths i) → IsCovered f c i
 covers_each f c worths i are below covering = covers_where_covering f c i (worth_at worths i) (are.each i below) covering
 
--- All duals hold all columns where none is found that leaves one.
+-- All duals hold all columns if none is found that leaves one out.
 pub all_cover : (f : SourceDef) (c : CertificateDef) (worths : List DualWorth) → AreWorths f c (tasks_of f) worths
     → FindsUncovered None worths → AllPass (tasks_of f) (IsCovered f c)
 all_cover f c worths are found i below =
     covers_each f c worths i are below (found i (omega (arith, are.one_each, below)))
 
--- The first that leaves a column is found with that column.
+-- The first that leaves a column out is found with that column.
 pub one_uncovered : (f : SourceDef) (c : CertificateDef) (worths : List DualWorth) (i k : ℕ) → PassesBounds f c
     → AreWorths f c (tasks_of f) worths → FindsUncovered (Some (i, k)) worths
     → IsFirstFailing (tasks_of f) (IsCovered f c) i × IsFirstFailing (columns (f.program i c.bounds)) (IsColumnCovered f c i) k

@@ -8,7 +8,7 @@ use Rattle.schedule_model.specs.Protocols.{shared_rule, dpcp_rule}
 use Rattle.schedule_model.specs.BlockedTicks.{is_shared_interference, is_dpcp_interference}
 use Rattle.soundness_laws.specs.Sound.{Sound}
 
--- Does every schedule that keeps the protocol's rules, of whatever lawful jobs of the set, keep these bounds and values?
+-- Does every schedule of lawful jobs of the set that keeps the protocol's rules keep these bounds and values?
 abbrev pub SoundUnder : Protocol → SetDef → List ℕ → List ℕ → Type 0
 SoundUnder protocol.Mpcp = Sound (shared_rule mpcp) is_shared_interference
 SoundUnder protocol.FmlpPlus = Sound (shared_rule fmlp_plus) is_shared_interference

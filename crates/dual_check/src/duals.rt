@@ -22,11 +22,11 @@ use std::alloc::{AllocError, Global};
 pub(crate) enum DualWorth {
     /// This is the first column that it does not hold.
     Uncovered(u32),
-    /// It holds all columns and has this value, in ticks, which counts no further than one above the bound.
+    /// It holds all columns and has this value, in ticks. A value above the bound counts as the bound and one more.
     Covering(u64),
 }
 
-// The first column that the rows, each its numerator times, do not hold.
+// The first column that the rows, each times its numerator, don't hold.
 fn first_uncovered(
     alloc: Global,
     program: &SparseProgram,
@@ -56,8 +56,8 @@ fn weigh(
     }
 }
 
-/// What each dual is worth for its task's program at the certificate's bounds, or the first that has not one numerator for
-/// each row.
+/// What each dual is worth for its task's program at the certificate's bounds. Or the first dual that hasn't one numerator for each
+/// row.
 pub(crate) fn weigh_duals<P: ProgramSource>(
     alloc: Global,
     set: &TaskSet,
@@ -84,7 +84,7 @@ pub(crate) fn weigh_duals<P: ProgramSource>(
     Ok(worths)
 }
 
-/// The first task whose dual leaves a column, and that column.
+/// The first task whose dual leaves a column out, and that column.
 pub(crate) fn first_uncovered_of(worths: &[DualWorth]) -> Option<(TaskId, u32)>
     requires { length worths.now < 2 ^ 32 }
     ensures { FindsUncovered (option_map (λ found. (found.0.0, found.1)) result) worths.now }

@@ -57,8 +57,8 @@ fn value_of(worth: DualWorth) -> u64
     }
 }
 
-/// The values of the duals, or the first task for which its dual's is too great. A task's interference is formed only once
-/// the bounds of the higher tasks are enough, and so at least their costs.
+/// The values of the duals, or the first task whose dual has too great a value. A task's interference is formed once the bounds of the
+/// higher tasks are known to be enough. So these are at least their costs.
 fn add_up<P: ProgramSource>(
     alloc: Global,
     set: &TaskSet,
@@ -88,8 +88,8 @@ fn add_up<P: ProgramSource>(
 
 /// Judges a certificate for the programs of a source that serves the set. Each dual's denominator is at least 1.
 ///
-/// `Ok` has the values of the duals, in ticks. `Invalid` names the first test that fails, each being tried over all tasks before
-/// the next, and comes as `Memory` for want of memory alone.
+/// `Ok` has the values of the duals, in ticks. `Invalid` names the first test that fails. Each test is tried for all tasks before the
+/// next one. `Invalid::Memory` comes only if memory runs out.
 pub fn judge<P: ProgramSource>(
     alloc: Global,
     protocol: &P,
@@ -119,8 +119,8 @@ pub fn judge<P: ProgramSource>(
 
 /// Judges a certificate for the programs of a protocol, which the set suits. Each dual's denominator is at least 1.
 ///
-/// `Ok` has the values of the duals, in ticks. `Invalid` names the first test that fails, each being tried over all tasks before
-/// the next, and comes as `Memory` for want of memory alone.
+/// `Ok` has the values of the duals, in ticks. `Invalid` names the first test that fails. Each test is tried for all tasks before the
+/// next one. `Invalid::Memory` comes only if memory runs out.
 pub fn check_with<P: ChargedProtocol>(
     alloc: Global,
     protocol: &P,
@@ -130,14 +130,14 @@ pub fn check_with<P: ChargedProtocol>(
     requires suits { P.suits protocol.now set.now }
     requires denominators { HasDenominators (certificate_seen certificate.now) }
 
-    // Valid with the duals' values, or the first failure.
+    // The certificate is valid and these are the duals' values, or this is its first failure.
     ensures judges { Judges result (source_at (P.source protocol.now) set.now) (certificate_seen certificate.now) }
 
-    // Only want of memory keeps a valid one from being Ok.
+    // A valid certificate gets Ok, unless memory runs out.
     ensures accepts { IsValid (source_at (P.source protocol.now) set.now)
         (certificate_seen certificate.now) → IfErr result (λ e. e ≡ Invalid.Memory) }
 
-    // What is Ok holds in every schedule that keeps the protocol's rules, of whatever lawful jobs.
+    // What is Ok holds in every schedule of lawful jobs that keeps the protocol's rules.
     ensures sound { IfOk result (λ v.
         Sound (P.keeps protocol.now) (P.interferes protocol.now) set.now certificate.now.bounds.items v.values.items) }
 {
@@ -147,8 +147,7 @@ pub fn check_with<P: ChargedProtocol>(
     judge(alloc, protocol, set, certificate)
 }
 
-/// Judges a certificate for the programs that are written down for the protocol. Under DPCP each resource has a home, and each
-/// dual's denominator is at least 1.
+/// Judges a certificate for the programs of the protocol. Under DPCP each resource has a home. Each dual's denominator is at least 1.
 pub fn check(
     alloc: Global,
     protocol: Protocol,
@@ -160,7 +159,7 @@ pub fn check(
     ensures judges { Judges result (source_of protocol set.now) (certificate_seen certificate.now) }
     ensures accepts { IsValid (source_of protocol set.now) (certificate_seen certificate.now) → IfErr result (λ e. e ≡ Invalid.Memory) }
 
-    // What is Ok holds in every schedule that keeps the protocol's rules, of whatever lawful jobs.
+    // What is Ok holds in every schedule of lawful jobs that keeps the protocol's rules.
     ensures sound { IfOk result (λ v. SoundUnder protocol set.now certificate.now.bounds.items v.values.items) }
 {
     match protocol {

@@ -1,4 +1,4 @@
-//! What the columns of a program lack while a dual's rows are taken one after another.
+//! What the columns of a program still lack, while a dual's rows are taken one after another.
 
 ghost use Rattle.std.specs.Prelude.{◌≡◌, ℕ, ◌-◌, ◌*◌, length, vec_len, slice_index, IfOk};
 ghost use Rattle.program_form.specs.Certificate.{dual_seen};
@@ -10,7 +10,7 @@ use crate::sums::product;
 use program_form::{Coefficient, Dual, SparseProgram};
 use std::alloc::{AllocError, Global};
 
-// What each column lacks before any row: its cost, the denominator times.
+// What each column lacks before any row is taken: its cost times the denominator.
 fn dues_of(alloc: Global, program: &SparseProgram, dual: &Dual) -> Result<Vec<u128>, AllocError>
     ensures { IfOk result (λ v. AreLacking program.now (dual_seen dual.now) 0 v.items) }
 {
@@ -21,7 +21,7 @@ fn dues_of(alloc: Global, program: &SparseProgram, dual: &Dual) -> Result<Vec<u1
     Ok(lacks)
 }
 
-// Takes a row, its numerator times, from what the columns lack.
+// Takes a row, times its numerator, from what the columns lack.
 fn take_row(lacks: &mut [u128], coefficients: &[Coefficient], numerator: u64)
     requires listed { AreCoefficients (length lacks.old) coefficients.now }
     ensures one_each { length lacks.new ≡ length lacks.old }
@@ -37,7 +37,7 @@ fn take_row(lacks: &mut [u128], coefficients: &[Coefficient], numerator: u64)
     }
 }
 
-/// What each column lacks: its cost, the denominator times, less what all rows hold of it, each its numerator times.
+/// What each column lacks: its cost times the denominator, less what all rows hold of it, each times its numerator.
 pub(crate) fn lacks_of(
     alloc: Global,
     program: &SparseProgram,

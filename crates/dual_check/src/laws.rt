@@ -1,4 +1,4 @@
-//! Laws of answers, as the contracts of calls that do nothing.
+//! Laws of answers. Each function does nothing: its contract is the law.
 
 ghost use Rattle.std.specs.Prelude.{◌≡◌, Result, IfOk};
 ghost use Rattle.program_form.specs.Certificate.{CertificateDef};
@@ -21,8 +21,7 @@ pub fn failures_are_exact()
     ensures one { (e e' : Invalid) (f : SourceDef) (c : CertificateDef) → IsFailure e f c → IsFailure e' f c → e ≡ e' }
 {}
 
-/// Under every protocol that a source of programs analyses: what is judged Ok for the source is sound. The set is accepted and
-/// suits the protocol.
+/// What is judged Ok for a source is sound, under every protocol that the source analyses. The set is accepted and suits the protocol.
 pub fn what_passes_is_sound<B: BlockingProtocol>()
     ensures { (b : B) (f : SourceDef) (c : CertificateDef) (r : Result Valid Invalid) → IsAccepted f.set → B.suits b f.set
         → Analyses (B.keeps b) (B.interferes b) f → Judges r f c

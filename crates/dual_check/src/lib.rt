@@ -1,9 +1,8 @@
-//! Judging certificates: whether bounds and duals prove that a task set meets every deadline, without trust in what made
-//! them.
+//! Judges certificates: do bounds and duals prove that a task set meets every deadline? It needs no trust in what made them.
 //!
-//! A certificate is valid where each bound and its task's jitter together are within the deadline, and each dual covers every
-//! column of its program. The response time with the dual's value as blocking is to be within the bound too. Of
-//! `schedule_answers` `specs/Tests.antt` has these tests, `specs/Failures.antt` their order.
+//! A certificate is valid under three conditions. Each bound and its task's jitter together are within the deadline. Each dual covers
+//! every column of its program. The response time, with the dual's value as blocking, is within the bound. In `schedule_answers`,
+//! `specs/Tests.antt` defines these tests, and `specs/Failures.antt` their order.
 #![tactic(auto)]
 
 mod duals;

@@ -1,4 +1,4 @@
-//! The value of a dual: a sum over the rows of its program, which stops growing once it has reached what it is compared with.
+//! The value of a dual: a sum over the rows of its program. It stops growing once it has reached the number that it is compared with.
 
 ghost use Rattle.std.specs.Prelude.{◌≡◌, ◌+◌, ◌*◌, ◌/◌, ◌<◌, ◌≤◌, ◌^◌, min, length, vec_len, slice_index};
 ghost use Rattle.program_form.specs.Program.{height};
@@ -13,7 +13,7 @@ pub(crate) fn product(a: u64, b: u64) -> u128
     u128::from(a) * u128::from(b)
 }
 
-/// What the limits come to, each its numerator times, no further than `most`.
+/// The sum of the limits, each times its numerator, but at most `most`.
 fn limit_sum(program: &SparseProgram, num: &[u64], most: u128) -> u128
     requires numerators { length num.now ≡ height program.now }
     ensures { result ≡ min most (dual_total program.now (λ r. slice_index num.now r)) }
@@ -26,7 +26,7 @@ fn limit_sum(program: &SparseProgram, num: &[u64], most: u128) -> u128
     sum
 }
 
-/// The dual's value, in ticks; `most + 1` for a greater one.
+/// The dual's value, in ticks, or `most + 1` if the value is greater.
 pub(crate) fn value_to(program: &SparseProgram, dual: &Dual, most: u64) -> u64
     requires most { most < 2 ^ 63 }
     requires denominator { 1 ≤ dual.now.den }

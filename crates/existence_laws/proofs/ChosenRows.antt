@@ -1,4 +1,4 @@
--- Where each schedule of chosen rows has a next one, there are schedules of any number of chosen rows: by induction on that number.
+-- If each schedule of chosen rows has a next one, there are schedules of any number of chosen rows. By induction on that number.
 use Rattle.std.proofs.Common.{◌≡◌, ℕ, zero, suc, ◌<◌, refl, sym, subst, arith, inl, inr}
 use Rattle.std.proofs.lemmas.Bool.{cases_lt}
 use Rattle.schedule_model.specs.JobDef.{JobsDef}
@@ -7,12 +7,12 @@ use Rattle.schedule_laws.specs.Agreement.{ChoiceReadsUpTo}
 use Rattle.shared_choosing.specs.NextRow.{with_row}
 use Rattle.shared_choosing.proofs.NextRow.{same_before, row_there}
 
--- A row that is chosen at tick t, after the schedule's rows before it.
+-- A row that is chosen at tick t, given the schedule's rows before it.
 pub record HasNext (chooses : Trace → ℕ → Type 0) (w : Trace) (t : ℕ) : Type 0 where
   pub row : RowDef
   pub chosen : chooses (with_row w t row) t
 
--- Whether a row is chosen depends on the rows up to it, and after chosen rows of these jobs there is one that is.
+-- Whether a row is chosen depends on the rows up to it. After chosen rows of these jobs there is a further chosen one.
 pub record NeverStuck (chooses : Trace → ℕ → Type 0) (jobs : JobsDef) : Type 0 where
   pub reads : ChoiceReadsUpTo chooses
   pub next : (w : Trace) (t : ℕ) → jobs_of w ≡ jobs → ((u : ℕ) → u < t → chooses w u) → HasNext chooses w t

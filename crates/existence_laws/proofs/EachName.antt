@@ -1,4 +1,4 @@
--- Under each protocol, by its name, schedules of chosen rows have a next one.
+-- Under each protocol, by its name, a schedule of chosen rows has a next one.
 use Rattle.std.proofs.Common.{◌≡◌, ℕ, ◌<◌, subst, sym, ap}
 use Rattle.sporadic_model.specs.SetDef.{SetDef}
 use Rattle.sporadic_model.specs.Accepted.{IsAccepted}

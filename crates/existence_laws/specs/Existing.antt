@@ -1,4 +1,4 @@
--- Schedules and jobs that there are.
+-- Schedules and jobs that exist.
 use Rattle.std.specs.Prelude.{◌≡◌, ℕ, ◌<◌, [], ◌∷◌}
 use Rattle.sporadic_model.specs.SetDef.{SetDef}
 use Rattle.schedule_model.specs.JobDef.{JobDef, JobsDef}
@@ -14,7 +14,7 @@ pub record HasSchedule (keeps : Rule → Trace → ℕ → Type 0) (chooses : Tr
   pub lawful : IsLawfulSchedule keeps jobs.set schedule n
   pub chosen : (t : ℕ) → t < n → chooses schedule t
 
--- There is a lawful job of task x that is released at this tick, and alone it is a lawful list of jobs.
+-- There is a lawful job of task x that is released at this tick. Alone it is a lawful list of jobs.
 pub record HasLawfulJob (set : SetDef) (x tick : ℕ) : Type 0 where
   pub job : JobDef
   pub task : job.task ≡ x

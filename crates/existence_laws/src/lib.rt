@@ -1,5 +1,5 @@
-//! No soundness here is one over nothing: lawful schedules and lawful jobs that there are, under every protocol. Each function does
-//! nothing: its contract is the law.
+//! Soundness here is never about nothing: lawful schedules and lawful jobs exist, under every protocol. Each function does nothing: its
+//! contract is the law.
 #![tactic(auto)]
 
 mod laws;

@@ -17,9 +17,9 @@ use Rattle.schedule_answers.specs.declared.audited.AuditStop.TheVariants as stop
 use Rattle.schedule_answers.specs.TaskAnswers.{no_figures}
 use Rattle.figure_laws.specs.Figures.{AreFigures, blocked_sum, blocked_ticks}
 
--- The certificate is valid, each of the n rows keeps the rules, and these are the figures of each task; or here is why the
--- certificate is not valid; or it is valid, and here is the first row that breaks a rule, and its first broken rule. Only want of
--- memory says nothing.
+-- Figures: the certificate is valid, each of the n rows keeps the rules, and these are the figures of each task. Invalid: this is why
+-- the certificate is not valid. Broken: the certificate is valid, and this is the first row that breaks a rule, with its first broken
+-- rule. Running out of memory says nothing.
 abbrev pub Audits : (Rule → Trace → ℕ → Type 0) → (Trace → ℕ → ℕ → Bool) → (Trace → ℕ → ℕ → Option Charge) → SourceDef → CertificateDef
     → Trace → ℕ → Result (Vec TaskFigures Global) AuditStop → Type 0
 Audits keeps interferes charges f c w n (Ok figures) =
@@ -28,7 +28,7 @@ Audits keeps interferes charges f c w n (Err (stop.Invalid e)) = IsFailure e f c
 Audits keeps interferes charges f c w n (Err (stop.Broken b)) = IsValid f c × IsFirstUnlawful keeps w n b.tick b.rule
 Audits keeps interferes charges f c w n (Err stop.Memory) = Unit {0}
 
--- Is the response, where there is one, at most the bound, and the blocking at most the value?
+-- Is the response, if there is one, at most the bound? And is the blocking at most the value?
 pub record LieWithin (f : TaskFigures) : Type 0 where
   pub response : IfSome f.response (λ r. r ≤ f.bound)
   pub blocking : f.blocking ≤ f.value
@@ -37,9 +37,9 @@ pub record LieWithin (f : TaskFigures) : Type 0 where
 abbrev pub charged_ticks : TaskFigures → ℕ
 charged_ticks f = f.direct + (f.indirect + f.preemption)
 
--- What the answer on a schedule and a certificate is: the figures, or why there are none. Where there are figures, each task's response
--- and blocking lie within its bound and value. The ticks of its three classes are all those at which its jobs are blocked in their
--- windows, and all those at which they are blocked at all.
+-- What the answer on a schedule and a certificate is: the figures, or why there are none. If there are figures, each task's response is
+-- within its bound and its blocking within its value. The ticks of its three classes add up to those at which its jobs are blocked in
+-- their windows. They also add up to those at which its jobs are blocked at all.
 pub record IsAudited (keeps : Rule → Trace → ℕ → Type 0) (interferes : Trace → ℕ → ℕ → Bool) (charges : Trace → ℕ → ℕ → Option Charge)
     (f : SourceDef) (c : CertificateDef) (w : Trace) (n : ℕ) (result : Result (Vec TaskFigures Global) AuditStop) : Type 0 where
   pub audits : Audits keeps interferes charges f c w n result

@@ -1,4 +1,4 @@
--- The figures of a task: what a schedule did to it, beside what was proved of it, and the ticks at which its jobs were charged.
+-- The figures of a task: what happened to it in a schedule, what was proved of it, and the ticks that were charged to its jobs.
 use Rattle.std.specs.Prelude.{◌≡◌, ℕ, ◌<◌, ◌==◌, Bool, true, false, List, length, slice_index_or, Option, Some}
 use Rattle.std.specs.Option.{option_map_or}
 use Rattle.number_laws.specs.Sums.{sum_below, only_if}
@@ -27,7 +27,7 @@ class_ticks charges w bound n c j = count_below (window_end w bound n j) (λ t. 
 unfoldable pub class_sum : (Trace → ℕ → ℕ → Option Charge) → Trace → (ℕ → ℕ) → ℕ → Class → ℕ → ℕ
 class_sum charges w bound n c x = sum_below (length w.jobs) (λ j. only_if (task_of w j == x) (class_ticks charges w bound n c j))
 
--- At how many ticks of their windows are the jobs of task x blocked, all together?
+-- At how many ticks of their windows are the jobs of task x blocked, in total?
 unfoldable pub blocked_sum : (Trace → ℕ → ℕ → Bool) → Trace → (ℕ → ℕ) → ℕ → ℕ → ℕ
 blocked_sum interferes w bound n x =
     sum_below (length w.jobs)
@@ -37,7 +37,7 @@ blocked_sum interferes w bound n x =
 unfoldable pub blocked_ticks : (Trace → ℕ → ℕ → Bool) → Trace → ℕ → ℕ → ℕ
 blocked_ticks interferes w n x = sum_below (length w.jobs) (λ j. only_if (task_of w j == x) (blocking_of interferes w n j))
 
--- The figures of task x over n rows, where tasks have these bounds and values.
+-- The figures of task x over n rows, with these bounds and values of the tasks.
 unfoldable pub figures_of : (Trace → ℕ → ℕ → Option Charge) → (Trace → ℕ → ℕ → Bool) → Trace → (ℕ → ℕ) → (ℕ → ℕ) → ℕ → ℕ → TaskFigures
 figures_of charges interferes w bound value n x = record {
   response = (measures_of interferes w n x).response;
@@ -55,7 +55,7 @@ pub record AreFigures (charges : Trace → ℕ → ℕ → Option Charge) (inter
   pub size : length figures ≡ length w.set.tasks
   pub each : (x : ℕ) → x < length w.set.tasks → slice_index_or figures x no_figures ≡ figures_of charges interferes w bound value n x
 
--- Is no tick charged for a job but those at which it is blocked?
+-- Is a tick charged for a job only if the job is blocked at it?
 abbrev pub ChargesBlocked : (Trace → ℕ → ℕ → Option Charge) → (Trace → ℕ → ℕ → Bool) → Trace → Type 0
 ChargesBlocked charges interferes w = (t j : ℕ) (charge : Charge) → charges w t j ≡ Some charge → is_blocked interferes w t j ≡ true
 

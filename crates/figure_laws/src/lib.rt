@@ -1,6 +1,6 @@
-//! What the figures of an audit are, as definitions, and what is true of them in a lawful schedule.
+//! Defines the figures of an audit, and says what is true of them in a lawful schedule.
 //!
-//! Each function here does nothing: its contract is a law, and the lemmas that prove it stand in `proofs/`.
+//! Each function here does nothing: its contract is a law. The lemmas that prove it are in `proofs/`.
 #![tactic(auto)]
 
 mod laws;

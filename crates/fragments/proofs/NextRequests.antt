@@ -1,4 +1,4 @@
--- A walk along a task's columns from one requested resource to the next, and the rows of those between, which no column is in.
+-- A walk along a task's columns from one requested resource to the next. The rows of the resources between them have no column.
 use Rattle.std.proofs.Common.{◌≡◌, ℕ, zero, suc, ◌+◌, ◌<◌, ◌≤◌, ◌==◌, ◌&&◌, Bool, true, false, List, [], ◌∷◌, ◌++◌}
 use Rattle.std.proofs.Common.{map, length, nat_lt, refl, ap, subst, ◌∙◌, arith, inl, inr}
 use Rattle.std.proofs.Math.ListN.{get_or}
@@ -61,7 +61,8 @@ past_task n m x p cs e known few order l other k most at =
     let below : slot_of (get_or cs j d) < slot x k = at.before j d a b in
     omega (arith, below, most, few))
 
--- A row of task x and resource k has no column where the columns of a slot up to theirs and of a later one begin at one place.
+-- The columns of two slots begin at one place. The slot of task x and resource k is the first of them or lies between them. Then a row
+-- of x and k has no column.
 not_here : (a b : Bool) → (a ≡ true → b ≡ true → ⊥) → (a && b) ≡ false
 not_here false b h = refl
 not_here true b h = elim (cases_Bool b) [
@@ -88,7 +89,7 @@ row_missing row cs s t x k p from to low high none =
     let above : t ≤ slot_of (get_or cs j d) = to.behind j d a b in
     none (column_seen (get_or cs j d)) (apart_from s (get_or cs j d) x k (λ e. absurd (omega (arith, above, e, high)))))
 
--- What holds of the rows of the numbers below a, and still does with each further row below b, holds of those below b.
+-- A property of the rows below a, which each further row below b keeps, is one of the rows below b.
 pub further_rows : (P : List ConstraintDef → Type 0) (row : ℕ → ConstraintDef) (a b : ℕ) → a ≤ b → P (per a row)
     → ((k : ℕ) → a ≤ k → k < b → P (per k row) → P (per k row ++ row k ∷ [])) → P (per b row)
 further_rows P row a zero order h step =

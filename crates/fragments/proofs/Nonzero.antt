@@ -1,4 +1,4 @@
--- Coefficients that aren't zero, pushed one behind another, and the full row that they stand for.
+-- Nonzero coefficients, pushed one behind another, and the full row that they make.
 use Rattle.std.proofs.Common.{◌≡◌, inl, inr, ℕ, ◌+◌, ◌≤◌, List, [], ◌∷◌, ◌++◌, map, length, slice_index, slice_index_or}
 use Rattle.std.proofs.Common.{true, refl, sym, ◌∙◌, ap, arith}
 use Rattle.std.proofs.lemmas.Bool.{cases_eq, cases_lt, eq-eqb, ne_eqb}
@@ -55,7 +55,7 @@ nonzero_end row columns a b n cs h order within done = record {
   ];
 }
 
--- The full row of all its coefficients that aren't zero.
+-- The full row of all its nonzero coefficients.
 row_from_nonzero : (row : ConstraintDef) (columns : List Fragment) (cs : List Coefficient) → AreNonzeroOf row columns (length columns) cs
     → full_row (length columns) cs ≡ map row.coefficient (map column_seen columns)
 row_from_nonzero row columns cs h =
@@ -74,7 +74,7 @@ listed_push n rows row h here r l = elim (cases_lt r (length rows)) [
       rw (at, get_or_at rows row [] [] (length rows) refl) here
 ]
 
--- A row that is there, taken by its coefficients that aren't zero.
+-- A nonzero row, taken by its nonzero coefficients.
 sparse_row_there : (a b : SparseRowsDef) (row : ConstraintDef) (columns : List Fragment) (list : List Coefficient) (bounds : List ℕ)
     → b.rows ≡ a.rows ++ list ∷ [] → b.limits ≡ a.limits ++ row.limit (slice_index bounds) ∷ []
     → holds_some (map column_seen columns) row ≡ true → AreNonzeroOf row columns (length columns) list
@@ -100,7 +100,7 @@ sparse_row_there a b row columns list bounds rows_are limits_are there h =
     with_lists : List (List ℕ) → List ℕ → RowBlockDef
     with_lists rows limits = record { rows = rows; limits = limits }
 
--- A row that is begun, one column further.
+-- One more column of a row that is begun.
 pub row_continued : (a b c : SparseRowsDef) (row : ConstraintDef) (columns : List Fragment) (n limit number : ℕ)
     → ((d : Fragment) → number ≡ row.coefficient (column_seen (slice_index_or columns n d))) → HasRowBegun a row columns n limit b
     → ((before : List (List Coefficient)) (last : List Coefficient) → b.rows ≡ before ++ last ∷ []
@@ -113,7 +113,7 @@ row_continued a b c row columns n limit number is h added kept = record {
   limits = kept ∙ h.limits;
 }
 
--- And behind its stretch, where it is there.
+-- The end of the row's stretch, for a nonzero row.
 pub row_ended : (a b : SparseRowsDef) (row : ConstraintDef) (columns : List Fragment) (from to n limit : ℕ) (bounds : List ℕ)
     → IsStretch row columns from to → to ≤ n → n ≤ length columns → limit ≡ row.limit (slice_index bounds)
     → holds_some (map column_seen columns) row ≡ true → HasRowBegun a row columns n limit b

@@ -1,4 +1,4 @@
--- Rows over stretches of columns: where a row's columns stand, and that what stands outside is zero.
+-- Rows over stretches of columns: where a row's columns are, and that the coefficients outside are zero.
 use Rattle.std.proofs.Common.{◌≡◌, ℕ, ◌+◌, ◌<◌, ◌≤◌, ◌==◌, ◌&&◌, false, List, map, length, nat_lt, ◌∙◌, arith, inl, inr}
 use Rattle.std.proofs.Math.ListN.{get_or}
 use Rattle.std.proofs.lemmas.Bool.{cases_Bool, and_parts, eqb-true, ne_eqb, le-ltb}
@@ -21,7 +21,7 @@ other_numbers a b c d apart = elim (cases_Bool ((a == b) && (c == d))) [
 pub begins_first : (cs : List Fragment) → BeginsAt (slot 0 0) cs 0
 begins_first cs = record { within = omega arith; before = λ k d l m. absurd (omega arith); behind = λ k d l m. omega arith }
 
--- Behind the last resource of a task stand the columns of the next task.
+-- The columns of the next task follow those of a task's last resource.
 pub begins_next : (n m x : ℕ) (cs : List Fragment) (a : ℕ) → AreKnown n m cs → m ≤ 4294967296 → BeginsAt (slot x m) cs a
     → BeginsAt (slot (x + 1) 0) cs a
 begins_next n m x cs a known few at = record {
@@ -35,7 +35,7 @@ begins_next n m x cs a known few at = record {
       omega (arith, here, q);
 }
 
--- A row that counts columns of task x alone counts those between where they begin and where the next task's do.
+-- A row that counts columns of task x alone counts those from the place where they begin up to the place where the next task's begin.
 pub stretch_of_task : (n m x : ℕ) (cs : List Fragment) (row : ConstraintDef) (a b : ℕ) → AreKnown n m cs → m ≤ 4294967296
     → BeginsAt (slot x 0) cs a → BeginsAt (slot (x + 1) 0) cs b → a ≤ b
     → ((c : ColumnDef) → (c.task == x) ≡ false → row.coefficient c ≡ 0) → IsStretch row cs a b
@@ -51,7 +51,7 @@ stretch_of_task n m x cs row a b known few from to order zero = record {
       zero (column_seen (get_or cs k d)) (ne_eqb (get_or cs k d).task.0 x (λ e. absurd (omega (arith, here, q, e))));
 }
 
--- And one that counts columns of its requests of q alone those between where they begin and where the next resource's do.
+-- A row that counts columns of the requests of x for q alone counts those up to the place where the next resource's begin.
 pub stretch_of_requests : (x q : ℕ) (cs : List Fragment) (row : ConstraintDef) (a b : ℕ)
     → BeginsAt (slot x q) cs a → BeginsAt (slot x (q + 1)) cs b → a ≤ b
     → ((c : ColumnDef) → ((c.task == x) && (c.resource == q)) ≡ false → row.coefficient c ≡ 0) → IsStretch row cs a b
@@ -68,7 +68,7 @@ stretch_of_requests x q cs row a b from to order zero = record {
       (other_numbers (get_or cs k d).task.0 x (get_or cs k d).resource.0 q (λ e f. absurd (omega (arith, here, e, f))));
 }
 
--- And one that counts columns of tasks lower than i alone those from where they begin.
+-- A row that counts columns of tasks lower than i alone counts those from the place where they begin.
 pub stretch_of_lower : (i : ℕ) (cs : List Fragment) (row : ConstraintDef) (a : ℕ) → BeginsAt (slot (i + 1) 0) cs a
     → ((c : ColumnDef) → nat_lt i c.task ≡ false → row.coefficient c ≡ 0) → IsStretch row cs a (length cs)
 stretch_of_lower i cs row a from zero = record {
@@ -80,7 +80,7 @@ stretch_of_lower i cs row a from zero = record {
   behind = λ k d l h. absurd (omega (arith, l, h));
 }
 
--- No column is in a row whose stretch has none.
+-- A row with an empty stretch has no column.
 pub none_held : (row : ConstraintDef) (cs : List Fragment) (a b : ℕ) → IsStretch row cs a b → b ≤ a
     → holds_some (map column_seen cs) row ≡ false
 none_held row cs a b h empty =

@@ -1,4 +1,4 @@
--- Rows that are there, and loops that add the rows of one number after another.
+-- Nonzero rows, and loops that add the rows of one number after another.
 use Rattle.std.proofs.Common.{◌≡◌, ℕ, zero, suc, true, List, [], ◌∷◌, ◌++◌, map, refl, ◌+◌, ◌<◌, add-one, arith}
 use Rattle.std.specs.Prelude.{slice_index}
 use Rattle.number_laws.specs.Sums.{collect_below}
@@ -11,7 +11,7 @@ pub row_there : (b : RowBlockDef) (cs : List ColumnDef) (row : ConstraintDef) (b
     → with_rows b cs (row ∷ []) bounds ≡ pushed_row b (map row.coefficient cs) (row.limit (slice_index bounds))
 row_there b cs row bounds some = rw some refl
 
--- What holds of the rows of the numbers below n and then those of n holds of those below n + 1.
+-- Properties of the rows of the numbers below n, then of those of n, are properties of the rows below n + 1.
 pub next_number : (P : List ConstraintDef → Type 0) (rows : ℕ → List ConstraintDef) (n : ℕ)
     → P (collect_below n rows ++ rows n) → P (collect_below (n + 1) rows)
 next_number P rows n h = rw add-one h

@@ -1,4 +1,4 @@
--- Columns without a coefficient, and lists that are told by their places.
+-- Columns with coefficient zero, and lists that are given by what is at each place.
 use Rattle.std.proofs.Common.{◌≡◌, ℕ, suc, ◌<◌, ◌≤◌, false, List, [], ◌∷◌, map, length, nat_lt, refl, arith, inl, inr}
 use Rattle.std.specs.Prelude.{slice_index, slice_index_or}
 use Rattle.std.proofs.Math.ListN.{get_or}
@@ -9,7 +9,7 @@ use Rattle.blocking_columns.specs.declared.columns.Fragment.{Fragment}
 use Rattle.blocking_columns.specs.ColumnDef.{column_seen}
 use Rattle.fragments.specs.Constraints.{ConstraintDef}
 
--- Where all columns before the place p and from b on are zero in a row, and p isn't before b, none is above zero.
+-- If all coefficients before p and from b on are zero, and p isn't before b, then none is above zero.
 pub none_above : (row : ConstraintDef) (cs : List Fragment) (b p : ℕ) → b ≤ p
     → AllWithin (λ c. row.coefficient (column_seen c) ≡ 0) cs 0 p → AllWithin (λ c. row.coefficient (column_seen c) ≡ 0) cs b (length cs)
     → list_any (λ c. nat_lt 0 (row.coefficient (column_seen c))) cs ≡ false
@@ -19,7 +19,7 @@ none_above row cs b p order before behind =
       | inr second ↦ rw (behind k d (omega arith) l) refl
     ])
 
--- A list of numbers that has f of each element at the element's place is f of all of them.
+-- A list that has f of an element's number at each place is the list of f of all elements.
 pub list_is_map : {X : Type 0} (f : X → ℕ) (xs : List ℕ) (cs : List X) → length xs ≡ length cs
     → ((k : ℕ) (d : X) → k < length cs → slice_index xs k ≡ f (slice_index_or cs k d)) → xs ≡ map f cs
 list_is_map f [] [] len same = refl

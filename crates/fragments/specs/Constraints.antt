@@ -1,4 +1,4 @@
--- Rows of a blocking program as data: a row is a coefficient for each column, and a limit that the bounds give.
+-- Rows of a blocking program as data. A row has a coefficient for each column, and a limit that the bounds give.
 use Rattle.std.specs.Prelude.{ℕ, Bool, nat_lt, List, [], ◌∷◌, ◌++◌, map, if◌then◌else◌, slice_index}
 use Rattle.std.specs.List.{filter, list_any}
 use Rattle.number_laws.specs.Sums.{collect_below, flag}
@@ -10,11 +10,11 @@ pub record ConstraintDef : Type 0 where
   pub coefficient : ColumnDef → ℕ
   pub limit : (ℕ → ℕ) → ℕ
 
--- The columns that pass the test, all together, are at most as many as the limit.
+-- The sum of the columns that pass the test is at most the limit.
 abbrev pub counting : (ColumnDef → Bool) → ((ℕ → ℕ) → ℕ) → ConstraintDef
 counting test limit = record { coefficient = λ c. flag (test c); limit = limit }
 
--- One row for each number below n; for each number below n that passes the test; for each pair of numbers below m and n.
+-- One row for each number below n. One for each number below n that passes the test. One for each pair of numbers below m and n.
 abbrev pub per : ℕ → (ℕ → ConstraintDef) → List ConstraintDef
 per n row = collect_below n (λ k. row k ∷ [])
 
@@ -24,7 +24,7 @@ per_where test n row = collect_below n (λ k. if test k then row k ∷ [] else [
 abbrev pub per_pair : ℕ → ℕ → (ℕ → ℕ → ConstraintDef) → List ConstraintDef
 per_pair m n row = collect_below m (λ k. per n (row k))
 
--- The rows that are there: those in which some column has a coefficient above zero.
+-- The nonzero rows: those in which some column has a coefficient above zero.
 abbrev pub rows_there : List ColumnDef → List ConstraintDef → List ConstraintDef
 rows_there columns rows = filter (λ row. list_any (λ c. nat_lt 0 (row.coefficient c)) columns) rows
 
@@ -32,14 +32,14 @@ rows_there columns rows = filter (λ row. list_any (λ c. nat_lt 0 (row.coeffici
 abbrev pub holds_some : List ColumnDef → ConstraintDef → Bool
 holds_some columns row = list_any (λ c. nat_lt 0 (row.coefficient c)) columns
 
--- The numbers of the rows that are there: their coefficients, and their limits at bounds.
+-- The nonzero rows as numbers: their coefficients, and their limits at bounds.
 abbrev pub coefficients_of : List ColumnDef → List ConstraintDef → List (List ℕ)
 coefficients_of columns rows = map (λ row. map row.coefficient columns) (rows_there columns rows)
 
 abbrev pub limits_of : List ColumnDef → List ConstraintDef → List ℕ → List ℕ
 limits_of columns rows bounds = map (λ row. row.limit (slice_index bounds)) (rows_there columns rows)
 
--- The block of the rows that are there.
+-- The block of the nonzero rows.
 abbrev pub block_of : List ColumnDef → List ConstraintDef → List ℕ → RowBlockDef
 block_of columns rows bounds = record { rows = coefficients_of columns rows; limits = limits_of columns rows bounds }
 

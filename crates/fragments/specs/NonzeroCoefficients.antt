@@ -6,16 +6,16 @@ use Rattle.blocking_columns.specs.declared.columns.Fragment.{Fragment}
 use Rattle.blocking_columns.specs.ColumnDef.{column_seen}
 use Rattle.fragments.specs.Constraints.{ConstraintDef}
 
--- The list, and behind it the coefficient of the column at the place, if it isn't zero.
+-- The list, followed by the coefficient of the column at the place, unless that is zero.
 abbrev pub with_nonzero : List Coefficient → ℕ → ℕ → List Coefficient
 with_nonzero cs place number = if number == 0 then cs else cs ++ record { column = place; number = number } ∷ []
 
--- Are these the row's coefficients of the first n columns that aren't zero?
+-- Are these the nonzero coefficients of the row's first n columns?
 pub record AreNonzeroOf (row : ConstraintDef) (columns : List Fragment) (n : ℕ) (cs : List Coefficient) : Type 0 where
   pub listed : AreCoefficients n cs
   pub told : (k : ℕ) (d : Fragment) → k < n → number_at cs k ≡ row.coefficient (column_seen (slice_index_or columns k d))
 
--- Has b one row more than a, of this limit, with the row's coefficients of the first n columns that aren't zero?
+-- Is b what a is with one row more, of this limit, which has the row's nonzero coefficients among its first n columns?
 pub record HasRowBegun (a : SparseRowsDef) (row : ConstraintDef) (columns : List Fragment) (n limit : ℕ) (b : SparseRowsDef) : Type 0 where
   pub list : List Coefficient
   pub nonzero : AreNonzeroOf row columns n list

@@ -5,7 +5,7 @@ use Rattle.blocking_columns.specs.declared.columns.Fragment.{Fragment}
 use Rattle.blocking_columns.specs.ColumnDef.{column_seen}
 use Rattle.fragments.specs.Constraints.{ConstraintDef}
 
--- Has no column before the place a, nor from the place b on, a coefficient in the row?
+-- Are the row's coefficients zero in all columns before the place a, and in all from the place b on?
 pub record IsStretch (row : ConstraintDef) (columns : List Fragment) (a b : ℕ) : Type 0 where
   pub order : a ≤ b
   pub within : b ≤ length columns

@@ -1,4 +1,5 @@
--- How rows that are taken one after another hang together: what a taker of rows owes, of blocks of rows and of their limits alone.
+-- Rows that are taken one after another: the laws that a taker of rows owes. They are shown here for blocks of rows, and for the limits
+-- alone.
 use Rattle.std.proofs.Common.{◌≡◌, ℕ, false, List, [], ◌∷◌, ◌++◌, refl, sym, ap, ◌∙◌, append_assoc}
 use Rattle.std.proofs.lemmas.List.{map-append, append-nil}
 use Rattle.std.proofs.lemmas.List.Elements.{filter-append}
@@ -6,7 +7,7 @@ use Rattle.program_form.specs.RowBlock.{RowBlockDef}
 use Rattle.blocking_columns.specs.ColumnDef.{ColumnDef}
 use Rattle.fragments.specs.Constraints.{ConstraintDef, holds_some, with_rows, limits_of}
 
--- Rows behind rows are the rows of both lists.
+-- Taking one list of rows, then a second, is taking both lists in that order.
 with_more_rows : (b : RowBlockDef) (cs : List ColumnDef) (xs ys : List ConstraintDef) (bounds : List ℕ)
     → with_rows (with_rows b cs xs bounds) cs ys bounds ≡ with_rows b cs (xs ++ ys) bounds
 with_more_rows b cs xs ys bounds = rw (filter-append, map-append, map-append, append_assoc, append_assoc) refl
@@ -25,14 +26,14 @@ pub limits_behind : (a b c : List ℕ) (cs : List ColumnDef) (xs ys : List Const
 limits_behind a b c cs xs ys bounds first second =
     second ∙ (ap (λ (k : List ℕ). k ++ limits_of cs ys bounds) first ∙ more_limits a cs xs ys bounds)
 
--- No rows change nothing.
+-- Taking no rows changes nothing.
 pub no_rows_more : (b : RowBlockDef) (cs : List ColumnDef) (bounds : List ℕ) → b ≡ with_rows b cs [] bounds
 no_rows_more b cs bounds = sym (rw (append-nil, append-nil) refl)
 
 pub no_limits_more : (ls : List ℕ) (cs : List ColumnDef) (bounds : List ℕ) → ls ≡ ls ++ limits_of cs [] bounds
 no_limits_more ls cs bounds = sym (rw append-nil refl)
 
--- A row in which no column has a coefficient above zero changes nothing.
+-- A row in which no coefficient is above zero changes nothing.
 pub row_not_there : (b : RowBlockDef) (cs : List ColumnDef) (row : ConstraintDef) (bounds : List ℕ)
     → holds_some cs row ≡ false → b ≡ with_rows b cs (row ∷ []) bounds
 row_not_there b cs row bounds none = sym (rw (none, append-nil, append-nil) refl)

@@ -13,15 +13,15 @@ use program_form::RowBlock;
 use sporadic_model::{TaskId, TaskSet};
 use std::alloc::{AllocError, Global};
 
-/// A row of the blocking program of a task `i`, as far as its coefficients go: one for each column.
+/// The coefficients of a row of task `i`'s blocking program, one for each column.
 pub trait RowKind {
     /// The row, for a set and the analysed task.
     ghost row_of: { Self → SetDef → ℕ → ConstraintDef };
 
-    /// Does the row speak of tasks and resources of the set?
+    /// Does the row name only tasks and resources of the set?
     ghost fits: { Self → SetDef → Type 0 };
 
-    /// Which columns is it asked for coefficients of?
+    /// The columns whose coefficients it can give.
     ghost over: { Self → SetDef → ℕ → ColumnDef → Type 0 };
 
     /// The column's coefficient.
@@ -34,9 +34,9 @@ pub trait RowKind {
         ensures { result ≡ (row_of self.now set.now i.0).coefficient (column_seen column) };
 }
 
-/// A row whose limit is computed from the bounds too.
+/// A row with its limit, which is computed from the bounds.
 pub trait Constraint: RowKind {
-    /// What the row's sum may be at most, where these are the bounds.
+    /// The limit of the row's sum at these bounds.
     fn limit(&self, set: &TaskSet, i: TaskId, bounds: &[u64]) -> u64
         requires fits { Self.fits self.now set.now }
         requires task { i.0 < length set.now.tasks }
@@ -44,7 +44,7 @@ pub trait Constraint: RowKind {
         ensures { result ≡ (Self.row_of self.now set.now i.0).limit (slice_index bounds.now) };
 }
 
-// Has some column a coefficient above zero in the row, where none outside the stretch has one?
+// Whether some column has a coefficient above zero in the row. Outside the stretch none has one.
 fn holds<K: RowKind>(
     kind: &K,
     set: &TaskSet,
@@ -68,7 +68,7 @@ fn holds<K: RowKind>(
     false
 }
 
-// The coefficients of the columns, where those outside the stretch are zero.
+// The coefficients of the columns. Outside the stretch they are zero.
 fn coefficients<K: RowKind>(
     alloc: Global,
     kind: &K,
@@ -101,7 +101,7 @@ fn push_row(block: &mut RowBlock, list: Vec<u64>, limit: u64) -> Result<(), Allo
     Ok(())
 }
 
-/// Adds the row with this limit, where it is asked for coefficients in the stretch, and the columns outside have none.
+/// Adds the row with this limit. The row can give the coefficients of the stretch, and outside it every column has coefficient zero.
 pub(crate) fn push_kind<K: RowKind>(
     alloc: Global,
     block: &mut RowBlock,
@@ -124,8 +124,8 @@ pub(crate) fn push_kind<K: RowKind>(
     push_row(block, list, limit)
 }
 
-/// Adds the row to what the taker has, if some column has a coefficient above zero in it, where its limit at the bounds is known. It
-/// looks at the columns of the stretch alone, as `add_row_within`.
+/// Adds the row to what the taker has, if some column has a coefficient above zero in it. Its limit at the bounds is known. It looks at
+/// the columns of the stretch alone, as `add_row_within` does.
 pub fn add_row_limited<T: RowTaker, K: RowKind>(
     alloc: Global,
     taker: &mut T,
@@ -151,8 +151,8 @@ pub fn add_row_limited<T: RowTaker, K: RowKind>(
     Ok(())
 }
 
-/// Adds the row to what the taker has, if some column has a coefficient above zero in it. It looks at the columns of the stretch
-/// alone, from its first place to below its second, since none outside has one.
+/// Adds the row to what the taker has, if some column has a coefficient above zero in it. It looks at the columns of the stretch alone,
+/// from its first place to below its second. Outside the stretch no column has one.
 pub fn add_row_within<T: RowTaker, K: Constraint>(
     alloc: Global,
     taker: &mut T,
@@ -178,7 +178,7 @@ pub fn add_row_within<T: RowTaker, K: Constraint>(
     Ok(())
 }
 
-/// Adds the row to what the taker has, if some column has a coefficient above zero in it. It is asked for coefficients of all columns.
+/// Adds the row to what the taker has, if some column has a coefficient above zero in it. It looks at all columns.
 pub fn add_row<T: RowTaker, K: Constraint>(
     alloc: Global,
     taker: &mut T,

@@ -1,5 +1,4 @@
-//! Rows of blocking programs as data, the walks over them, and what takes rows. The columns and windows that they stand over are those
-//! of `blocking_columns`.
+//! Rows of blocking programs as data, the walks over them, and what takes rows. Their columns and windows come from `blocking_columns`.
 #![tactic(auto)]
 
 mod constraints;

@@ -1,4 +1,4 @@
-//! Rows of which each task, or each task and resource, has one, over its own columns alone.
+//! Kinds of rows that have one row for each task, or one for each task and resource, over its own columns alone.
 
 ghost use Rattle.std.specs.Prelude.{◌≡◌, ℕ, ◌<◌, ◌≤◌, ◌==◌, ◌&&◌, false, List, [], ◌∷◌, map, length, OnOk, slice_index};
 ghost use Rattle.sporadic_model.specs.SetDef.{SetDef};
@@ -15,12 +15,12 @@ use blocking_columns::Fragment;
 use sporadic_model::{ResourceId, TaskId, TaskSet};
 use std::alloc::{AllocError, Global};
 
-/// A kind of rows of which each task has one.
+/// A kind of rows with one row for each task.
 pub trait TaskRow {
     /// The row of a task, for a set and the analysed task.
     ghost row_of: { Self → SetDef → ℕ → ℕ → ConstraintDef };
 
-    /// Are the rows those of the set and the analysed task at these bounds, where they are made of further numbers?
+    /// Do the further numbers that the rows are made of belong to the set and the analysed task at these bounds?
     ghost fits: { Self → SetDef → ℕ → List ℕ → Type 0 };
 
     /// The coefficient of a column of task `x` in that task's row.
@@ -31,8 +31,7 @@ pub trait TaskRow {
         requires resource { column.resource.0 < length set.now.resources }
         ensures { result ≡ (row_of self.now set.now i.0 x.0).coefficient (column_seen column) };
 
-    /// What the sum of that row may be at most, where these are the bounds, and so many jobs of `x` can run within the bound of a job
-    /// of `i`.
+    /// The limit of that row's sum at these bounds, where `jobs` jobs of `x` can run within the bound of a job of `i`.
     fn limit(&self, set: &TaskSet, i: TaskId, x: TaskId, jobs: u64, bounds: &[u64]) -> u64
         requires fits { fits self.now set.now i.0 bounds.now }
         requires task { i.0 < length set.now.tasks }
@@ -42,7 +41,7 @@ pub trait TaskRow {
         requires within { AreWithinDeadlines set.now bounds.now }
         ensures { result ≡ (row_of self.now set.now i.0 x.0).limit (slice_index bounds.now) };
 
-    /// A column of another task has no coefficient in it.
+    /// A column of another task has coefficient zero in it.
     ghost alone: { (k : Self) (set : SetDef) (i x : ℕ) (c : ColumnDef) → (c.task == x) ≡ false → (row_of k set i x).coefficient c ≡ 0 };
 }
 
@@ -65,8 +64,8 @@ impl<'a, K: TaskRow> RowKind for RowOfTask<'a, K> {
     }
 }
 
-/// Adds the row of task `x`, whose columns are those of the stretch, to what the taker has, if some column has a coefficient above
-/// zero in it. So many jobs of `x` can run within the bound of a job of `i`.
+/// Adds the row of task `x` to what the taker has, if some column has a coefficient above zero in it. The columns of `x` are those of
+/// the stretch. `jobs` jobs of `x` can run within the bound of a job of `i`.
 pub fn add_row_of_task<T: RowTaker, K: TaskRow>(
     alloc: Global,
     taker: &mut T,
@@ -127,12 +126,12 @@ impl<K: TaskRow> PerTask for EachTask<K> {
     }
 }
 
-/// A kind of rows of which each task and resource has one.
+/// A kind of rows with one row for each task and resource.
 pub trait RequestRow {
     /// The row of a task and a resource, for a set and the analysed task.
     ghost row_of: { Self → SetDef → ℕ → ℕ → ℕ → ConstraintDef };
 
-    /// The coefficient of a column of the requests of `q` by task `x` in the row of these.
+    /// The coefficient, in the row of task `x` and resource `q`, of a column of their requests.
     fn coefficient(
         &self,
         set: &TaskSet,
@@ -148,8 +147,7 @@ pub trait RequestRow {
         requires of_resource { column.resource.0 ≡ q.0 }
         ensures { result ≡ (row_of self.now set.now i.0 x.0 q.0).coefficient (column_seen column) };
 
-    /// What the sum of that row may be at most, where these are the bounds, and so many jobs of `x` can run within the bound of a job
-    /// of `i`.
+    /// The limit of that row's sum at these bounds, where `jobs` jobs of `x` can run within the bound of a job of `i`.
     fn limit(
         &self,
         set: &TaskSet,
@@ -167,7 +165,7 @@ pub trait RequestRow {
         requires within { AreWithinDeadlines set.now bounds.now }
         ensures { result ≡ (row_of self.now set.now i.0 x.0 q.0).limit (slice_index bounds.now) };
 
-    /// A column of another task or resource has no coefficient in it.
+    /// A column of another task or resource has coefficient zero in it.
     ghost alone: { (k : Self) (set : SetDef) (i x q : ℕ) (c : ColumnDef) → ((c.task == x) && (c.resource == q)) ≡ false
         → (row_of k set i x q).coefficient c ≡ 0 };
 }

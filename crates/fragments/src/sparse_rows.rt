@@ -1,4 +1,4 @@
-//! What takes rows by their coefficients that aren't zero.
+//! Takes rows by their nonzero coefficients.
 
 ghost use Rattle.std.specs.Prelude.{◌≡◌, ◌<◌, ◌^◌, List, [], ◌∷◌, ◌++◌, OnOk};
 ghost use Rattle.fragments.specs.NonzeroCoefficients.{with_nonzero};

@@ -1,4 +1,4 @@
-//! What takes the rows of a program as they are walked.
+//! What takes the rows of a program during a walk over them.
 
 ghost use Rattle.std.specs.Prelude.{◌≡◌, ℕ, ◌<◌, List, [], ◌∷◌, ◌++◌, true, false, map, length, OnOk, slice_index};
 ghost use Rattle.std.specs.List.{AllWithin};
@@ -13,13 +13,13 @@ use program_form::RowBlock;
 use sporadic_model::{TaskId, TaskSet};
 use std::alloc::{AllocError, Global};
 
-/// What takes the rows of a program as they are walked: a block of rows with their limits, or the limits alone.
+/// What takes the rows of a program during a walk over them: a block of rows with their limits, or the limits alone.
 pub trait RowTaker {
-    /// Does the second hold what the first does, and behind that what is taken of these rows, over these columns and at these bounds?
+    /// Does the second hold what the first does, followed by what it takes of these rows over these columns and at these bounds?
     ghost takes: { Self → List ColumnDef → List ConstraintDef → List ℕ → Self → Type 0 };
 
-    /// Takes the row, in which some column has a coefficient above zero and none outside the stretch, with its limit at the bounds. It is
-    /// asked for coefficients of the stretch's columns alone.
+    /// Takes the row with its limit at the bounds. Some column has a coefficient above zero in it, and outside the stretch none has
+    /// one. It looks at the stretch's columns alone.
     fn take<K: RowKind>(
         &mut self,
         alloc: Global,
@@ -40,14 +40,14 @@ pub trait RowTaker {
         requires limit { limit ≡ (K.row_of kind.now set.now i.0).limit (slice_index bounds.now) }
         ensures { OnOk result (takes self.old (map column_seen columns.now) (K.row_of kind.now set.now i.0 ∷ []) bounds.now self.new) };
 
-    /// No rows change nothing.
+    /// Taking no rows changes nothing.
     ghost none: { (t : Self) (cs : List ColumnDef) (bounds : List ℕ) → takes t cs [] bounds t };
 
-    /// Nor does a row in which no column has a coefficient above zero.
+    /// A row in which no coefficient is above zero changes nothing.
     ghost missing: { (t : Self) (cs : List ColumnDef) (row : ConstraintDef) (bounds : List ℕ) → holds_some cs row ≡ false
         → takes t cs (row ∷ []) bounds t };
 
-    /// Rows that are taken behind others are taken with them.
+    /// Taking some rows, then others, is taking both in that order.
     ghost behind: { (a b c : Self) (cs : List ColumnDef) (xs ys : List ConstraintDef) (bounds : List ℕ)
         → takes a cs xs bounds b → takes b cs ys bounds c → takes a cs (xs ++ ys) bounds c };
 }
@@ -85,7 +85,7 @@ impl RowTaker for RowBlock {
 /// The limits of a program's rows, without their coefficients.
 #[derive(Debug, Drop)]
 pub struct RowLimits {
-    /// The limit of each row that is there.
+    /// The limits of the nonzero rows.
     pub limits: Vec<u64>,
 }
 

@@ -16,15 +16,15 @@ use blocking_columns::{Fragment, TaskPlace, jobs, requests_end};
 use sporadic_model::{ResourceId, TaskId, TaskSet};
 use std::alloc::{AllocError, Global};
 
-/// Rows of which each is over the columns of one task alone.
+/// Kinds of rows in which each row is over the columns of one task alone.
 pub trait PerTask {
     /// The rows of a task, for a set and the analysed task.
     ghost rows_of: { Self → SetDef → ℕ → ℕ → List ConstraintDef };
 
-    /// Are the rows those of the set and the analysed task at these bounds, where they are made of further numbers?
+    /// Do the further numbers that the rows are made of belong to the set and the analysed task at these bounds?
     ghost fits: { Self → SetDef → ℕ → List ℕ → Type 0 };
 
-    /// Adds the rows of task `x`, whose columns are those of the stretch. So many jobs of `x` can run within the bound of a job of `i`.
+    /// Adds the rows of task `x`, whose columns are those of the stretch. `jobs` jobs of `x` can run within the bound of a job of `i`.
     fn add<T: RowTaker>(
         &self,
         alloc: Global,
@@ -48,7 +48,7 @@ pub trait PerTask {
         ensures { OnOk result (T.takes taker.old (map column_seen columns.now) (rows_of self.now set.now i.0 x.0) bounds.now taker.new) };
 }
 
-/// Adds the rows of each task behind those that the taker has, over any columns that stand in order.
+/// Adds the rows of each task behind those that the taker has. The columns are in order.
 pub fn add_per_task<T: RowTaker, R: PerTask>(
     alloc: Global,
     taker: &mut T,
@@ -86,7 +86,7 @@ pub fn add_per_task<T: RowTaker, R: PerTask>(
     Ok(())
 }
 
-/// The same of rows that only tasks lower than `i` have. It looks at their columns alone.
+/// The same for rows that only tasks lower than `i` have. It looks at the columns of these tasks alone.
 pub fn add_per_lower_task<T: RowTaker, R: PerTask>(
     alloc: Global,
     taker: &mut T,
@@ -126,15 +126,15 @@ pub fn add_per_lower_task<T: RowTaker, R: PerTask>(
     Ok(())
 }
 
-/// Rows of which there is one for each task and resource, over the columns of these requests alone.
+/// Kinds of rows with one row for each task and resource, over the columns of these requests alone.
 pub trait PerRequest {
     /// The row of a task and a resource, for a set and the analysed task.
     ghost row_of: { Self → SetDef → ℕ → ℕ → ℕ → ConstraintDef };
 
-    /// Are the rows those of the set and the analysed task at these bounds, where they are made of further numbers?
+    /// Do the further numbers that the rows are made of belong to the set and the analysed task at these bounds?
     ghost fits: { Self → SetDef → ℕ → List ℕ → Type 0 };
 
-    /// Adds the row of task `x` and resource `q`, whose columns are those of the stretch. So many jobs of `x` can run within the bound
+    /// Adds the row of task `x` and resource `q`, whose columns are those of the stretch. `jobs` jobs of `x` can run within the bound
     /// of a job of `i`.
     fn add<T: RowTaker>(
         &self,
@@ -161,12 +161,12 @@ pub trait PerRequest {
         ensures { OnOk result (T.takes taker.old (map column_seen columns.now) (row_of self.now set.now i.0 x.0 q.0 ∷ []) bounds.now
             taker.new) };
 
-    /// No column of another task or resource has a coefficient in the row.
+    /// In the row each column of another task or resource has coefficient zero.
     ghost apart: { (k : Self) (set : SetDef) (i x q : ℕ) (c : ColumnDef) → ((c.task == x) && (c.resource == q)) ≡ false
         → (row_of k set i x q).coefficient c ≡ 0 };
 }
 
-// The resource of the column at the place, if there is one and it is of task `x`.
+// The resource of the column at the place, if there is a column and it is of task `x`.
 fn requested_at(set: &TaskSet, columns: &[Fragment], place: usize, x: TaskId) -> Option<ResourceId>
     requires known { AreKnown (length set.now.tasks) (length set.now.resources) columns.now }
     requires order { AreInOrder columns.now }
@@ -181,8 +181,8 @@ fn requested_at(set: &TaskSet, columns: &[Fragment], place: usize, x: TaskId) ->
     Some(columns[place].resource)
 }
 
-// Adds the rows of the requests by task `x`, whose columns begin at `from`, where so many of its jobs can run within the bound of a job
-// of `i`. Answers where they end.
+// Adds the rows of the requests by task `x`, whose columns begin at `from`. `jobs` of its jobs can run within the bound of a job of
+// `i`. Answers where these columns end.
 fn add_requests_from<T: RowTaker, R: PerRequest>(
     alloc: Global,
     taker: &mut T,
@@ -230,8 +230,8 @@ fn add_requests_from<T: RowTaker, R: PerRequest>(
     Ok(place)
 }
 
-/// Adds the row of each of the first `tasks` tasks and each resource behind those that the taker has, over any columns that stand in
-/// order. Answers the places of these tasks, with one more behind them that says where the columns of the last one end.
+/// For each of the first `tasks` tasks and each resource, adds the row behind those that the taker has. The columns are in order.
+/// Answers the places of these tasks, and one more place, at which the columns of the last task end.
 pub fn add_per_request<T: RowTaker, R: PerRequest>(
     alloc: Global,
     taker: &mut T,
@@ -277,7 +277,7 @@ pub fn add_per_request<T: RowTaker, R: PerRequest>(
     Ok(places)
 }
 
-/// The same rows, where the places of all tasks are known.
+/// The same rows, for places of all tasks that are known.
 pub fn add_per_request_at<T: RowTaker, R: PerRequest>(
     alloc: Global,
     taker: &mut T,
@@ -317,12 +317,12 @@ pub fn add_per_request_at<T: RowTaker, R: PerRequest>(
     Ok(())
 }
 
-/// Rows by number, as of each resource or of each processor, over any columns.
+/// Kinds of rows by number, such as one for each resource or one for each processor, over any columns.
 pub trait PerNumber {
     /// The rows of a number, for a set and the analysed task.
     ghost rows_of: { Self → SetDef → ℕ → ℕ → List ConstraintDef };
 
-    /// Has the set rows of this number, which can be formed over these columns?
+    /// Has the set rows of this number, and can they be formed over these columns?
     ghost fits: { Self → SetDef → ℕ → List Fragment → ℕ → Type 0 };
 
     /// Adds the rows of the number.

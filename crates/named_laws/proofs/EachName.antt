@@ -1,4 +1,4 @@
--- What is so of the programs of every protocol, name by name.
+-- Properties of the programs of every protocol, name by name.
 use Rattle.std.proofs.Common.{ℕ, ◌==◌, List, IsUtf8, codes, refl}
 use Rattle.json.proofs.Printed.Utf8.{IsUtf8-are_ascii}
 use Rattle.program_form.specs.Certificate.{CertificateDef}

@@ -1,4 +1,5 @@
--- Where grants go in the order of issue, and of one issue tick to the highest task, the same rows before leave the same holders.
+-- Requests are granted in the order of issue, and of those issued at one tick the highest task's comes first. Then the same earlier
+-- rows leave the same holders.
 use Rattle.std.proofs.Common.{◌≡◌, ℕ, ◌≤◌, true, refl, sym, ap, ◌∙◌, arith, inl, inr, Option, Some, None}
 use Rattle.std.proofs.lemmas.Bool.{cases_Bool, both_ways}
 use Rattle.schedule_model.specs.RowDef.{Trace, is_job, holder_in, held_before}
@@ -12,13 +13,13 @@ use Rattle.schedule_laws.proofs.Rows.{job_named, named_job}
 use Rattle.schedule_laws.proofs.Agreement.{agree_back, task_agree, requester_agree, issue_agree, held_before_agree}
 use Rattle.schedule_laws.proofs.SharedChoice.{same_named}
 
--- Holders are kept and granted so.
+-- Holders are kept and granted in this way.
 pub record GrantsInTurn (w : Trace) (t : ℕ) : Type 0 where
   pub keep : KeepsKeep w t
   pub grant : KeepsGrant fmlp_plus w t
   pub ties : GrantsHighest issue_tick_of w t
 
--- Two new holders are of one task, and so are one job.
+-- Two new holders are of one task, so they are one job.
 one_new_holder : (v w : Trace) (t q i j : ℕ) → AgreeBefore v w t → GrantsInTurn v t → GrantsInTurn w t
     → holder_in (v.row t) q ≡ Some j → holder_in (w.row t) q ≡ Some i
     → (held_before v t q ≡ Some j → ⊥) → (held_before w t q ≡ Some i → ⊥) → i ≡ j

@@ -1,4 +1,4 @@
--- What is so of the figures of a lawful schedule beside a valid certificate, name by name.
+-- Properties of the figures of a lawful schedule beside a valid certificate, name by name.
 use Rattle.std.proofs.Common.{◌≡◌, ℕ, ◌<◌, true, List, length, ◌∙◌, refl, arith, Some}
 use Rattle.std.specs.Prelude.{slice_index}
 use Rattle.program_form.specs.Certificate.{CertificateDef}

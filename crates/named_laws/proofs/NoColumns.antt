@@ -1,4 +1,4 @@
--- A task set that requests nothing has no columns, whatever test they have to pass that asks for a user.
+-- A task set that requests nothing has no columns, if the columns have to pass a test that asks for a user.
 use Rattle.std.proofs.Common.{◌≡◌, Bool, true, false, ◌&&◌, not, List, [], ◌∷◌, length, map, refl, ◌∙◌, ap, nat_lt}
 use Rattle.std.specs.List.{All}
 use Rattle.std.proofs.lemmas.List.{length-map}
@@ -11,7 +11,7 @@ use Rattle.blocking_columns.proofs.KnownColumns.{passing_known, passing_pass}
 use Rattle.program_laws.specs.Programs.{cost_of}
 use Rattle.response_fixpoint.specs.Runs.{RequestsNothing}
 
--- Of three tests that are passed the second is.
+-- If three tests are passed, so is the second.
 pub used_by : (a b c : Bool) → ((not a && b) && c) ≡ true → b ≡ true
 used_by true b c h = cc
 used_by false true c h = refl

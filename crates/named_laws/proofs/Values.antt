@@ -1,4 +1,4 @@
--- There are values of any certificate's duals.
+-- The duals of any certificate have values.
 use Rattle.std.proofs.Common.{ℕ, List, map, arith}
 use Rattle.std.specs.List.{range_with_len}
 use Rattle.std.proofs.lemmas.List.FromFn.{length-map-range_with_len, get_or-map-range_with_len}

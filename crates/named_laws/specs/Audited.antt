@@ -1,4 +1,4 @@
--- The figures of an audit under a protocol by its name, and what is proved of them.
+-- The figures of an audit under a protocol by its name, and what is proved about them.
 use Rattle.std.specs.Prelude.{◌≡◌, ℕ, ◌<◌, length, slice_index}
 use Rattle.program_form.specs.Certificate.{CertificateDef}
 use Rattle.program_sources.specs.Valid.{value_at}
@@ -14,8 +14,8 @@ abbrev pub figures_under : ProtocolName → CertificateDef → Trace → ℕ →
 figures_under protocol c w n =
     figures_of (charges_of protocol) (interference_of protocol) w (slice_index c.bounds) (value_at (source_of protocol w.set) c) n
 
--- Does each task's response lie within its bound, and its blocking within its value? And do its classes add up to all the ticks at
--- which its jobs are blocked?
+-- Is each task's response within its bound, and its blocking within its value? And do its classes add up to all the ticks at which its
+-- jobs are blocked?
 pub record AreProvedFigures (protocol : ProtocolName) (c : CertificateDef) (w : Trace) (n : ℕ) : Type 0 where
   pub within : (x : ℕ) → x < length w.set.tasks → LieWithin (figures_under protocol c w n x)
   pub adds_up : (x : ℕ) → x < length w.set.tasks

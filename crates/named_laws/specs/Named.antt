@@ -1,4 +1,4 @@
--- What each protocol has, by its name: homes, rules, a choice of rows, ticks of interference, charges and programs.
+-- What each protocol has by its name: homes, rules, a choice of rows, ticks of interference, charges and programs.
 use Rattle.std.specs.Prelude.{◌≡◌, ◌⊎◌, ℕ, Bool, List, Option, None, Some}
 use Rattle.sporadic_model.specs.SetDef.{SetDef}
 use Rattle.sporadic_model.specs.Homes.{HasHomesFor}
@@ -79,7 +79,7 @@ charges_of name.DpcpCloser = dpcp_charge
 charges_of name.DflpCloser = dpcp_charge
 charges_of name.MpcpCloser = shared_charge
 
--- What gives the programs of a set under the protocol, with its interfering costs; and the programs of just this set.
+-- The source that gives the programs of a set under the protocol, with its interfering costs. And the programs of this set alone.
 abbrev pub sources : ProtocolName → SetDef → SourceDef
 sources (name.Base p) = source_written p
 sources name.Dflp = dflp_source
@@ -94,7 +94,7 @@ sources name.MpcpCloser = mpcp_closer_source
 abbrev pub source_of : ProtocolName → SetDef → SourceDef
 source_of n set = source_at (sources n) set
 
--- Of which protocol is it a closer analysis, with the same rules, charges and columns, and rows that say no less than its own?
+-- The protocol of which it is a closer analysis. Both have the same rules, charges and columns, and its rows say no less.
 abbrev pub plain_of : ProtocolName → Option ProtocolName
 plain_of (name.Base p) = None
 plain_of name.Dflp = None
@@ -106,16 +106,16 @@ plain_of name.DpcpCloser = Some name.DpcpWindows
 plain_of name.DflpCloser = Some name.Dflp
 plain_of name.MpcpCloser = Some (name.Base protocol.Mpcp)
 
--- Is the first a closer analysis of the second, or of a closer analysis of it?
+-- Is the first a closer analysis of the second, or of a closer analysis of the second?
 abbrev pub IsCloserThan : ProtocolName → ProtocolName → Type 0
 IsCloserThan closer plain = (plain_of closer ≡ Some plain) ⊎ ((between : ProtocolName) × (plain_of closer ≡ Some between)
     × (plain_of between ≡ Some plain))
 
--- Does every schedule that keeps the protocol's rules, of whatever lawful jobs of the set, keep these bounds and values?
+-- Does every schedule of lawful jobs of the set that keeps the protocol's rules keep these bounds and values?
 abbrev pub SoundUnder : ProtocolName → SetDef → List ℕ → List ℕ → Type 0
 SoundUnder n = Sound (rules_of n) (interference_of n)
 
--- And does, however many cycles a tick has, every such schedule whose rows are cycles keep them, said in cycles? Of these tasks the
--- value is whole, so their jobs may execute for all of their costs.
+-- And on clocks: however many cycles a tick has, does every such schedule whose rows are cycles keep them, in cycles? `whole` says
+-- which tasks have a whole value. Jobs of these may execute for all of their cost.
 abbrev pub SoundOnClocksUnder : ProtocolName → (ℕ → Bool) → SetDef → List ℕ → List ℕ → Type 0
 SoundOnClocksUnder n = SoundOnClocks (rules_of n) (interference_of n)

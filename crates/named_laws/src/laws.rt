@@ -1,5 +1,4 @@
-//! What is so of the programs of every protocol. Each function is a law: it does nothing, and what it ensures holds for every name
-//! and every set.
+//! Properties of the programs of every protocol. Each function does nothing: its contract is a law, for every name and every set.
 
 ghost use Rattle.std.specs.Prelude.{◌≡◌, ℕ, List, IsUtf8};
 ghost use Rattle.program_form.specs.Certificate.{CertificateDef};
@@ -30,17 +29,17 @@ pub fn programs_are_sound()
         → IsValid (source_of protocol set) c → AreValues (source_of protocol set) c values → SoundUnder protocol set c.bounds values }
 {}
 
-/// On the machine's clock they hold too: however many cycles a tick has, in every lawful schedule whose rows are cycles, in which each
-/// job leaves all but one cycle of a tick of its cost, or none where its task's value is whole. A job is blocked at no more cycles than
-/// the value has, and a part of a tick.
+/// On the machine's clock they hold too, however many cycles a tick has. This is so in every lawful schedule whose rows are cycles, if
+/// each job leaves all but one cycle of a tick of its cost. A job of a task with a whole value need leave none. A job is blocked at no
+/// more cycles than the value has, and a part of a tick.
 pub fn programs_are_sound_on_clocks()
     ensures { (protocol : ProtocolName) (set : SetDef) (c : CertificateDef) (values : List ℕ) → IsAccepted set
         → IsValid (source_of protocol set) c → AreValues (source_of protocol set) c values
         → SoundOnClocksUnder protocol (is_whole (source_of protocol set) c) set c.bounds values }
 {}
 
-/// With each response time that comes up at some bounds one that is no less comes up at greater bounds; and a task set that
-/// requests nothing has programs without columns.
+/// The recurrence is monotone. If a task has a response time at some bounds, it has one at greater bounds, which is no less. And a task
+/// set that requests nothing has programs without columns.
 pub fn programs_rise()
     ensures above { (protocol : ProtocolName) (set : SetDef) → ComesUpAbove (source_of protocol set) }
     ensures none { (protocol : ProtocolName) (set : SetDef) → RequestsNothing set → HasNoColumns (source_of protocol set) }
@@ -63,14 +62,14 @@ pub fn schedules_are_unique()
         → IsSimulated (choice_of protocol) jobs n b → a ≡ b }
 {}
 
-/// Where the jobs are lawful, the rows keep the rules and the certificate is valid, each task's figures lie within its bound and its
-/// value, and its classes add up to all the ticks at which its jobs are blocked.
+/// Let the jobs be lawful, the rows keep the rules and the certificate be valid. Then each task's response is within its bound and its
+/// blocking within its value. Its classes add up to all the ticks at which its jobs are blocked.
 pub fn figures_are_proved()
     ensures { (protocol : ProtocolName) (c : CertificateDef) (w : Trace) (n : ℕ) → IsAccepted w.set → IsValid (source_of protocol w.set) c
         → AreLawfulJobs (jobs_of w) → KeepsBefore (rules_of protocol) w n → AreProvedFigures protocol c w n }
 {}
 
-/// For a set of which a refusal holds no bounds fit, and so no certificate is valid.
+/// If a refusal of a set holds, no bounds fit, so no certificate is valid.
 pub fn refusals_are_right()
     ensures none_fits { (protocol : ProtocolName) (set : SetDef) (steps : List StepDef) (s : List ℕ)
         → Holds (source_of protocol set) steps → AreFitting (source_of protocol set) s → ⊥ }
@@ -78,7 +77,7 @@ pub fn refusals_are_right()
         → Holds (source_of protocol set) steps → IsValid (source_of protocol set) c → ⊥ }
 {}
 
-/// The refusal that the rounds give of an accepted set holds.
+/// The refusal that the rounds give for an accepted set holds.
 pub fn rounds_give_refusals_that_hold()
     ensures { (protocol : ProtocolName) (set : SetDef) (allowance i value : ℕ) → IsAccepted set
         → (ends : EndsIn (refuting (source_of protocol set)) allowance (NotShown i value))

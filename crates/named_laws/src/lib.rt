@@ -1,4 +1,4 @@
-//! What each protocol has by its name, as definitions, and what is so of every one: laws by cases over the names.
+//! Defines what each protocol has by its name, and says what is true of all of them: laws by cases over the names.
 #![tactic(auto)]
 
 mod laws;

@@ -89,7 +89,7 @@ pub fn check(
 }
 
 /// Whether each row that is read keeps the rules of the protocol of this name, with the measures of each task, as `conform_rows` of
-/// `trace_conform` judges it. At first the reader stands at the first run.
+/// `trace_conform` judges it. The reader starts at the first run.
 pub fn conform_rows<R: RowReader>(
     alloc: Global,
     protocol: ProtocolName,
@@ -141,8 +141,8 @@ pub fn simulate(
     }
 }
 
-/// The figures of each task under the protocol of this name, as `audit_rows` of `audit_figures` finds them. At first the reader stands
-/// at the first run.
+/// The figures of each task under the protocol of this name, as `audit_rows` of `audit_figures` finds them. The reader starts at the first
+/// run.
 pub fn audit_rows<R: RowReader>(
     alloc: Global,
     protocol: ProtocolName,

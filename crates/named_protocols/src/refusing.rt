@@ -25,7 +25,7 @@ use sporadic_model::TaskSet;
 use std::alloc::Global;
 use std::thread::Threads;
 
-/// Steps that show that no bounds fit under the protocol of this name, or that some do, as `refute` of `refusal_cert` finds them.
+/// Under the protocol of this name: steps that show that no bounds fit, or that some do, as `refute` of `refusal_cert` finds it.
 pub fn refute(
     alloc: Global,
     set: &TaskSet,

@@ -34,7 +34,7 @@ name_of word = if bytes_eq word (codes "mpcp") then Some (name.Base protocol.Mpc
     else if bytes_eq word (codes "mpcp-c") then Some name.MpcpCloser
     else None
 
--- The protocol which asks a set for the same homes.
+-- The protocol that asks a set for the same homes.
 abbrev pub homes_as : ProtocolName → Protocol
 homes_as (name.Base protocol) = protocol
 homes_as name.Dflp = protocol.Dpcp

@@ -1,4 +1,4 @@
-//! The protocols by their names: the words that a command, or a certificate, has for them.
+//! The protocols by their names: the words that a command or a certificate has for them.
 #![tactic(auto)]
 
 ghost use Rattle.std.specs.Prelude.{◌≡◌, List, ℕ, Some};
@@ -6,26 +6,26 @@ ghost use Rattle.protocol_names.specs.Names.{word_of, name_of, homes_as};
 
 use sporadic_model::Protocol;
 
-/// The name of a protocol. Every protocol that the program knows has one, and no other has.
+/// The name of a protocol: one for each that the program knows.
 #[derive(Clone, Copy, Debug, PartialEq, Eq)]
 pub enum ProtocolName {
-    /// One of the three protocols that task sets are checked for by their own type: MPCP, FMLP+ and DPCP.
+    /// MPCP, FMLP+ or DPCP: a task set has a type of its own for these three.
     Base(Protocol),
     /// The distributed FIFO protocol.
     Dflp,
     /// FIFO spin locks, whose requests aren't preempted.
     Spin,
-    /// DPCP, whose programs bound what runs within each request's window.
+    /// DPCP, with a program that bounds what runs within each request's window.
     DpcpWindows,
-    /// FMLP+, whose programs have the rows of the closer analysis too.
+    /// FMLP+, with the rows of the closer analysis.
     FmlpPlusCloser,
-    /// FIFO spin locks, whose programs have the rows of the closer analysis.
+    /// FIFO spin locks, with the rows of the closer analysis.
     SpinCloser,
-    /// DPCP, whose programs have the windows of requests and the rows of the closer analysis.
+    /// DPCP, with the windows of requests and the rows of the closer analysis.
     DpcpCloser,
-    /// The distributed FIFO protocol, whose programs have the rows of the closer analysis too.
+    /// The distributed FIFO protocol, with the rows of the closer analysis.
     DflpCloser,
-    /// MPCP, whose programs have the rows of the closer analysis too.
+    /// MPCP, with the rows of the closer analysis.
     MpcpCloser,
 }
 
@@ -49,7 +49,7 @@ impl ProtocolName {
         }
     }
 
-    /// The protocol which asks a set for the same homes of resources.
+    /// The protocol that asks a set for the same homes of resources.
     pub fn homes_as(self) -> Protocol
         ensures { result ≡ homes_as self }
     {
@@ -67,7 +67,7 @@ impl ProtocolName {
     }
 }
 
-/// The protocol that a word names; none where it names none.
+/// The protocol that a word names, or none.
 pub fn protocol_named(word: &str) -> Option<ProtocolName>
     ensures { result ≡ name_of word.now }
 {
@@ -87,7 +87,7 @@ pub fn protocol_named(word: &str) -> Option<ProtocolName>
     }
 }
 
-/// A law of the words: each names its protocol, and no other word does.
+/// A law of the words: each protocol's word names it, and no other word does.
 pub fn words_name_their_protocols()
     ensures named { (name : ProtocolName) → name_of (word_of name) ≡ Some name }
     ensures only { (word : List ℕ) (name : ProtocolName) → name_of word ≡ Some name → word ≡ word_of name }

@@ -92,7 +92,7 @@ run_halts f r left i earlier before solve_stop.Units here old run = (
 )
 run_halts f r left i earlier before solve_stop.Memory here old run = tt
 
--- It ends at a value that passes the latest.
+-- It ends at a value that passes the latest bound.
 pub value_halts : (f : SourceDef) (r : List ℕ) (left i latest : ℕ) (earlier : List StepDef) (before : Round)
     (program : ProgramDef) (run : PointRun) (e : RoundEnd) → i < tasks_of f → latest ≡ latest_of f i → slice_index r i ≤ latest_of f i
     → HasFound f r left i earlier before → GivesPointRun (Ok run) f r i (left - before.used)
@@ -154,7 +154,7 @@ next_in_range f r left earlier round h =
       to_latest = λ i here. (point_value f r left h.found h.passed i here).1;
     })
 
--- Where the rounds stand: they have come to these bounds, with these units and steps.
+-- The state of the rounds: they have come to these bounds, with these units and steps.
 pub record Stands (f : SourceDef) (a spent : ℕ) (bounds : List ℕ) (steps : List StepDef) : Type 0 where
   pub rounds : ℕ
   pub way : Reaches (refuting f) a rounds spent bounds
@@ -177,7 +177,7 @@ stands_more f a spent used r steps round s h other units =
       steps_are = h.steps ∙ ap (λ (xs : List StepDef). xs ++ round_steps r h.found (tasks_of f)) s.steps_are;
     }
 
--- Rounds end in one way, so their end is the one of the answer, and its steps are those of the refusal.
+-- Rounds end in one way, so the answer is the one of their end, and its steps are those of the refusal.
 refusals_same : (f : SourceDef) (a i v : ℕ) (first : EndsIn (refuting f) a (NotShown i v)) (e : Ending) → NotShown i v ≡ e
     → (ends : EndsIn (refuting f) a e) → refusal_of (refuting f) a (NotShown i v) first ≡ refusal_of (refuting f) a e ends
 refusals_same f a i v first e same =

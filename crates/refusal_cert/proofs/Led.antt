@@ -33,7 +33,7 @@ after_all f steps = after_steps (costs_of f.set) steps
 after_all_length : (f : SourceDef) (steps : List StepDef) → length (after_all f steps) ≡ tasks_of f
 after_all_length f steps = after_length (costs_of f.set) steps ∙ costs_length f.set
 
--- Steps of which each is one at the bounds before it, and none passes its task's latest bound.
+-- A list of steps, each of which is one at the bounds before it. None passes its task's latest bound.
 record Leads (f : SourceDef) (steps : List StepDef) : Type 0 where
   each : (k : ℕ) → k < length steps → IsStep f (vector_before f.set steps k) (step_at steps k)
   calm : (k : ℕ) → k < length steps → PassesLatest f.set (step_at steps k) → ⊥
@@ -94,7 +94,7 @@ last_holds f steps s leads is late = record {
 own : (i value : ℕ) (point : DualDef) → place_of (step_of i value point) ≡ i
 own i value point = omega arith
 
--- The step of a run at the bounds r is one at any bounds that are at least r, and are below the value in the task's place.
+-- The step of a run at the bounds r. It is a step at any bounds that are at least r and lie below the value at the task's place.
 step_is : (f : SourceDef) → LimitsRise f → (r v : List ℕ) (i left used value : ℕ) (point : DualDef) → AtMost (tasks_of f) r v
     → i < tasks_of f → slice_index v i < value → slice_index r i < value → PointRuns f r i left (Valued used value point)
     → IsStep f v (step_of i value point)
@@ -121,11 +121,11 @@ step_is f rise r v i left used value point above here rising past (dual, run, gi
     } in
     record { from_one = omega arith; at = subst (λ (j : ℕ). IsStepAt f v j value point) (sym (own i value point)) at }
 
--- Does the recurrence not fall below the bounds r, at these bounds?
+-- Is the recurrence at these bounds at least r?
 abbrev Rises : SourceDef → List ℕ → Type 0
 Rises f r = (i v : ℕ) → i < tasks_of f → IsResponse f r i v → slice_index r i ≤ v
 
--- Within a round at r: the steps up to here lead to the values that were found, and to r where no task was yet.
+-- Within a round at r. The steps up to here lead to the values that were found, and to r for the tasks that are still to come.
 record IsLed (f : SourceDef) (r : List ℕ) (found : Found) (i : ℕ) (steps : List StepDef) : Type 0 where
   leads : Leads f steps
   above : AtMost (tasks_of f) r (after_all f steps)
@@ -233,7 +233,7 @@ point_value f r left found passed i here =
     let most : t.value ≤ latest_of f i = t.within in
     (subst (λ (v : ℕ). IsResponse f r i v) (sym t.here) t.run.1.ends.response, rw t.here most)
 
--- Where the rounds come to r, the steps of the rounds that went by lead to it.
+-- When the rounds come to r, the steps of the rounds that went by lead to it.
 record LeadsTo (f : SourceDef) (r : List ℕ) (steps : List StepDef) : Type 0 where
   leads : Leads f steps
   vector : after_all f steps ≡ r
@@ -298,7 +298,7 @@ refusal_holds f rise fit a i v (r, left, found, used, point, below, comes, run, 
     let is = step_is f rise r (after_all f steps) i left used v point led.above below rising past run in
     last_holds f steps (step_of i v point) led.leads is (subst (λ (j : ℕ). latest_of f j < v) (sym (own i v point)) late)
 
--- And rounds that end in Schedulable give bounds that fit.
+-- And if rounds end in Schedulable, their bounds fit.
 pub bounds_fit : (f : SourceDef) (a : ℕ) (bounds : List ℕ) (points : List DualDef) → EndsIn (refuting f) a (Schedulable bounds points)
     → AreFitting f bounds
 bounds_fit f a bounds points (left, found, comes, same, rest) =

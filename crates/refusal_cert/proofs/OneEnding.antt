@@ -84,7 +84,7 @@ points_once f r i left OutOfUnits OutOfUnits p q = refl
 pub refuting_once : (f : SourceDef) (a : ℕ) (e g : Ending) → EndsIn (refuting f) a e → EndsIn (refuting f) a g → e ≡ g
 refuting_once f = one_end (refuting f) (points_once f)
 
--- Rounds that have one end each give the same steps on the way to one place.
+-- If rounds have one end each, they give the same steps on the way to one place.
 way_once : (o : RoundsOf) → HaveOneEnd o → (a k j u v : ℕ) (r s : List ℕ) → k ≡ j → (p : Reaches o a k u r) (q : Reaches o a j v s)
     → way_steps o a k u r p ≡ way_steps o a j v s q
 way_once o one a zero zero u v r s same p q = refl
@@ -102,7 +102,7 @@ way_once o one a (suc k) (suc j) u v r s same (b, x, f, reached, passed, is, oth
     ∙ ap (λ (z : List ℕ). way_steps o a j c y reached' ++ round_steps z f o.tasks) both.1
     ∙ ap (λ (z : Found). way_steps o a j c y reached' ++ round_steps y z o.tasks) founds
 
--- Where rounds come to a task that isn't shown, they end.
+-- If rounds come to a task that isn't shown, they end.
 abbrev at_late : (o : RoundsOf) (a i v : ℕ) (r : List ℕ) (left : ℕ) (f : Found) (u : ℕ) (d : DualDef) → i < o.tasks
     → ComesTo o a r i left f → o.runs r i left (Valued u v d) → o.latest i < v → Place o a (NotShown i v)
 at_late o a i v r left f u d below comes run late = record {

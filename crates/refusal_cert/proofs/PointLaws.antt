@@ -1,4 +1,4 @@
--- The best point of a run, and what it is to the program once it is written over its least common denominator.
+-- The best point of a run, and what it means for the program once it is written over its least common denominator.
 use Rattle.std.proofs.Common.{◌≡◌, inl, inr, ℕ, ◌*◌, ◌<◌, ◌≤◌, List, length, slice_index, ℤ, pos, ◌*ℤ◌, ◌≤ℤ◌, ◌<ℤ◌, unsigned_abs}
 use Rattle.std.proofs.Common.{refl, sym, ap, subst, ◌∙◌, arith}
 use Rattle.std.specs.Prelude.{All}
@@ -69,7 +69,7 @@ best_not_below p units k value best d is ends = λ c x here.
 shows : (s a : ℕ) (f : Fraction) → pos 0 <ℤ f.den → IsScaled s f a → Shows (pos s) (pos a) f
 shows s a f positive scaled = record { same = sym scaled.same; positive = positive }
 
--- Two numbers over two scales that are one fraction.
+-- Two numbers over two scales that are the same fraction.
 cross_scaled : (f : Fraction) (s d a b : ℕ) → pos 0 <ℤ f.den → IsScaled s f a → IsScaled d f b → b * s ≡ a * d
 cross_scaled f s d a b positive one two =
     same_natural (b * s) (a * d) (scaled_shown (pos s) (pos a) f d b (shows s a f positive one) two)
@@ -103,7 +103,7 @@ point_over p s d ys zs positive point same = record {
 sizes_of : (f : Fraction) (l k : ℕ) → IsScaled l f k → unsigned_abs f.num * l ≡ k * unsigned_abs f.den
 sizes_of f l k h = sym (sym (unsigned_abs-mul (pos k) f.den) ∙ (ap unsigned_abs h.same ∙ unsigned_abs-mul f.num (pos l)))
 
--- What the written best point is to the program: a point that meets each row, and is worth the greatest whole number.
+-- What the written best point means for the program: it meets each row, and its whole worth is at least b.
 pub record IsBestPoint (p : ProgramDef) (point : DualDef) (b : ℕ) : Type 0 where
   pub size : length point.num ≡ columns p
   pub rows : IsScaledPoint p point.den (slice_index point.num)
@@ -152,7 +152,7 @@ one_written best x y all h k =
         → (let a : DualDef = record { den = m; num = ks } in a) ≡ record { den = n; num = js }
     dual_is m n ks js p q = rw (p, q) refl
 
--- One that can be written isn't too wide for it.
+-- A best point that can be written isn't too wide to be written.
 pub written_or_not : (best : List Fraction) (x : DualDef) → All IsForm best → IsWritten best x → IsUnwritable best → ⊥
 written_or_not best x all h wide = none_serves best wide.common all wide.least wide.wide x.den (record {
   positive = h.least.positive;

@@ -1,4 +1,4 @@
--- What the run of a task's program gives, from what solving it and writing its best point answer.
+-- What the run of a task's program gives, from the answers of solving it and of writing its best point.
 use Rattle.std.proofs.Common.{◌≡◌, ℕ, ◌<◌, List, pos, ◌≤ℤ◌, refl, sym, subst, arith, inl, inr, Ok, Err, Some}
 use Rattle.std.specs.Prelude.{All, Option, None, slice_index}
 use Rattle.fraction128.specs.Fraction.{Fraction}
@@ -51,14 +51,14 @@ scaled_point best s point (least, scaled, small, each) den num = rw (den, num) (
 pub unscaled_point : (best : List Fraction) → Scales (Err scaling.Wide) best → IsUnwritable best
 unscaled_point best (common, least, wide) = record { common = common; least = least; wide = wide }
 
--- Above the bound the point is that of a step.
+-- If the value is above the bound, the point is that of a step.
 pub step_stopped : (bound value : ℕ) (e : SolveStop) (best : List Fraction) → bound < value → WritesPoint (Err e) best
     → WritesStep (Err e) bound value best
 step_stopped bound value solve_stop.Wide best above given = (above, given)
 step_stopped bound value solve_stop.Units best above given = given
 step_stopped bound value solve_stop.Memory best above given = tt
 
--- A task whose point of a step is there.
+-- A task that has the point of its step.
 point_given : (bound value : ℕ) (best : List Fraction) (point : Option Dual) → WritesStep (Ok point) bound value best
     → GivesPoint bound value best (point_seen point)
 point_given bound value best None most = record { above = λ past. absurd (omega (arith, past, most)); none = λ _. refl }
@@ -83,7 +83,7 @@ point_run f r i left s point run (solved, is) step solution value given =
     (dual, solved, point_given bound s.value solved.ends.best point there) in
     rw (solution, value, given) (runs, given_steps i bound s.value s.solution.best.items point step, units.0, units.1, is)
 
--- A task whose point of a step can't be written, or that stops before.
+-- A task whose step has a point that can't be written, or whose run stops before.
 pub point_stopped : (f : SourceDef) (r : List ℕ) (i left : ℕ) (s : TaskRun) (e : SolveStop) → GivesRun (Ok s) f r i left
     → WritesStep (Err e) (slice_index r i) s.value s.solution.best.items → GivesPointRun (Err e) f r i left
 point_stopped f r i left s solve_stop.Wide (run, is) (above, wide) =

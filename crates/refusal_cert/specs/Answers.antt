@@ -26,7 +26,8 @@ use Rattle.refusal_cert.specs.declared.rounds.Round.{Round}
 use Rattle.refusal_cert.specs.declared.rounds.RoundEnd.{RoundEnd}
 use Rattle.refusal_cert.specs.declared.rounds.RoundEnd.TheVariants as round_end
 
--- Is this how the rounds of refusals end with this allowance, and a refusal just their steps? Want of memory says nothing.
+-- Is this how the rounds of refusals end with this allowance, and does a refusal have the steps of these rounds? Running out of memory
+-- says nothing.
 abbrev pub Refutes : Result Answer RefuteStop → SourceDef → ℕ → Type 0
 Refutes (Ok (answer.Refused refusal)) f allowance = (i : ℕ) × (value : ℕ)
     × (ends : EndsIn (refuting f) allowance (NotShown i value))
@@ -37,7 +38,8 @@ Refutes (Err (stop.Wide task)) f allowance = EndsIn (refuting f) allowance (Wide
 Refutes (Err stop.Allowance) f allowance = EndsIn (refuting f) allowance Allowance
 Refutes (Err stop.Memory) f allowance = Unit {0}
 
--- Is this the answer that rounds of this ending give, where these are the steps of a refusal? But for want of memory there is no other.
+-- Is this the answer that rounds of this ending give, with these steps if it is a refusal? The only other answer is that memory ran
+-- out.
 abbrev pub IsAnswerOf : Result Answer RefuteStop → Ending → List StepDef → Type 0
 IsAnswerOf (Ok (answer.Refused refusal)) e steps =
     ((i : ℕ) × (value : ℕ) × (e ≡ NotShown i value)) × (steps_seen refusal ≡ steps)
@@ -46,12 +48,12 @@ IsAnswerOf (Err (stop.Wide task)) e steps = e ≡ Wide task.0
 IsAnswerOf (Err stop.Allowance) e steps = e ≡ Allowance
 IsAnswerOf (Err stop.Memory) e steps = Unit {0}
 
--- Is the answer right: does the refusal hold, so that nothing fits, or does something fit?
+-- Is the answer right? If it is a refusal, the refusal holds and nothing fits. If it is Schedulable, something fits.
 abbrev pub IsRight : Answer → SourceDef → Type 0
 IsRight (answer.Refused refusal) f = (Holds f (steps_seen refusal)) × ((s : List ℕ) → AreFitting f s → ⊥)
 IsRight answer.Schedulable f = (s : List ℕ) × AreFitting f s
 
--- Do the rounds of an analysis end at a task that isn't shown, or in bounds that fit, with the point of each step written?
+-- Do the rounds of an analysis end at a task that isn't shown, or in bounds that fit? And can the point of each step be written?
 abbrev pub EndsLate : SourceDef → ℕ → Type 0
 EndsLate f allowance = ((i : ℕ) × (value : ℕ) × EndsIn (rounds_of f) allowance (NotShown i value)) × AreWritable f allowance
 
@@ -59,8 +61,8 @@ abbrev pub EndsFitting : SourceDef → ℕ → Type 0
 EndsFitting f allowance =
     ((bounds : List ℕ) × (duals : List DualDef) × EndsIn (rounds_of f) allowance (Schedulable bounds duals)) × AreWritable f allowance
 
--- Does Refused come exactly where they end late so, and Schedulable exactly where they end in bounds that fit? Want of memory says
--- nothing.
+-- Does Refused come if and only if they end late in this way, and Schedulable if and only if they end in bounds that fit? Running out
+-- of memory says nothing.
 abbrev pub FollowsAnalysis : Result Answer RefuteStop → SourceDef → ℕ → Type 0
 FollowsAnalysis (Ok (answer.Refused refusal)) f allowance = (EndsLate f allowance) × (EndsFitting f allowance → ⊥)
 FollowsAnalysis (Ok answer.Schedulable) f allowance = (EndsFitting f allowance) × (EndsLate f allowance → ⊥)
@@ -82,7 +84,7 @@ WritesStep (Err solve_stop.Wide) bound value best = (bound < value) × IsUnwrita
 WritesStep (Err solve_stop.Units) bound value best = ⊥
 WritesStep (Err solve_stop.Memory) bound value best = Unit {0}
 
--- The point of a run, as the rounds have it.
+-- The point of a run, as the definition of the rounds has it.
 abbrev pub point_seen : Option Dual → DualDef
 point_seen None = no_dual
 point_seen (Some point) = dual_seen point
@@ -92,7 +94,7 @@ abbrev pub steps_given : ℕ → ℕ → Option Dual → List StepDef
 steps_given i value None = []
 steps_given i value (Some point) = step_of i value (dual_seen point) ∷ []
 
--- Is this how task i's run ends where so many units are left, and which solution it has? Want of memory says nothing.
+-- Is this how task i's run ends where `left` units are left, and is its solution this one? Running out of memory says nothing.
 abbrev pub GivesPointRun : Result PointRun SolveStop → SourceDef → List ℕ → ℕ → ℕ → Type 0
 GivesPointRun (Ok run) f r i left = (PointRuns f r i left (Valued run.solution.used run.value (point_seen run.point)))
     × (steps_given i run.value run.point ≡ steps_over (slice_index r i) i run.value (point_seen run.point))
@@ -101,7 +103,7 @@ GivesPointRun (Err solve_stop.Wide) f r i left = PointRuns f r i left TooWide
 GivesPointRun (Err solve_stop.Units) f r i left = PointRuns f r i left OutOfUnits
 GivesPointRun (Err solve_stop.Memory) f r i left = Unit {0}
 
--- What comes of a task's run in a round: it passes where its value is at most its latest bound, and gives the last step where it isn't.
+-- What a task's run does to a round. The task passes if its value is at most its latest bound. If not, it gives the last step.
 abbrev pub TakesRun : Result Round RoundEnd → Round → ProgramDef → PointRun → ℕ → ℕ → Type 0
 TakesRun (Ok now) before program run i latest = (run.value ≤ latest) × (now.used ≡ before.used + run.solution.used)
     × (now.values.items ≡ before.values.items ++ run.value ∷ [])
@@ -113,7 +115,7 @@ TakesRun (Err (round_end.Wide task)) before program run i latest = ⊥
 TakesRun (Err round_end.Allowance) before program run i latest = ⊥
 TakesRun (Err round_end.Memory) before program run i latest = Unit {0}
 
--- Has a round at r that began with `left` units and these steps come past its first i tasks, having found this?
+-- Has a round at r, which began with `left` units and these steps, passed its first i tasks and found this?
 pub record HasFound (f : SourceDef) (r : List ℕ) (left i : ℕ) (earlier : List StepDef) (round : Round) : Type 0 where
   pub found : Found
   pub passed : Passes (refuting f) r left i found
@@ -121,7 +123,7 @@ pub record HasFound (f : SourceDef) (r : List ℕ) (left i : ℕ) (earlier : Lis
   pub values : found.values ≡ round.values.items
   pub steps : map step_seen round.steps.items ≡ earlier ++ round_steps r found i
 
--- Where such a round comes to a task at which the rounds end.
+-- Such a round comes to a task at which the rounds end.
 pub record Halts (f : SourceDef) (r : List ℕ) (left i : ℕ) (e : RunEnd) : Type 0 where
   pub found : Found
   pub below : i < tasks_of f
@@ -140,13 +142,13 @@ GivesRound (Err (round_end.Wide task)) f r left earlier = Halts f r left task.0 
 GivesRound (Err round_end.Allowance) f r left earlier = (i : ℕ) × Halts f r left i OutOfUnits
 GivesRound (Err round_end.Memory) f r left earlier = Unit {0}
 
--- Why a round ends where a run stops so.
+-- The end of a round for this end of a run.
 abbrev pub end_at : SolveStop → ℕ → RoundEnd
 end_at solve_stop.Wide i = round_end.Wide (record { 0 = i })
 end_at solve_stop.Units i = round_end.Allowance
 end_at solve_stop.Memory i = round_end.Memory
 
--- What is answered where a round ends so.
+-- What is answered for this end of a round.
 abbrev pub answer_at : RoundEnd → Result Answer RefuteStop
 answer_at (round_end.Refused refusal) = Ok (answer.Refused refusal)
 answer_at (round_end.Wide task) = Err (stop.Wide task)

@@ -1,4 +1,4 @@
--- The steps of rounds, in the order of the rounds and, in each, of its tasks.
+-- The steps of rounds, in the order of the rounds, and within a round in the order of its tasks.
 use Rattle.std.specs.Prelude.{◌≡◌, refl, ℕ, zero, suc, ◌+◌, nat_lt, if◌then◌else◌, List, [], ◌∷◌, ◌++◌, slice_index}
 use Rattle.number_laws.specs.Sums.{collect_below}
 use Rattle.program_form.specs.Certificate.{DualDef}
@@ -6,11 +6,11 @@ use Rattle.program_sources.specs.Valid.{dual_at}
 use Rattle.refusal_laws.specs.Steps.{StepDef}
 use Rattle.response_fixpoint.specs.Rounds.{Ending, Schedulable, NotShown, Wide, Allowance, Found, RoundsOf, Reaches, EndsIn}
 
--- The step of task i, which is counted from 1 in it.
+-- The step of task i. A step counts tasks from 1.
 abbrev pub step_of : ℕ → ℕ → DualDef → StepDef
 step_of i value point = record { task = i + 1; value = value; point = point }
 
--- The step that task i's value gives where the task had this bound: one where the value is above it, else none.
+-- The step for task i's value, if the value is above the bound that the task had. If not, there is none.
 abbrev pub steps_over : ℕ → ℕ → ℕ → DualDef → List StepDef
 steps_over bound i value point = if nat_lt bound value then step_of i value point ∷ [] else []
 
@@ -25,7 +25,7 @@ way_steps o allowance (suc k) used r (before, q, found, reached, passed, is, oth
     way_steps o allowance k before q reached ++ round_steps q found o.tasks
 
 -- The refusal of rounds that end in NotShown: the steps of the rounds that went by, those of the last round, and the step of the task
--- that isn't shown. Rounds that end otherwise have none.
+-- that isn't shown. Rounds with another end have none.
 abbrev pub refusal_of : (o : RoundsOf) (allowance : ℕ) (e : Ending) → EndsIn o allowance e → List StepDef
 refusal_of o allowance (NotShown i value) (r, left, found, used, point, below, comes, run, late) =
     way_steps o allowance comes.rounds comes.spent r comes.reached ++ round_steps r found i ++ step_of i value point ∷ []

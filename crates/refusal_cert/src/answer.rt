@@ -7,7 +7,7 @@ use std::alloc::AllocError;
 /// What a refutation answers.
 #[derive(Drop)]
 pub enum Answer {
-    /// No bounds fit: here are the steps that show so.
+    /// No bounds fit, and these steps show it.
     Refused(Refusal),
     /// Some bounds fit.
     Schedulable,
@@ -18,7 +18,7 @@ pub enum Answer {
 pub enum RefuteStop {
     /// The program of this task forms a fraction that is too wide, or the point of its step can't be written.
     Wide(TaskId),
-    /// The rounds want more units than the allowance.
+    /// The rounds need more units than the allowance.
     Allowance,
     /// No memory is left.
     Memory,

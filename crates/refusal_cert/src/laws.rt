@@ -1,4 +1,4 @@
-//! How the rounds of refusals stand to those of an analysis. Each function is a law: it does nothing.
+//! How the rounds of refusals compare with those of an analysis. Each function does nothing: its contract is the law.
 
 ghost use Rattle.std.specs.Prelude.{◌≡◌, ℕ, List, ◌↔◌};
 ghost use Rattle.program_form.specs.Certificate.{DualDef};
@@ -13,7 +13,7 @@ pub fn the_rounds_of_refusals_have_one_ending()
         → EndsIn (refuting f) allowance e → EndsIn (refuting f) allowance g → e ≡ g }
 {}
 
-/// They come to a task that isn't shown, or to bounds that fit, exactly where an analysis does and the point of each step of its
+/// They come to a task that isn't shown, or to bounds that fit, if and only if an analysis does and the point of each step of its
 /// rounds can be written.
 pub fn refutations_follow_analyses()
     ensures refused { (f : SourceDef) (allowance i value : ℕ)

@@ -1,8 +1,8 @@
-//! Refusals of task sets. The rounds of an analysis may come to a task whose value passes its latest bound. Then the steps on
-//! the way show so, each with a point of a task's program. A reader can judge them without solving anything.
+//! Refusals of task sets. The rounds of an analysis may come to a task whose value passes its latest bound. Then the steps on the way
+//! are the proof, each with a point of a task's program. A reader can judge them without solving anything.
 //!
-//! [`refute`] goes through the same rounds as an analysis, one program at a time, and each program is formed once. What a
-//! refusal is and why it is right stands in `refusal_laws`. Which steps rounds give is said in `specs/`.
+//! [`refute`] goes through the same rounds as an analysis, one program at a time. It forms each program once. `refusal_laws` says what
+//! a refusal is and why it is right. `specs/` says which steps the rounds give.
 #![tactic(auto)]
 
 mod answer;

@@ -12,7 +12,7 @@ use response_fixpoint::{costs, next_plan};
 use sporadic_model::TaskSet;
 use std::alloc::Global;
 
-/// What is answered where a round ends so.
+/// What is answered for this end of a round.
 fn ended(end: RoundEnd) -> Result<Answer, RefuteStop>
     ensures { result ≡ answer_at end }
 {
@@ -63,15 +63,15 @@ fn take_rounds<P: ProgramSource>(
     }
 }
 
-/// Shows that no bounds fit, by steps that a reader can judge from the programs alone, or that some do.
+/// Shows that no bounds fit, by steps that a reader can judge from the programs alone. Or shows that some bounds fit.
 ///
-/// The rounds are those of an analysis, with one program solved at a time, and a solution taken over where its program's limits stay. A
-/// task whose value is above its bound at the round's start gives a step: the value, and the best point of its program over its least
-/// common denominator. The task whose value passes its latest bound gives the last one. `allowance` is the number of units that all
-/// programs together may take, counted as in an analysis.
+/// The rounds are those of an analysis, with one program solved at a time. A program keeps its solution where its limits stay the same.
+/// A task whose value is above its bound at the round's start gives a step. A step has the value, and the best point of the task's
+/// program over its least common denominator. The task whose value passes its latest bound gives the last one. `allowance` is the
+/// number of units that all programs together may take, counted as in an analysis.
 ///
-/// `RefuteStop::Wide` names the first task whose run is wide, or whose step's point passes 2^63 - 1; `RefuteStop::Allowance` comes
-/// exactly where the rounds end so, and `RefuteStop::Memory` for want of memory alone.
+/// `RefuteStop::Wide` names the first task whose run is wide, or whose step has a point that passes 2^63 - 1. `RefuteStop::Allowance`
+/// comes if the rounds end so, and only then. `RefuteStop::Memory` comes only if memory runs out.
 pub fn refute<P: ProgramSource>(
     alloc: Global,
     set: &TaskSet,
@@ -80,15 +80,15 @@ pub fn refute<P: ProgramSource>(
 ) -> Result<Answer, RefuteStop>
     requires serves { P.serves protocol.now set.now }
 
-    // The answer, its stops among them, is how the rounds end, and a refusal has just their steps.
+    // The answer, be it a verdict or a stop, is how the rounds end. A refusal has the steps of these rounds and no others.
     ensures rounds { Refutes result (source_at (P.source protocol.now) set.now) allowance }
 
-    // And each end of the rounds gives just that answer, with just the steps of that end.
+    // Conversely, each end of the rounds gives its own answer, with the steps of that end, unless memory runs out.
     ensures only { (e : Ending) (ends : EndsIn (refuting (source_at (P.source protocol.now) set.now)) allowance e)
         → IsAnswerOf result e (refusal_of (refuting (source_at (P.source protocol.now) set.now)) allowance e ends) }
 
-    // Refused comes exactly where the rounds of an analysis end at a task that isn't shown and the point of each step can be written,
-    // Schedulable exactly where they end in bounds that fit and it can.
+    // Refused comes if and only if the rounds of an analysis end at a task that isn't shown and the point of each step can be written.
+    // Schedulable comes if and only if they end in bounds that fit and each of these points can be written.
     ensures follows { FollowsAnalysis result (source_at (P.source protocol.now) set.now) allowance }
 
     // Refused: the refusal holds, and nothing fits. Schedulable: something fits.

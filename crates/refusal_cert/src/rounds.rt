@@ -15,8 +15,8 @@ use simplex::{SolveStop, SparseProgram};
 use sporadic_model::{TaskId, TaskSet};
 use std::alloc::{AllocError, AllocFailed, Global};
 
-/// What a round has found: its units, for each task that passed the next bound in ticks, and its program with its solution, and the
-/// steps up to here, those of the rounds before it among them.
+/// What a round has found: its units; for each task that passed, the next bound in ticks and the program with its solution; and the
+/// steps up to here, with those of the rounds before it.
 #[derive(Drop)]
 pub struct Round {
     pub used: u64,
@@ -28,11 +28,11 @@ pub struct Round {
 /// Why a round gives no next vector.
 #[derive(Drop)]
 pub enum RoundEnd {
-    /// The value of a task passes its latest bound: its step is the last of these.
+    /// The value of a task passes its latest bound. Its step is the last of these.
     Refused(Refusal),
     /// The run of this task's program is wide, or the point of its step can't be written.
     Wide(TaskId),
-    /// The runs want more units than are left.
+    /// The runs need more units than are left.
     Allowance,
     Memory,
 }
@@ -57,7 +57,7 @@ impl<T: Drop> From<AllocFailed<T>> for RoundEnd {
     }
 }
 
-/// Why a round ends where the run of a task stops so.
+/// The end of a round for this end of a task's run.
 fn stopped(stop: SolveStop, task: TaskId) -> RoundEnd
     ensures { result ≡ end_at stop task.0 }
 {
@@ -68,7 +68,7 @@ fn stopped(stop: SolveStop, task: TaskId) -> RoundEnd
     }
 }
 
-/// The steps, and the one of this task where its run gave a point.
+/// The steps, followed by this task's if its run gave a point.
 fn with_step(
     mut steps: Vec<RefusalStep>,
     task: TaskId,
@@ -87,8 +87,7 @@ fn with_step(
     Ok(steps)
 }
 
-/// Takes the run of a task's program into the round, where its value is at most the latest bound. Where it isn't, the task's step is
-/// the last one.
+/// Takes the run of a task's program into the round, if its value is at most the latest bound. If not, the task's step is the last one.
 fn take_run(
     round: Round,
     program: SparseProgram,
@@ -125,8 +124,8 @@ fn take_run(
     })
 }
 
-/// One round: the recurrence at `bounds`, task by task, each program with the units that the tasks before it have left. `plan` has the
-/// tasks' programs at these bounds, and one that it lacks is formed in its place. `steps` are those of the rounds before.
+/// One round: the recurrence at `bounds`, task by task. Each program may take the units that the tasks before it have left. `plan` has
+/// the tasks' programs at these bounds. A program that it lacks is formed when its task comes. `steps` are those of the rounds before.
 pub fn take_round<P: ProgramSource>(
     alloc: Global,
     set: &TaskSet,

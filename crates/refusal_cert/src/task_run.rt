@@ -18,7 +18,7 @@ pub struct PointRun {
     pub solution: Solution,
     /// The task's response time, in ticks.
     pub value: u64,
-    /// The point of the task's step, where that is above the task's bound.
+    /// The point of the task's step, if the response time is above the task's bound.
     pub point: Option<Dual>,
 }
 
@@ -34,7 +34,7 @@ fn written(alloc: Global, best: &[Frac]) -> Result<Dual, SolveStop>
     }
 }
 
-/// The point of a task's step, where the task's value is above the bound that it had.
+/// The point of a task's step, if the task's value is above the bound that it had.
 fn step_point(
     alloc: Global,
     bound: u64,
@@ -53,8 +53,8 @@ fn step_point(
     }
 }
 
-/// The run of task `i`'s program in its place of a round, with the units that are left there, the task's response time, and the point
-/// of its step. `ahead` is what the program is known to give, where its solution is taken over.
+/// The run of task `i`'s program in its place of a round, with the units that are left there. It gives the task's response time and the
+/// point of its step. `ahead` is what the program is known to give, if it keeps its solution.
 pub fn run_task<P: ProgramSource>(
     alloc: Global,
     set: &TaskSet,

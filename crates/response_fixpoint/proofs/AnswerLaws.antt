@@ -28,7 +28,7 @@ use Rattle.response_fixpoint.proofs.RoundLaws.{values_length}
 use Rattle.response_fixpoint.proofs.RunLaws.{one_ending, round_value, rounds_never_wide, never_short, CostsFit}
 use Rattle.response_fixpoint.proofs.EndLaws.{schedulable_best, not_shown_none}
 
--- Rounds end in one way, so their end is the one of the answer.
+-- Rounds end in one way, so the answer is the one of their end.
 pub only_of : (f : SourceDef) (allowance : ℕ) (r : Result Verdict Stop) → Answers r f allowance → (e : Ending)
     → EndsIn (rounds_of f) allowance e → IsAnswerOf r e
 only_of f allowance (Ok (verdict.Schedulable certificate)) answers e ends =
@@ -46,14 +46,14 @@ right_of f allowance (Ok (verdict.Schedulable certificate)) above ends =
 right_of f allowance (Ok (verdict.NotShown task bound)) above ends = not_shown_none f allowance task.0 bound above ends
 right_of f allowance (Err e) above ends = tt
 
--- It comes exactly where it is right.
+-- Schedulable comes if some bounds fit, and only then.
 pub exactly_of : (f : SourceDef) (r : Result Verdict Stop) → IfOk r (λ v. IsRight v f)
     → IfOk r (λ v. IsSchedulable v ↔ ((s : List ℕ) × AreFitting f s))
 exactly_of f (Ok (verdict.Schedulable certificate)) right = ((λ _. (certificate.bounds.items, right.least.fitting)), λ _. tt)
 exactly_of f (Ok (verdict.NotShown task bound)) right = ((λ h. absurd h), λ h. absurd (right h.0 h.1))
 exactly_of f (Err e) right = tt
 
--- Without columns Wide never comes.
+-- Without columns no stop is Wide.
 pub never_wide_of : (f : SourceDef) (allowance : ℕ) (r : Result Verdict Stop) → Answers r f allowance → HasNoColumns f
     → (task : ℕ) → IsErrOf r (stop.Wide (record { 0 = task })) → ⊥
 never_wide_of f allowance (Ok v) ends none task is = cc
@@ -61,7 +61,7 @@ never_wide_of f allowance (Err (stop.Wide x)) ends none task is = rounds_never_w
 never_wide_of f allowance (Err stop.Allowance) ends none task is = cc
 never_wide_of f allowance (Err stop.Memory) ends none task is = cc
 
--- And an allowance with a unit for each task and each tick of slack, and one round more, is enough.
+-- An allowance of one unit per task for each tick of slack, and for one more round, is enough.
 pub never_short_of : (f : SourceDef) (allowance : ℕ) (r : Result Verdict Stop) → NeverFalls f → CostsFit f
     → Answers r f allowance → HasNoColumns f
     → tasks_of f * (1 + slack_of f) ≤ allowance → IsErrOf r stop.Allowance → ⊥
@@ -70,7 +70,7 @@ never_short_of f allowance (Err (stop.Wide task)) monotone fit ends none enough 
 never_short_of f allowance (Err stop.Allowance) monotone fit ends none enough is = never_short f allowance none monotone fit enough ends
 never_short_of f allowance (Err stop.Memory) monotone fit ends none enough is = cc
 
--- The vector of a round is within the latest bounds, and from the costs.
+-- The vector of a round is within the latest bounds, and at least the costs.
 pub within_of : (set : SetDef) (r : List ℕ) → IsInRange set r → AreWithinDeadlines set r
 within_of set r h = record { one_each = h.one_each; to_latest = h.to_latest }
 
@@ -88,7 +88,7 @@ passes_more f r left i before run passed runs within =
     let count : suc i ≡ i + 1 = omega arith in
     subst (λ (k : ℕ). Passes (rounds_of f) r left k after) count next
 
--- A solved run takes units that are there, and at least one.
+-- A solved run takes at least one unit, and no more than are left.
 pub run_units : (f : SourceDef) (r : List ℕ) (i left used value : ℕ) (dual : DualDef)
     → TaskRuns f r i left (Valued used value dual) → (1 ≤ used) × (used ≤ left)
 run_units f r i left used value dual run = (omega (arith, run.ends.units), omega (arith, run.ends.units, run.ends.ends.within))
@@ -101,7 +101,7 @@ run_halts f r left i found solve_stop.Wide here passed run = record { found = fo
 run_halts f r left i found solve_stop.Units here passed run = (i, record { found = found; below = here; passed = passed; run = run })
 run_halts f r left i found solve_stop.Memory here passed run = tt
 
--- It ends at a value that passes the latest.
+-- It ends at a value that passes the latest bound.
 pub value_halts : (f : SourceDef) (r : List ℕ) (left i latest : ℕ) (before now : Round) (program : ProgramDef) (run : TaskRun)
     (e : RoundStop) → i < tasks_of f → latest ≡ latest_of f i
     → Passes (rounds_of f) r left i (found_of before)
@@ -148,7 +148,7 @@ ended_answers f allowance k spent r round_stop.Allowance reached (i, h) =
     (r, i, allowance - spent - h.found.used, h.found, h.below, comes_there f allowance k spent r i OutOfUnits reached h, h.run)
 ended_answers f allowance k spent r round_stop.Memory reached given = tt
 
--- What is answered of a round that gives the vector that it began with, from how the rounds end.
+-- What is answered if a round gives the vector that it began with, from how the rounds end.
 pub settled_answers : (f : SourceDef) (allowance : ℕ) (r : Result Verdict Stop) (bounds : List ℕ) (duals : List DualDef)
     → EndsIn (rounds_of f) allowance (Schedulable bounds duals) → IsSettled r bounds duals → Answers r f allowance
 settled_answers f allowance (Ok (verdict.Schedulable certificate)) bounds duals ends (same, all) =

@@ -81,7 +81,7 @@ empty_end p units none some = record {
   };
 }
 
--- So no such run makes an exchange, none is wide, and none needs more than one unit.
+-- So such a run makes no exchange, is never wide, and never needs more than one unit.
 pub no_exchange : (p : ProgramDef) (units k : ℕ) (value : Fraction) (primal : List Fraction) (d : DualDef) → IsProgram p → columns p ≡ 0
     → EndsWithin p units k value primal d → k ≡ 0
 no_exchange p units k value primal d is none ends =

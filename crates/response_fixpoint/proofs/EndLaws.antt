@@ -19,7 +19,7 @@ use Rattle.response_fixpoint.proofs.LeastExists.{costs_of, costs_below}
 use Rattle.response_fixpoint.proofs.RoundLaws.{passed_task, values_length, duals_length}
 use Rattle.response_fixpoint.proofs.RunLaws.{round_value}
 
--- Where a reached vector stands: it has a place for each task, and is below every fitting vector.
+-- What is known of a vector that is reached: it has a place for each task, and is below every fitting vector.
 record IsLow (f : SourceDef) (r : List ℕ) : Type 0 where
   one_each : length r ≡ tasks_of f
   below : AreBelowAllFitting f r
@@ -63,7 +63,7 @@ schedulable_optimal f allowance bounds duals (left, found, comes, same, rest) =
     } in
     subst (λ (ds : List DualDef). AreOptimalDuals f bounds ds) rest mine
 
--- And small.
+-- And their numbers are small.
 pub schedulable_small : (f : SourceDef) (allowance : ℕ) (bounds : List ℕ) (duals : List DualDef)
     → EndsIn (rounds_of f) allowance (Schedulable bounds duals) → (i : ℕ) → i < tasks_of f → IsSmallDual (dual_at duals i)
 schedulable_small f allowance bounds duals (left, found, comes, same, rest) i here =
@@ -91,7 +91,7 @@ optimal_valid f bounds duals fits best = record {
       };
 }
 
--- All of it together.
+-- All of these together.
 pub schedulable_best : (f : SourceDef) (allowance : ℕ) (bounds : List ℕ) (duals : List DualDef) → ComesUpAbove f
     → EndsIn (rounds_of f) allowance (Schedulable bounds duals) → IsBest f (record { bounds = bounds; duals = duals })
 schedulable_best f allowance bounds duals above ends =

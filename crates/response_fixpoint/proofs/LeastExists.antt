@@ -1,4 +1,4 @@
--- The recurrence has a value at every vector, so the least fitting bounds are there wherever some fit.
+-- The recurrence has a value at every vector. So if some bounds fit, there are least ones.
 use Rattle.std.proofs.Common.{◌≡◌, ℕ, ◌<◌, ◌≤◌, ◌↔◌, List, length, map, ◌∙◌, refl, arith, inl, inr}
 use Rattle.std.proofs.lemmas.Bool.{cases_lt}
 use Rattle.std.proofs.lemmas.List.{get_or-map, length-map}
@@ -54,7 +54,7 @@ next_has f covered r = (
       rw at ((value_there f covered r i).1 here),
 )
 
--- Where some bounds fit, the least that fit are there.
+-- If some bounds fit, there are least ones that fit.
 pub least_exists : (f : SourceDef) → EachIsCovered f → ComesUpAbove f → NeverFalls f → (s : List ℕ) → AreFitting f s
     → (b : List ℕ) × AreLeastFitting f b
 least_exists f covered above monotone s fits =
@@ -70,7 +70,8 @@ abbrev pub KeepsValues : SourceDef → List ℕ → Type 0
 KeepsValues f s = (length s ≡ tasks_of f) × ((i : ℕ) → i < tasks_of f → (v : ℕ) × (IsResponse f s i v) × (v ≤ slice_index s i)
     × (slice_index s i ≤ latest_of f i))
 
--- What fits is what keeps the values: each response time that comes up is at most the value, which comes up itself.
+-- Bounds fit if and only if they keep these values: each response time that comes up is at most the value, and the value comes up
+-- itself.
 pub fits_by_values : (f : SourceDef) → EachIsCovered f → (s : List ℕ) → AreFitting f s ↔ KeepsValues f s
 fits_by_values f covered s = (
   λ fits. (

@@ -17,7 +17,7 @@ below_next f r next above below step = λ s fits i here.
     let least : slice_index next i ≤ up.0 = up.2 in
     omega (arith, kept, least)
 
--- Where what comes up at a vector below all fitting ones passes the latest bound, nothing fits.
+-- If what comes up at a vector below all fitting ones passes the latest bound, nothing fits.
 pub none_fits : (f : SourceDef) (r : List ℕ) (i v : ℕ) → ComesUpAbove f → AreBelowAllFitting f r
     → i < tasks_of f → ComesUp f r i v → latest_of f i < v → (s : List ℕ) → AreFitting f s → ⊥
 none_fits f r i v above below here comes passes s fits =
@@ -27,7 +27,7 @@ none_fits f r i v above below here comes passes s fits =
     let within : slice_index s i ≤ latest_of f i = fits.within i here in
     absurd (omega (arith, kept, least, within, passes))
 
--- A vector below all fitting ones that is its own next vector, within the latest bounds, is the least that fits.
+-- Take a vector that is below all fitting ones, is within the latest bounds and is its own next vector. It is the least that fits.
 pub least_fits : (f : SourceDef) (r : List ℕ) → length r ≡ tasks_of f → AreBelowAllFitting f r
     → ((i : ℕ) → i < tasks_of f → IsResponse f r i (slice_index r i)) → ((i : ℕ) → i < tasks_of f → slice_index r i ≤ latest_of f i)
     → AreLeastFitting f r
@@ -44,8 +44,8 @@ least_fits f r one_each below step within = record {
 abbrev pub GivesNext : SourceDef → (List ℕ → List ℕ) → Type 0
 GivesNext f next = (r : List ℕ) → (length (next r) ≡ tasks_of f) × ((i : ℕ) → i < tasks_of f → IsResponse f r i (slice_index (next r) i))
 
--- Where something fits, the least that fits is there: the vectors that `next` gives, from one below all fitting vectors on, rise
--- and stay below the fitting one, so one of them is its own next vector.
+-- If something fits, there is a least vector that fits. The vectors that `next` gives, from one below all fitting vectors on, rise and
+-- stay below the fitting one. So one of them is its own next vector.
 pub least_from : (f : SourceDef) (next : List ℕ → List ℕ) → ComesUpAbove f → NeverFalls f → GivesNext f next
     → (s : List ℕ) → AreFitting f s
     → (fuel : ℕ) (r : List ℕ) → length r ≡ tasks_of f → AreBelowAllFitting f r → AtMost (tasks_of f) r (next r)

@@ -1,4 +1,4 @@
--- Rounds of runs that have one end each have one end.
+-- If each run has one end, the rounds have one end.
 use Rattle.std.proofs.Common.{◌≡◌, ◌≢◌, ℕ, zero, suc, ◌+◌, ◌-◌, ◌<◌, ◌≤◌, List, refl, sym, ◌∙◌, ap, subst, arith, inl, inr, ◌⊎◌}
 use Rattle.std.proofs.lemmas.Bool.{cases_lt}
 use Rattle.program_form.specs.Certificate.{DualDef}
@@ -35,7 +35,7 @@ reaches_once o one a (suc k) u v r s (b, q, f, reached, passed, is, differs, sum
     let founds : f ≡ g = passes_once o one q' (a - c) o.tasks f g moved passed' in
     (sum ∙ ap (λ x. x + f.used) units ∙ ap (λ x. c + x.used) founds ∙ sym sum', is ∙ ap (λ x. x.values) founds ∙ sym is')
 
--- A round that went by before another one was reached.
+-- A round that goes by before another one is reached.
 pub record PassedRound (o : RoundsOf) (a k : ℕ) : Type 0 where
   pub spent : ℕ
   pub vector : List ℕ
@@ -56,13 +56,13 @@ passed_round o a (suc j) u r (b, q, f, reached, passed, is, differs, sum) k belo
           subst (λ (x : ℕ). PassedRound o a x) last at_j
     ]
 
--- The end that a run's end makes of the rounds, where it makes one.
+-- The end of the rounds that follows from a run's end, if one follows.
 abbrev pub Stops : ℕ → ℕ → RunEnd → Ending → Type 0
 Stops i latest (Valued used value dual) e = (latest < value) × (e ≡ NotShown i value)
 Stops i latest TooWide e = e ≡ Wide i
 Stops i latest OutOfUnits e = e ≡ Allowance
 
--- A place where the rounds end in e: at a task, or behind the last task of a round.
+-- A place at which the rounds end in e: a task, or the end of a round behind its last task.
 pub record AtTask (o : RoundsOf) (r : List ℕ) (i left : ℕ) (e : Ending) : Type 0 where
   pub below : i < o.tasks
   pub run : RunEnd
@@ -119,7 +119,7 @@ place o a (NotShown i value) (r, left, found, used, dual, below, comes, run, pas
 place o a (Wide i) (r, left, found, below, comes, run) = place_of o a r i left found (Wide i) TooWide below comes run refl
 place o a Allowance (r, i, left, found, below, comes, run) = place_of o a r i left found Allowance OutOfUnits below comes run refl
 
--- No end stands at a task that passes.
+-- The rounds don't end at a task that passes.
 stops_pass : (i latest used value : ℕ) (dual : DualDef) (e : Ending) (run : RunEnd) → run ≡ Valued used value dual
     → value ≤ latest → Stops i latest run e → ⊥
 stops_pass i latest used value dual e (Valued u v d) same within stops = let vs : v ≡ value = cc in absurd (omega (arith, stops.0))
@@ -136,7 +136,7 @@ task_passes o one r left i j f g e p q below ends =
     let is : ends.run ≡ Valued t.used t.value t.dual = one r i (left - f.used) ends.run (Valued t.used t.value t.dual) ends.runs moved in
     stops_pass i (o.latest i) t.used t.value t.dual e ends.run is t.within ends.stops
 
--- No end stands in a round that went by.
+-- The rounds don't end in a round that goes by.
 pub round_passes : (o : RoundsOf) → HaveOneEnd o → (a : ℕ) (e : Ending) (p : Place o a e) → PassedRound o a p.rounds → ⊥
 round_passes o one a e p w =
     let both = reaches_once o one a p.rounds w.spent p.spent w.vector p.vector w.reached p.reached in
@@ -172,11 +172,11 @@ ends_once o one r i left found e f (inl x) (inr y) = let a = x.below in let b = 
 ends_once o one r i left found e f (inr x) (inl y) = let a = y.below in let b = x.last in absurd (omega arith)
 ends_once o one r i left found e f (inr x) (inr y) = x.is ∙ sym y.is
 
--- The last task that a place may stand at.
+-- The last task that a place may be at.
 task_most : (o : RoundsOf) (a : ℕ) (e : Ending) (p : Place o a e) → p.task ≤ o.tasks
 task_most o a e p = elim p.ends [ inl x ↦ (let b = x.below in omega arith) | inr x ↦ (let b = x.last in omega arith) ]
 
--- Of two places in one round, the one at the earlier task is no end.
+-- Of two places in one round, the one at the earlier task isn't an end.
 earlier_task : (o : RoundsOf) → HaveOneEnd o → (a : ℕ) (e f : Ending) (spent : ℕ) (r : List ℕ) (i j : ℕ) (g h : Found)
     → Passes o r (a - spent) i g → (AtTask o r i (a - spent - g.used) e ⊎ AtEnd o r i g e)
     → Passes o r (a - spent) j h → j ≤ o.tasks → i < j → ⊥

@@ -1,4 +1,4 @@
--- Laws of places, of what is found at them, and of what holds of each element of a list.
+-- Laws of places, of what is found at them, and of properties that each element of a list has.
 use Rattle.std.proofs.Common.{◌≡◌, ℕ, zero, suc, ◌+◌, ◌<◌, ◌↔◌, List, [], ◌∷◌, ◌++◌, length, replicate}
 use Rattle.std.proofs.Common.{refl, sym, ◌∙◌, ap, subst, arith, inl, inr, Some, Ok, Err}
 use Rattle.std.proofs.lemmas.Bool.{cases_lt, cases_eq}
@@ -12,7 +12,7 @@ use Rattle.std.specs.declared.alloc.AllocError.{AllocError}
 use Rattle.response_fixpoint.specs.Places.{AreEach, AreEachFound, AreBelow, ArePlaced, places_with, parts_with}
 use Rattle.response_fixpoint.specs.declared.places.Placed.{Placed}
 
--- Where no element is, nothing is said.
+-- An empty list asks for nothing.
 pub each_none : {X : Type 0} (holds : ℕ → X → Type 0) (n : ℕ) (xs : List X) → length xs ≡ 0 → AreEach holds n xs
 each_none holds n xs none = λ k x here. (let most = slice_get_within xs k x here in absurd (omega (arith, most, none)))
 
@@ -33,21 +33,21 @@ each_more {X} holds n xs x old new = λ k y here.
           subst (λ (z : X). holds (n + k) z) (sym seat ∙ at) (subst (λ (j : ℕ). holds (n + j) x) last new)
     ]
 
--- What is so of each element is so of the first.
+-- A property of each element is one of the first.
 pub each_first : {X : Type 0} (holds : ℕ → X → Type 0) (n : ℕ) (xs rest : List X) (x : X) → xs ≡ x ∷ rest → AreEach holds n xs
     → holds n x
 each_first holds n xs rest x same each =
     let first : n + 0 ≡ n = omega arith in
     subst (λ (k : ℕ). holds k x) first (each 0 x (ap (λ (ys : List _). slice_get ys 0) same))
 
--- And of each of the others, one place further on.
+-- And it is one of each other element, one place further on.
 pub each_rest : {X : Type 0} (holds : ℕ → X → Type 0) (n : ℕ) (xs rest : List X) (x : X) → xs ≡ x ∷ rest → AreEach holds n xs
     → AreEach holds (n + 1) rest
 each_rest holds n xs rest x same each = λ k y here.
     let next : n + suc k ≡ n + 1 + k = omega arith in
     subst (λ (i : ℕ). holds i y) next (each (suc k) y (ap (λ (ys : List _). slice_get ys (suc k)) same ∙ here))
 
--- What is so of each is so of the next, if there is one, and of what stands behind it.
+-- A property of each element is one of the next, if there is one, and of those behind it.
 pub next_first : {X : Type 0} (holds : ℕ → X → Type 0) (n : ℕ) (xs rest : List X) (first : Option X) → xs ≡ option_to_list first ++ rest
     → AreEach holds n xs → IfSome first (λ x. holds n x)
 next_first holds n xs rest None same each = tt
@@ -63,7 +63,7 @@ next_rest {X} holds n count xs rest None same some are each = λ k x here.
     cc
 next_rest holds n count xs rest (Some x) same some are each = each_rest holds n xs rest x same each
 
--- So with what was found at places.
+-- The same for what was found at places.
 pub found_first : {X : Type 0} (holds : ℕ → X → Type 0) (n : ℕ) (places rest : List (Option X)) (first : Option (Option X))
     → places ≡ option_to_list first ++ rest → AreEachFound holds n places → IfSome (option_flatten first) (λ x. holds n x)
 found_first holds n places rest None same each = tt
@@ -75,7 +75,7 @@ pub found_rest : {X : Type 0} (holds : ℕ → X → Type 0) (n count : ℕ) (pl
 found_rest holds n count places rest first same some are each =
     next_rest (λ i p. IfSome p (λ x. holds i x)) n count places rest first same some are each
 
--- What was found of a task may be put at its place.
+-- What was found for a task may be put at its place.
 one_put : {X : Type 0} (holds : ℕ → X → Type 0) (i : ℕ) (places : List (Option X)) (x : X) → i < length places
     → AreEachFound holds 0 places → holds i x → AreEachFound holds 0 (slice_set places i (Some x))
 one_put {X} holds i places x within old new = λ k o here.
@@ -103,13 +103,13 @@ pub first_put : {X : Type 0} (places : List (Option X)) (a : Placed X) (found : 
 unfolding places_with
 first_put places a found = refl
 
--- Where nothing was found nothing is put.
+-- If nothing was found, nothing is put.
 pub none_put : {X : Type 0} (places : List (Option X)) (found : List (Placed X)) → length found ≡ 0 → places_with places found ≡ places
 unfolding places_with
 none_put places [] none = refl
 none_put places (a ∷ found) none = absurd (omega (arith, none))
 
--- And so with what the threads have found.
+-- The same for what the threads have found.
 pub first_part : {X : Type 0} (places : List (Option X)) (found : Vec (Placed X) Global)
     (parts : List (Result (Vec (Placed X) Global) AllocError))
     → parts_with places (Ok found ∷ parts) ≡ parts_with (places_with places found.items) parts
@@ -151,22 +151,22 @@ none_there zero k o here = absurd (none-some o here)
 none_there (suc n) zero o here = sym (same_Some None o here)
 none_there (suc n) (suc k) o here = none_there n k o here
 
--- Where nothing was found, nothing is said.
+-- If nothing was found, nothing is asked for.
 pub nothing_found : {X : Type 0} (holds : ℕ → X → Type 0) (n : ℕ) → AreEachFound holds 0 (replicate n None)
 nothing_found holds n = λ k o here. rw (none_there n k o here) tt
 
--- With what was found of one more task, what a thread has found is so still.
+-- With the result of one more task, what a thread has found keeps its property.
 pub placed_more : {X : Type 0} (holds : ℕ → X → Type 0) (n : ℕ) (found : List (Placed X)) (a : Placed X) → ArePlaced holds n found
     → a.task.0 < n → holds a.task.0 a.found → ArePlaced holds n (found ++ a ∷ [])
 placed_more holds n found a old task new = each_more (λ k b. (b.task.0 < n) × holds b.task.0 b.found) 0 found a old (task, new)
 
--- What the threads have found is of tasks that are there.
+-- What the threads have found is for tasks that exist.
 pub part_below : {X : Type 0} (holds : ℕ → X → Type 0) (n : ℕ) (part : Result (Vec (Placed X) Global) AllocError)
     → IfOk part (λ v. ArePlaced holds n v.items) → IfOk part (λ v. AreBelow n v.items)
 part_below holds n (Ok v) placed = λ k a here. (placed k a here).0
 part_below holds n (Err e) placed = tt
 
--- At the places of these it is so of each.
+-- At the places of these each result has the property.
 pub parts_found : {X : Type 0} (holds : ℕ → X → Type 0) (n : ℕ) (parts : List (Result (Vec (Placed X) Global) AllocError))
     (places : List (Option X)) → places ≡ parts_with (replicate n None) parts
     → ((k : ℕ) (part : _) → slice_get parts k ≡ Some part → IfOk part (λ v. ArePlaced holds n v.items)) → AreEachFound holds 0 places
@@ -174,7 +174,7 @@ parts_found {X} holds n parts places same found =
     subst (λ (xs : List (Option X)). AreEachFound holds 0 xs) (sym same)
     (parts_put holds n (replicate n None) parts (length-replicate n None) (nothing_found holds n) found)
 
--- Where memory was there for the places.
+-- If there was memory for the places.
 pub parts_given : {X : Type 0} (holds : ℕ → X → Type 0) (n : ℕ) (parts : List (Result (Vec (Placed X) Global) AllocError))
     (given : Result (Vec (Option X) Global) AllocError) → IfOk given (λ v. v.items ≡ parts_with (replicate n None) parts)
     → ((k : ℕ) (part : _) → slice_get parts k ≡ Some part → IfOk part (λ v. ArePlaced holds n v.items))

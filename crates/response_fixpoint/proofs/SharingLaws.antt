@@ -1,4 +1,4 @@
--- A program is one of a thread's exactly where the number of threads leaves the thread's number of its own.
+-- A program is in a thread's share if and only if its number, divided by the number of threads, leaves the thread's number.
 use Rattle.std.proofs.Common.{◌≡◌, ℕ, ◌+◌, ◌*◌, ◌/◌, ◌%◌, ◌<◌, sym, ◌∙◌, ap}
 use Rattle.std.proofs.Math.Nat.{mod-add-div', add-mul-mod_self_right, mod-eq_of_lt}
 

@@ -1,4 +1,4 @@
--- Laws of solutions: what they say with other units than those they were found with, and of programs with the same limits.
+-- Laws of solutions: what they mean with other units than they were found with, and for programs with the same limits.
 use Rattle.std.proofs.Common.{◌≡◌, ℕ, ◌+◌, ◌-◌, ◌/◌, ◌^◌, ◌<◌, ◌≤◌, List, [], unsigned_abs}
 use Rattle.std.proofs.Common.{sym, ◌∙◌, ap, subst, arith, inl, inr, Some, Ok, Err}
 use Rattle.std.specs.Prelude.{Option, None, Result, IfOk, IfSome}
@@ -28,7 +28,7 @@ use Rattle.response_fixpoint.specs.declared.task_run.Solution.{Solution}
 use Rattle.response_fixpoint.specs.declared.plan.Kept.{Kept}
 use Rattle.response_fixpoint.specs.declared.plan.Planned.{Planned}
 
--- A run that ends within some units ends within any that are more than its exchanges.
+-- A run that ends within some units ends within any number of units that is above its exchanges.
 ends_within : (p : ProgramDef) (units others k : ℕ) (value : Fraction) (primal : List Fraction) (d : DualDef)
     → EndsWithin p units k value primal d → k < others → EndsWithin p others k value primal d
 ends_within p units others k value primal d e enough = record { table = e.table; run = e.run; within = enough; read_off = e.read_off }
@@ -45,7 +45,7 @@ wide_within p units more most w = record {
   ];
 }
 
--- A solution that takes more units than are left needs more than those.
+-- A solution that takes more units than are left needs more than are left.
 pub needs_more : (p : ProgramDef) (s : Solution) (left : ℕ) → IsSolution p s → left < s.used → NeedsMoreThan p left
 needs_more p s left is few = elim (has_outcome p left is.is_program) [
   | inl ended ↦
@@ -89,19 +89,19 @@ solved_solution p units x s is ends best used blocking most point dual =
       most = most;
     }
 
--- And where it answers none, the program stops.
+-- If it answers none, the program stops.
 pub stopped_solution : (p : ProgramDef) (units : ℕ) (e : SolveStop) → IsProgram p → Solves (Err e) p units → GivesSolution (Err e) p units
 stopped_solution p units solve_stop.Wide is run = (is, run)
 stopped_solution p units solve_stop.Units is run = (is, run)
 stopped_solution p units solve_stop.Memory is run = tt
 
--- A solution blocks for less than half of what a word counts.
+-- A solution's blocking is less than half of what a word can count.
 pub small_blocking : (o : Result Solution SolveStop) (p : ProgramDef) (units : ℕ) → GivesSolution o p units
     → IfOk o (λ s. s.blocking < 2 ^ 63)
 small_blocking (Ok s) p units given = given.most
 small_blocking (Err e) p units given = tt
 
--- The law of sources that taking over rests on: bounds are in the limits alone.
+-- The law of sources that lets a program keep its solution: bounds occur in the limits alone.
 abbrev pub Rises : SourceDef → ℕ → Type 0
 Rises f i = (q r : List ℕ) → AtMost (tasks_of f) q r → HasLimitsAtMost (f.program i q) (f.program i r)
 
@@ -111,7 +111,7 @@ same_lists p q costs rows limits =
     ∙ ap (λ x. record { costs = q.costs; rows = x; limits = p.limits }) rows
     ∙ ap (λ x. record { costs = q.costs; rows = q.rows; limits = x }) limits
 
--- A program of the task at some bounds, with the limits at others, is its program there.
+-- A program of the task at some bounds, with the limits for others, is the task's program there.
 pub renewed_program : (f : SourceDef) (i : ℕ) (q r : List ℕ) (p : ProgramDef) (limits : List ℕ) → Rises f i → p ≡ f.program i q
     → limits ≡ (f.program i r).limits → record { costs = p.costs; rows = p.rows; limits = limits } ≡ f.program i r
 renewed_program f i q r p limits rises is there =
@@ -121,14 +121,14 @@ renewed_program f i q r p limits rises is there =
     (ap (λ (x : ProgramDef). x.costs) is ∙ sym from_q.same_costs ∙ from_r.same_costs)
     (ap (λ (x : ProgramDef). x.rows) is ∙ sym from_q.same_rows ∙ from_r.same_rows) there
 
--- So they are a program where that is one.
+-- So the lists are a program if they are one there.
 pub renewed_is_program : (f : SourceDef) (i : ℕ) (q r limits : List ℕ) (k : Kept) → Rises f i → IsKept f q i k
     → limits ≡ (f.program i r).limits → IsProgram (f.program i r)
     → IsProgram (record { costs = k.program.costs; rows = k.program.rows; limits = limits })
 renewed_is_program f i q r limits k rises kept there is =
     subst (λ (y : ProgramDef). IsProgram y) (sym (renewed_program f i q r k.program limits rises kept.program there)) is
 
--- A solution of a program that is the same is what this one gives.
+-- What solves a program solves an equal one.
 taken_over : (f : SourceDef) (r : List ℕ) (left i : ℕ) (p q : ProgramDef) (s : Solution) (o : Option (Result Solution SolveStop))
     → IfSome o (λ x. (x ≡ Ok s) × (p ≡ q)) → IsSolution p s → q ≡ f.program i r → IfSome o (λ x. IsOutcome f r left i x)
 taken_over f r left i p q s None given is there = tt
@@ -136,7 +136,7 @@ taken_over f r left i p q s (Some x) (same, one) is there =
     let solved : IsSolution (f.program i r) s = subst (λ (y : ProgramDef). IsSolution y s) (one ∙ there) is in
     record { gives = subst (λ (y : Result Solution SolveStop). GivesSolution y (f.program i r) left) (sym same) solved }
 
--- So a kept program with the limits at other bounds is the task's there, with its solution where the limits are the same.
+-- So a kept program with the limits for other bounds is the task's there. It keeps its solution if the limits are the same.
 pub renewed_planned : (f : SourceDef) (i : ℕ) (q r limits : List ℕ) (k : Kept) (p : Planned) (left : ℕ) → Rises f i → IsKept f q i k
     → limits ≡ (f.program i r).limits → p.program ≡ record { costs = k.program.costs; rows = k.program.rows; limits = limits }
     → IfSome p.ahead (λ o. (o ≡ Ok k.solution) × (k.program ≡ p.program)) → IsPlanned f r left i p
@@ -146,14 +146,14 @@ renewed_planned f i q r limits k p left rises kept there is ahead =
     subst (λ (y : ProgramDef). IsSolution y k.solution) (sym kept.program) kept.solution in
     record { program = program; ahead = taken_over f r left i k.program p.program k.solution p.ahead ahead solution program }
 
--- And a kept program is the task's at other bounds, with its solution, where its limits are the same there.
+-- And a kept program is the task's at other bounds, with its solution, if its limits are the same there.
 pub kept_planned : (f : SourceDef) (i : ℕ) (q r : List ℕ) (k : Kept) (p : Planned) (left : ℕ) → Rises f i → IsKept f q i k
     → (f.program i q).limits ≡ (f.program i r).limits → p.program ≡ k.program
     → IfSome p.ahead (λ o. (o ≡ Ok k.solution) × (k.program ≡ p.program)) → IsPlanned f r left i p
 kept_planned f i q r k p left rises kept same is ahead = renewed_planned f i q r k.program.limits k p left rises kept
     (ap (λ (x : ProgramDef). x.limits) kept.program ∙ same) is ahead
 
--- A run that ran out of units ahead of its place is out of units there too.
+-- A run that ran out of units ahead of its place runs out of units there too.
 pub units_from_ahead : (p : ProgramDef) (left : ℕ) (ahead : Option (Result Solution SolveStop))
     (o : Result Solution SolveStop) (e : SolveStop)
     → IfSome ahead (λ x. IsAhead p left x) → ahead ≡ Some o → o ≡ Err e → e ≡ solve_stop.Units
@@ -164,13 +164,13 @@ units_from_ahead p left ahead o e given is failed short =
     let stopped : IsAhead p left (Err solve_stop.Units) = rw short at mid in
     (stopped.2.0, still_needs_more p stopped.0 left stopped.2.0 stopped.1 stopped.2.1)
 
--- What is known ahead of its place is what the program gave with as many units as are left there or more.
+-- What is known ahead of its place is what the program gave with at least as many units as are left there.
 pub planned_ahead : (f : SourceDef) (r : List ℕ) (left used i : ℕ) (p : ProgramDef) (a : Option (Result Solution SolveStop))
     → p ≡ f.program i r → IfSome a (λ o. IsOutcome f r left i o) → IfSome a (λ o. IsAhead p (left - used) o)
 planned_ahead f r left used i p None same planned = tt
 planned_ahead f r left used i p (Some x) same planned = (left, omega arith, rw same planned.gives)
 
--- So it is, whether the plan or a thread has it.
+-- This holds whether the plan or a thread has it.
 pub either_ahead : (f : SourceDef) (r : List ℕ) (left used i : ℕ) (p : ProgramDef) (a b : Option (Result Solution SolveStop))
     → p ≡ f.program i r → IfSome a (λ o. IsOutcome f r left i o) → IfSome b (λ o. IsOutcome f r left i o)
     → IfSome (option_or a b) (λ o. IsAhead p (left - used) o)
@@ -194,7 +194,7 @@ solved_run f r i left value s is most response =
       };
     }
 
--- One whose units are not there is a task that is out of units.
+-- One whose units aren't there is a task that runs out of units.
 pub short_run : (f : SourceDef) (r : List ℕ) (i left : ℕ) (s : Solution) → IsSolution (f.program i r) s → left < s.used
     → TaskRuns f r i left OutOfUnits
 short_run f r i left s is few = record { is_program = is.is_program; ends = needs_more (f.program i r) s left is few }

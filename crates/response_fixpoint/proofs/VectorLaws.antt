@@ -12,7 +12,7 @@ use Rattle.program_sources.specs.Bounds.{AtMost}
 abbrev pub total : ℕ → List ℕ → ℕ
 total n r = sum_below n (slice_index r)
 
--- Where a vector is at most another in n places, fewer places are so too.
+-- If a vector is at most another in n places, it is so in fewer places.
 pub fewer : (n : ℕ) (r s : List ℕ) → AtMost (suc n) r s → AtMost n r s
 fewer n r s h = λ i below. h i (omega arith)
 
@@ -23,7 +23,7 @@ total_rises (suc n) r s h =
     let here : slice_index r n ≤ slice_index s n = h n (omega arith) in
     omega arith
 
--- Where a vector is at most another and its sum is no less, the two agree in each place.
+-- If a vector is at most another and its sum is no less, the two agree in each place.
 pub same_total : (n : ℕ) (r s : List ℕ) → AtMost n r s → total n s ≤ total n r → (i : ℕ) → i < n → slice_index r i ≡ slice_index s i
 same_total zero r s h t i below = absurd (omega arith)
 same_total (suc n) r s h t i below =
@@ -38,7 +38,7 @@ same_total (suc n) r s h t i below =
           rw last same
     ]
 
--- A vector that is at most another one and differs from it has the lesser sum.
+-- A vector that is at most another one and differs from it has a smaller sum.
 pub total_grows : (n : ℕ) (r s : List ℕ) → length r ≡ n → length s ≡ n → AtMost n r s → r ≢ s → total n r < total n s
 total_grows n r s a b h differs =
     elim (cases_lt (total n r) (total n s)) [

@@ -1,4 +1,4 @@
--- The rounds of three tasks that request nothing, each program of which has no column and no row.
+-- The rounds of three tasks that request nothing. Their programs have no column and no row.
 use Rattle.std.proofs.Common.{◌≡◌, ℕ, zero, suc, ◌*◌, ◌<◌, ◌≤◌, List, [], ◌∷◌, refl, sym, subst, inl, arith}
 use Rattle.program_form.specs.Certificate.{DualDef}
 use Rattle.program_form.specs.Points.{Reaches as ReachesNumber, IsGreatestReached}
@@ -128,7 +128,7 @@ ends_alone = (
   refl,
 )
 
--- With a unit less it doesn't come to the last task.
+-- With one unit less, the rounds don't come to the last task.
 pub short_alone : EndsIn (rounds_of source_alone) 11 Allowance
 short_alone = (
   bounds_alone,

@@ -1,4 +1,4 @@
--- Laws of the programs that are written down: the recurrence rises with its bounds, and a set that requests nothing has no columns.
+-- Laws of the programs of the three protocols. The recurrence rises with its bounds, and a set that requests nothing has no columns.
 use Rattle.std.proofs.Common.{◌≡◌, ℕ, Bool, true, false, ◌&&◌, not, List, [], ◌∷◌, length, refl, ◌∙◌, ap, nat_lt, ◌==◌}
 use Rattle.std.specs.List.{All}
 use Rattle.std.proofs.lemmas.List.{length-map}
@@ -38,7 +38,7 @@ no_columns p set nothing i r here =
     ∙ none_kept p set i (columns_of p set i) nothing (columns_known p set i)
     (filter_passes (is_column p set i) (all_columns (length set.tasks) (length set.resources)))
 
--- What comes up at some bounds, no less comes up at greater ones.
+-- What comes up at greater bounds is no less.
 pub written_above : (p : Protocol) (set : SetDef) → ComesUpAbove (source_of p set)
 written_above p set = comes_up_above (source_of p set) (λ i r s here most. programs_rise p set i r s here most)
 

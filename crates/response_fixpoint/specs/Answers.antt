@@ -21,7 +21,7 @@ use Rattle.response_fixpoint.specs.declared.rounds.Round.{Round}
 use Rattle.response_fixpoint.specs.declared.rounds.RoundStop.{RoundStop}
 use Rattle.response_fixpoint.specs.declared.rounds.RoundStop.TheVariants as round_stop
 
--- Is this how the rounds of the source end with this allowance? Want of memory says nothing.
+-- Is this how the rounds of the source end with this allowance? Running out of memory says nothing about them.
 abbrev pub Answers : Result Verdict Stop → SourceDef → ℕ → Type 0
 Answers (Ok (verdict.Schedulable certificate)) f allowance =
     EndsIn (rounds_of f) allowance (Schedulable certificate.bounds.items (map dual_seen certificate.duals.items))
@@ -30,7 +30,7 @@ Answers (Err (stop.Wide task)) f allowance = EndsIn (rounds_of f) allowance (Wid
 Answers (Err stop.Allowance) f allowance = EndsIn (rounds_of f) allowance Allowance
 Answers (Err stop.Memory) f allowance = Unit {0}
 
--- Is this the answer that rounds of this ending give? But for want of memory there is no other.
+-- Is this the answer that rounds of this ending give? The only other answer is that memory ran out.
 abbrev pub IsAnswerOf : Result Verdict Stop → Ending → Type 0
 IsAnswerOf (Ok (verdict.Schedulable certificate)) e = e ≡ Schedulable certificate.bounds.items (map dual_seen certificate.duals.items)
 IsAnswerOf (Ok (verdict.NotShown task bound)) e = e ≡ NotShown task.0 bound
@@ -50,7 +50,7 @@ pub record IsBest (f : SourceDef) (c : CertificateDef) : Type 0 where
   pub valid : IsValid f c
   pub small : (i : ℕ) → i < tasks_of f → IsSmallDual (dual_at c.duals i)
 
--- Is the verdict right: is the certificate the best, or does nothing fit where the set isn't shown?
+-- Is the verdict right? If it has a certificate, this is the best one. If the set isn't shown, nothing fits.
 abbrev pub IsRight : Verdict → SourceDef → Type 0
 IsRight (verdict.Schedulable certificate) f = IsBest f (certificate_seen certificate)
 IsRight (verdict.NotShown task bound) f = (s : List ℕ) → AreFitting f s → ⊥
@@ -60,7 +60,7 @@ abbrev pub IsSchedulable : Verdict → Type 0
 IsSchedulable (verdict.Schedulable certificate) = Unit {0}
 IsSchedulable (verdict.NotShown task bound) = ⊥
 
--- Is this how the run of task i ends where so many units are left, and which solution it has? Want of memory says nothing.
+-- Is this how the run of task i ends where `left` units are left, and is its solution this one? Running out of memory says nothing.
 abbrev pub GivesRun : Result TaskRun SolveStop → SourceDef → List ℕ → ℕ → ℕ → Type 0
 GivesRun (Ok run) f r i left = (TaskRuns f r i left (Valued run.solution.used run.value (dual_seen run.solution.dual)))
     × IsSolution (f.program i r) run.solution
@@ -72,7 +72,7 @@ GivesRun (Err solve_stop.Memory) f r i left = Unit {0}
 abbrev pub found_of : Round → Found
 found_of round = record { used = round.used; values = round.values.items; duals = map (λ k. dual_seen k.solution.dual) round.kept.items }
 
--- What comes of a solved task in a round: it passes where its value is at most its latest bound.
+-- What a solved task does to a round: it passes if its value is at most its latest bound.
 abbrev pub TakesRun : Result (Unit {0}) RoundStop → Round → Round → ProgramDef → TaskRun → ℕ → ℕ → Type 0
 TakesRun (Ok done) before now program run i latest = (run.value ≤ latest)
     × (found_of now ≡ with_task (found_of before) run.solution.used run.value (dual_seen run.solution.dual))
@@ -83,7 +83,7 @@ TakesRun (Err (round_stop.Wide task)) before now program run i latest = ⊥
 TakesRun (Err round_stop.Allowance) before now program run i latest = ⊥
 TakesRun (Err round_stop.Memory) before now program run i latest = Unit {0}
 
--- Where a round at r that begins with `left` units comes to a task at which the rounds end.
+-- A round at r that begins with `left` units comes to a task at which the rounds end.
 pub record Halts (f : SourceDef) (r : List ℕ) (left i : ℕ) (e : RunEnd) : Type 0 where
   pub found : Found
   pub below : i < tasks_of f
@@ -101,7 +101,7 @@ GivesRound (Err (round_stop.Wide task)) f r left = Halts f r left task.0 TooWide
 GivesRound (Err round_stop.Allowance) f r left = (i : ℕ) × Halts f r left i OutOfUnits
 GivesRound (Err round_stop.Memory) f r left = Unit {0}
 
--- Are these bounds, with these duals, the certificate that is answered? But for want of memory there is no other answer.
+-- Are these bounds, with these duals, the certificate that is answered? The only other answer is that memory ran out.
 abbrev pub IsSettled : Result Verdict Stop → List ℕ → List DualDef → Type 0
 IsSettled (Ok (verdict.Schedulable certificate)) bounds duals =
     (certificate.bounds.items ≡ bounds) × (map dual_seen certificate.duals.items ≡ duals)
@@ -110,14 +110,14 @@ IsSettled (Err (stop.Wide task)) bounds duals = ⊥
 IsSettled (Err stop.Allowance) bounds duals = ⊥
 IsSettled (Err stop.Memory) bounds duals = Unit {0}
 
--- What the analysis answers where a round ends so.
+-- What the analysis answers for this end of a round.
 abbrev pub answer_at : RoundStop → Result Verdict Stop
 answer_at (round_stop.NotShown task bound) = Ok (verdict.NotShown task bound)
 answer_at (round_stop.Wide task) = Err (stop.Wide task)
 answer_at round_stop.Allowance = Err stop.Allowance
 answer_at round_stop.Memory = Err stop.Memory
 
--- Why a round ends where a run stops so.
+-- The end of a round for this end of a run.
 abbrev pub stop_at : SolveStop → ℕ → RoundStop
 stop_at solve_stop.Wide i = round_stop.Wide (record { 0 = i })
 stop_at solve_stop.Units i = round_stop.Allowance

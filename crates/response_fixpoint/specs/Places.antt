@@ -1,14 +1,14 @@
--- What the threads of a round have found, at the places of its tasks.
+-- What the threads of a round have found, each result at the place of its task.
 use Rattle.std.specs.Prelude.{◌≡◌, ℕ, ◌+◌, ◌<◌, List, [], ◌∷◌, Option, Some, Result, Ok, Err, Vec, slice_get, slice_set, IfSome}
 use Rattle.std.specs.declared.alloc.AllocError.{AllocError}
 use Rattle.std.specs.Global.{Global}
 use Rattle.response_fixpoint.specs.declared.places.Placed.{Placed}
 
--- Is this so of each element of a list and its place, the first of which is n?
+-- Is this true of each element of a list and its place? The first element's place is n.
 abbrev pub AreEach : {X : Type 0} → (ℕ → X → Type 0) → ℕ → List X → Type 0
 AreEach holds n xs = (i : ℕ) (x : _) → slice_get xs i ≡ Some x → holds (n + i) x
 
--- And of each place at which something was found?
+-- Is it true of each place at which something was found?
 abbrev pub AreEachFound : {X : Type 0} → (ℕ → X → Type 0) → ℕ → List (Option X) → Type 0
 AreEachFound holds n places = AreEach (λ i o. IfSome o (λ x. holds i x)) n places
 
@@ -16,16 +16,16 @@ AreEachFound holds n places = AreEach (λ i o. IfSome o (λ x. holds i x)) n pla
 abbrev pub AreBelow : {X : Type 0} → ℕ → List (Placed X) → Type 0
 AreBelow n found = (k : ℕ) (a : _) → slice_get found k ≡ Some a → a.task.0 < n
 
--- Is each found task below n, and is this so of what was found of it?
+-- Is each task with a result below n, and is this true of its result?
 abbrev pub ArePlaced : {X : Type 0} → (ℕ → X → Type 0) → ℕ → List (Placed X) → Type 0
 ArePlaced holds n found = (k : ℕ) (a : _) → slice_get found k ≡ Some a → (a.task.0 < n) × holds a.task.0 a.found
 
--- The places, with what a thread has found at those of its tasks.
+-- The places, once a thread's results are put at the places of their tasks.
 unfoldable pub places_with : {X : Type 0} → List (Option X) → List (Placed X) → List (Option X)
 places_with places [] = places
 places_with places (a ∷ found) = places_with (slice_set places a.task.0 (Some a.found)) found
 
--- The places, with what all threads have found.
+-- The places, once the results of all threads are put there.
 unfoldable pub parts_with : {X : Type 0} → List (Option X) → List (Result (Vec (Placed X) Global) AllocError) → List (Option X)
 parts_with places [] = places
 parts_with places (Ok found ∷ parts) = parts_with (places_with places found.items) parts

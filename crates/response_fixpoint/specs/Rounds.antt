@@ -1,17 +1,16 @@
--- The rounds: vectors of bounds, each the recurrence at the one before, task by task, and how they end.
+-- The rounds, and how they end. Each vector of bounds is the recurrence, task by task, at the vector before it.
 use Rattle.std.specs.Prelude.{◌≡◌, ◌≢◌, ℕ, zero, suc, ◌+◌, ◌-◌, ◌<◌, ◌≤◌, List, [], ◌∷◌, ◌++◌}
 use Rattle.program_form.specs.Certificate.{DualDef}
 
--- How does the run of one task's program end, where so many units are left?
--- It ends with the units that it used, the recurrence's value and the program's dual; or it forms a number
--- that is too wide; or it wants more units than are left.
+-- How does the run of one task's program end, where `left` units are left? With the units that it used, the recurrence's value and the
+-- program's dual. Or it forms a number that is too wide. Or it needs more units than are left.
 pub data RunEnd : Type 0 where
   Valued : ℕ → ℕ → DualDef → RunEnd
   TooWide : RunEnd
   OutOfUnits : RunEnd
 
--- How do the rounds end? With bounds and duals that are the answer; at a task whose value passes its
--- latest bound; at a task whose program is too wide; or with the allowance of units.
+-- How do the rounds end? With bounds and duals that are the answer. At a task whose value passes its latest bound. At a task whose
+-- program is too wide. Or without enough units in the allowance.
 pub data Ending : Type 0 where
   Schedulable : List ℕ → List DualDef → Ending
   NotShown : ℕ → ℕ → Ending
@@ -31,31 +30,31 @@ nothing_found = record { used = 0; values = []; duals = [] }
 abbrev pub with_task : Found → ℕ → ℕ → DualDef → Found
 with_task found used value dual = record { used = found.used + used; values = found.values ++ value ∷ []; duals = found.duals ++ dual ∷ [] }
 
--- What the rounds are about: the number of tasks, the first vector, each task's latest bound, and
--- `runs r i left e`: the run of task i's program at the vector r ends in e where `left` units are left.
+-- The input of the rounds: the number of tasks, the first vector and each task's latest bound. Besides `runs r i left e`: the run of
+-- task i's program at the vector r ends in e where `left` units are left.
 pub record RoundsOf : Type 1 where
   pub tasks : ℕ
   pub first : List ℕ
   pub latest : ℕ → ℕ
   pub runs : List ℕ → ℕ → ℕ → RunEnd → Type 0
 
--- In a round at r that begins with `left` units, do the first i tasks pass, and what is found then?
--- A task passes where its program's run ends in a value that is at most the latest bound.
+-- In a round at r that begins with `left` units, do the first i tasks pass, and is this what is found then? A task passes if its
+-- program's run ends in a value that is at most the latest bound.
 abbrev pub Passes : RoundsOf → List ℕ → ℕ → ℕ → Found → Type 0
 Passes o r left zero found = found ≡ nothing_found
 Passes o r left (suc i) found = (before : Found) × (used : ℕ) × (value : ℕ) × (dual : DualDef)
     × (Passes o r left i before) × (o.runs r i (left - before.used) (Valued used value dual)) × (value ≤ o.latest i)
     × (found ≡ with_task before used value dual)
 
--- With this allowance of units, do k rounds go by of which each gives another vector than it began with, and
--- is r the vector after them, and `used` the units of all of them?
+-- With this allowance of units, do k rounds go by, each of which gives another vector than it began with? Is r the vector after them,
+-- and `used` the units of all of them?
 abbrev pub Reaches : RoundsOf → ℕ → ℕ → ℕ → List ℕ → Type 0
 Reaches o allowance zero used r = (used ≡ 0) × (r ≡ o.first)
 Reaches o allowance (suc k) used r = (before : ℕ) × (q : List ℕ) × (found : Found)
     × (Reaches o allowance k before q) × (Passes o q (allowance - before) o.tasks found) × (r ≡ found.values) × (q ≢ r)
     × (used ≡ before + found.used)
 
--- Do the rounds come to task i of a round at r, with `left` units, having found this in the round?
+-- Do the rounds come to task i of a round at r that begins with `left` units, having found this in the round?
 pub record ComesTo (o : RoundsOf) (allowance : ℕ) (r : List ℕ) (i : ℕ) (left : ℕ) (found : Found) : Type 0 where
   pub rounds : ℕ
   pub spent : ℕ
@@ -63,8 +62,8 @@ pub record ComesTo (o : RoundsOf) (allowance : ℕ) (r : List ℕ) (i : ℕ) (le
   pub passed : Passes o r (allowance - spent) i found
   pub units : left ≡ allowance - spent - found.used
 
--- Do the rounds end so? They end at the first of these: the run of a task's program wants more units than are
--- left; it is too wide; its value passes the latest bound; a round gives the vector that it began with.
+-- Do the rounds end so? They end at the first of these: a task's run needs more units than are left; a task's run is too wide; a task's
+-- value passes its latest bound; a round gives the vector that it began with.
 abbrev pub EndsIn : RoundsOf → ℕ → Ending → Type 0
 EndsIn o allowance (Schedulable bounds duals) = (left : ℕ) × (found : Found)
     × (ComesTo o allowance bounds o.tasks left found) × (found.values ≡ bounds) × (found.duals ≡ duals)

@@ -11,8 +11,8 @@ use Rattle.program_sources.specs.Recurrence.{SourceDef, IsResponse}
 use Rattle.program_sources.specs.Fitting.{tasks_of, latest_of}
 use Rattle.response_fixpoint.specs.Rounds.{RunEnd, Valued, TooWide, OutOfUnits, RoundsOf}
 
--- Does the exchange run of task i's program at the bounds r end within the units that are left, with this dual, having taken so
--- many of them, one and one more for each exchange? And is this the recurrence's value there?
+-- Does the exchange run of task i's program at the bounds r end within the units that are left, with this dual? Is `used` the number of
+-- units that it takes: one, and one more for each exchange? And is this the recurrence's value there?
 pub record IsSolved (f : SourceDef) (r : List ℕ) (i left used value : ℕ) (dual : DualDef) : Type 0 where
   pub exchanges : ℕ
   pub optimum : Fraction
@@ -27,20 +27,20 @@ RunEnds f r i left (Valued used value dual) = IsSolved f r i left used value dua
 RunEnds f r i left TooWide = IsWideWithin (f.program i r) left
 RunEnds f r i left OutOfUnits = NeedsMoreThan (f.program i r) left
 
--- The run of task i: its lists at these bounds are a program, whose exchange run ends so.
+-- The run of task i: its lists at these bounds are a program, and that program's exchange run ends in this way.
 pub record TaskRuns (f : SourceDef) (r : List ℕ) (i left : ℕ) (e : RunEnd) : Type 0 where
   pub is_program : IsProgram (f.program i r)
   pub ends : RunEnds f r i left e
 
--- The rounds of a source: they begin at the costs.
+-- The rounds of a source. They begin at the costs.
 abbrev pub rounds_of : SourceDef → RoundsOf
 rounds_of f = record { tasks = tasks_of f; first = map (λ t. t.cost) f.set.tasks; latest = latest_of f; runs = TaskRuns f }
 
--- Has no program of the source a column, as where no task requests anything?
+-- Do all programs of the source lack columns? They do if no task requests anything.
 abbrev pub HasNoColumns : SourceDef → Type 0
 HasNoColumns f = (i : ℕ) (r : List ℕ) → i < tasks_of f → columns (f.program i r) ≡ 0
 
--- How far the latest bounds are above the costs, in all.
+-- The sum over all tasks of how far the latest bound is above the cost.
 abbrev pub slack_of : SourceDef → ℕ
 slack_of f = sum_below (tasks_of f) (λ i. latest_of f i - (task_at f.set i).cost)
 

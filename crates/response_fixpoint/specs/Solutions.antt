@@ -1,5 +1,4 @@
--- What solving a task's program gives, whether it is solved in its place of the round, ahead of it, or in a round before, and what a
--- round begins with.
+-- What solving a task's program gives: in its place of the round, ahead of it, or in a round before. And what a round begins with.
 use Rattle.std.specs.Prelude.{◌≡◌, ℕ, ◌+◌, ◌<◌, ◌≤◌, ◌^◌, List, Result, Ok, Err, Option, length, IfSome}
 use Rattle.fraction128.specs.Fraction.{Fraction}
 use Rattle.program_form.specs.Certificate.{dual_seen}
@@ -15,7 +14,7 @@ use Rattle.response_fixpoint.specs.declared.task_run.Solution.{Solution}
 use Rattle.response_fixpoint.specs.declared.plan.Kept.{Kept}
 use Rattle.response_fixpoint.specs.declared.plan.Planned.{Planned}
 
--- Is this what solving the program gives: the units that its exchange run takes, its greatest whole blocking, its best point, and its
+-- Is this what solving the program gives: the units that its exchange run takes, its greatest whole blocking, its best point and its
 -- dual?
 pub record IsSolution (p : ProgramDef) (s : Solution) : Type 0 where
   pub is_program : IsProgram p
@@ -26,15 +25,15 @@ pub record IsSolution (p : ProgramDef) (s : Solution) : Type 0 where
   pub greatest : IsGreatestReached p s.blocking
   pub most : s.blocking < 2 ^ 63
 
--- What comes of a program that may take so many units: a solution, whose own units aren't compared with those yet, or how its
--- run stops. Want of memory says nothing.
+-- What becomes of a program with this many units: a solution, or how its run stops. A solution's own units aren't compared with these
+-- yet. Running out of memory says nothing.
 abbrev pub GivesSolution : Result Solution SolveStop → ProgramDef → ℕ → Type 0
 GivesSolution (Ok s) p units = IsSolution p s
 GivesSolution (Err solve_stop.Wide) p units = IsProgram p × IsWideWithin p units
 GivesSolution (Err solve_stop.Units) p units = IsProgram p × NeedsMoreThan p units
 GivesSolution (Err solve_stop.Memory) p units = Unit {0}
 
--- Did the program give this ahead of its place in the round, where as many units were left as now or more?
+-- Did the program give this ahead of its place in the round, with at least as many units left as now?
 abbrev pub IsAhead : ProgramDef → ℕ → Result Solution SolveStop → Type 0
 IsAhead p left outcome = (units : ℕ) × (left ≤ units) × GivesSolution outcome p units
 
@@ -42,11 +41,12 @@ IsAhead p left outcome = (units : ℕ) × (left ≤ units) × GivesSolution outc
 pub record IsOutcome (f : SourceDef) (r : List ℕ) (left i : ℕ) (outcome : Result Solution SolveStop) : Type 0 where
   pub gives : GivesSolution outcome (f.program i r) left
 
--- And is it so of each that was found, those of the tasks from n on?
+-- And is this true of each result for the tasks from n on?
 abbrev pub AreAhead : SourceDef → List ℕ → ℕ → ℕ → List (Option (Result Solution SolveStop)) → Type 0
 AreAhead f r left n outcomes = AreEachFound (IsOutcome f r left) n outcomes
 
--- Is this task i's program at the bounds r, with what it gave ahead of a round that begins with so many units, if that is known?
+-- Is this task i's program at the bounds r? And is this what it gave ahead of a round that begins with this many units, if that is
+-- known?
 pub record IsPlanned (f : SourceDef) (r : List ℕ) (left i : ℕ) (p : Planned) : Type 0 where
   pub program : p.program ≡ f.program i r
   pub ahead : IfSome p.ahead (λ o. IsOutcome f r left i o)
@@ -61,7 +61,7 @@ pub record IsKept (f : SourceDef) (r : List ℕ) (i : ℕ) (k : Kept) : Type 0 w
   pub program : k.program ≡ f.program i r
   pub solution : IsSolution (f.program i r) k.solution
 
--- Is there one for each of the first n tasks, and none besides?
+-- Is there one for each of the first n tasks, and no other?
 pub record AreKept (f : SourceDef) (r : List ℕ) (n : ℕ) (kept : List Kept) : Type 0 where
   pub one_each : length kept ≡ n
   pub each : AreEach (IsKept f r) 0 kept

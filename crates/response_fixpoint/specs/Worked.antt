@@ -28,6 +28,6 @@ source_alone = source_of FmlpPlus three_alone
 abbrev pub bounds_alone : List ℕ
 bounds_alone = 1 ∷ 3 ∷ 10 ∷ []
 
--- Programs without rows have a dual without numbers.
+-- The dual of a program without rows has no numbers.
 abbrev pub duals_alone : List DualDef
 duals_alone = record { den = 1; num = [] } ∷ record { den = 1; num = [] } ∷ record { den = 1; num = [] } ∷ []

@@ -1,4 +1,4 @@
-//! What is solved side by side of a later round: the programs whose limits aren't those of the round before.
+//! Solves the programs of a later round side by side: those with other limits than in the round before.
 
 ghost use Rattle.std.specs.Prelude.{◌≡◌, ℕ, ◌-◌, ◌<◌, ◌^◌, length, min, slice_get, Some, IfOk};
 ghost use Rattle.program_sources.specs.Bounds.{IsInRange};
@@ -100,7 +100,7 @@ fn solve_some<P: ProgramSource>(
     Ok(found)
 }
 
-/// Solves the programs that have no solution yet in so many threads.
+/// Solves the programs that have no solution yet, in this many threads.
 fn solve_beside<R: Threads + Sync, P: ProgramSource + Sync>(
     rt: &R,
     alloc: Global,
@@ -136,8 +136,8 @@ fn solve_beside<R: Threads + Sync, P: ProgramSource + Sync>(
     )
 }
 
-/// Solves the programs of a plan that have no solution yet side by side, where they are worth threads, each with all units that are left
-/// at the start of the round. Behind a task that ends the rounds there may be nothing.
+/// Solves side by side the programs of a plan that have no solution yet, if they are worth threads. Each may take all units that are
+/// left at the start of the round. Behind a task that ends the rounds some may stay unsolved.
 pub fn solve_ahead<R: Threads + Sync, P: ProgramSource + Sync>(
     rt: &R,
     alloc: Global,

@@ -34,7 +34,7 @@ pub fn costs(alloc: Global, set: &TaskSet) -> Result<Vec<u64>, AllocError>
     Ok(costs)
 }
 
-/// What the analysis answers where a round ends so.
+/// What the analysis answers for this end of a round.
 fn ended(stop: RoundStop) -> Result<Verdict, Stop>
     ensures { result ≡ answer_at stop }
 {
@@ -99,16 +99,16 @@ fn take_rounds<R: Threads + Sync, P: ProgramSource + Sync>(
     }
 }
 
-/// Finds the least bounds within all deadlines that satisfy the recurrence of a source of programs, or shows that there are
-/// none.
+/// Finds the least bounds within all deadlines that satisfy the recurrence of a source of programs, or shows that there are none.
 ///
-/// Bounds are in ticks. `allowance` is the number of units that all programs together may take: each takes one, and one more for
-/// each exchange of its run. A round solves its programs side by side, but one whose limits are those of the round before, whose
-/// solution is taken over with its units; the answer is that of one thread that solves each program in turn.
+/// Bounds are in ticks. `allowance` is the number of units that all programs together may take. Each takes one unit, and one more for
+/// each exchange of its run. A program with the same limits as in the round before keeps its solution, and the units of that are
+/// counted again. A round solves the other programs side by side. The answer is the one that a single thread would give, solving the
+/// programs in turn.
 ///
-/// `Stop::Wide` and `Stop::Allowance` come exactly where the rounds end so; `Stop::Memory` comes for want of memory alone. This is
-/// the fixed-point iteration of response-time analysis (Joseph and Pandya 1986; Audsley et al. 1993), taken over the bounds of all
-/// tasks at once.
+/// `Stop::Wide` and `Stop::Allowance` come if the rounds end so, and only then. `Stop::Memory` comes only if memory runs out. This is
+/// the fixed-point iteration of response-time analysis (Joseph and Pandya 1986; Audsley et al. 1993). It takes the bounds of all tasks
+/// at once.
 pub fn analyse_with<R: Threads + Sync, P: ProgramSource + Sync>(
     rt: &R,
     alloc: Global,
@@ -118,19 +118,20 @@ pub fn analyse_with<R: Threads + Sync, P: ProgramSource + Sync>(
 ) -> Result<Verdict, Stop>
     requires serves { P.serves protocol.now set.now }
 
-    // The answer, its stops among them, is how the rounds end.
+    // The answer, be it a verdict or a stop, is how the rounds end.
     ensures rounds { Answers result (source_at (P.source protocol.now) set.now) allowance }
 
-    // And each end of the rounds gives just that answer: each verdict and each stop comes exactly where they end so.
+    // Conversely, each end of the rounds gives its own answer and no other, unless memory runs out.
     ensures only { (e : Ending)
         → EndsIn (rounds_of (source_at (P.source protocol.now) set.now)) allowance e → IsAnswerOf result e }
 
-    // Schedulable: the least fitting bounds, with optimal duals. Not shown: nothing fits. So each comes exactly there.
+    // Schedulable comes with the least fitting bounds and optimal duals. NotShown means that nothing fits. So Schedulable comes if some
+    // bounds fit, and only then.
     ensures right { IfOk result (λ verdict. IsRight verdict (source_at (P.source protocol.now) set.now)) }
     ensures exactly { IfOk result (λ verdict. IsSchedulable verdict
         ↔ ((s : List ℕ) × AreFitting (source_at (P.source protocol.now) set.now) s)) }
 
-    // The stops that don't come where no program has a column.
+    // Stops that don't come if no program has a column.
     ensures never_wide { HasNoColumns (source_at (P.source protocol.now) set.now)
         → (task : ℕ) → IsErrOf result (Stop.Wide (record { 0 = task })) → ⊥ }
     ensures enough { HasNoColumns (source_at (P.source protocol.now) set.now)
@@ -143,7 +144,7 @@ pub fn analyse_with<R: Threads + Sync, P: ProgramSource + Sync>(
     take_rounds(rt, alloc, set, protocol, allowance)
 }
 
-/// The same over the programs that are written down for the protocol. Under DPCP each resource has a home.
+/// The same over the programs of the protocol. Under DPCP each resource has a home.
 pub fn analyse<R: Threads + Sync>(
     rt: &R,
     alloc: Global,
@@ -157,7 +158,7 @@ pub fn analyse<R: Threads + Sync>(
     ensures right { IfOk result (λ verdict. IsRight verdict (source_of protocol set.now)) }
     ensures exactly { IfOk result (λ verdict. IsSchedulable verdict ↔ ((s : List ℕ) × AreFitting (source_of protocol set.now) s)) }
 
-    // The stops that don't come for a set that requests nothing.
+    // Stops that don't come for a set that requests nothing.
     ensures never_wide { RequestsNothing set.now → (task : ℕ) → IsErrOf result (Stop.Wide (record { 0 = task })) → ⊥ }
     ensures enough { RequestsNothing set.now → length set.now.tasks * (1 + slack_of (source_of protocol set.now)) ≤ allowance
         → IsErrOf result Stop.Allowance → ⊥ }

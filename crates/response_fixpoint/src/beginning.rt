@@ -1,4 +1,4 @@
-//! The plan of the first round: each task's program is formed once, by the threads that solve it.
+//! The plan of the first round. The threads that solve a task's program form it too, once.
 
 ghost use Rattle.std.specs.Prelude.{◌≡◌, ℕ, ◌<◌, length, slice_get, Some, IfOk, IfSome};
 ghost use Rattle.program_sources.specs.Bounds.{IsInRange};
@@ -16,7 +16,7 @@ use sporadic_model::{TaskId, TaskSet};
 use std::alloc::{AllocError, Global};
 use std::thread::{Threads, map_indices};
 
-/// Forms the program of task `i` at these bounds, and solves it with the units that are given if that is wanted.
+/// Forms the program of task `i` at these bounds. Solves it with these units if that is wanted.
 fn begin_task<P: ProgramSource>(
     alloc: Global,
     set: &TaskSet,
@@ -44,7 +44,7 @@ fn begin_task<P: ProgramSource>(
     })
 }
 
-/// Forms the programs of a thread's share, and solves them up to the first that ends the rounds.
+/// Forms the programs of a thread's share. Solves them up to the first that ends the rounds.
 pub fn begin_some<P: ProgramSource>(
     alloc: Global,
     set: &TaskSet,
@@ -79,7 +79,7 @@ pub fn begin_some<P: ProgramSource>(
     Ok(begun)
 }
 
-/// Forms and solves the programs in so many threads.
+/// Forms and solves the programs in this many threads.
 fn begin_beside<R: Threads + Sync, P: ProgramSource + Sync>(
     rt: &R,
     alloc: Global,
@@ -112,7 +112,7 @@ fn begin_beside<R: Threads + Sync, P: ProgramSource + Sync>(
     )
 }
 
-/// The program of task `i` as it was begun or planned, and where it wasn't, formed now.
+/// The program of task `i` as it was begun. If it wasn't begun, it is formed now.
 pub fn begun_or_formed<P: ProgramSource>(
     alloc: Global,
     set: &TaskSet,
@@ -158,8 +158,8 @@ fn in_order<P: ProgramSource>(
     Ok(plan)
 }
 
-/// The plan of the first round, at these bounds and with so many units: each task's program, formed and solved side by side where it is
-/// worth threads. Behind a task that ends the rounds a program may be formed alone.
+/// The plan of the first round, at these bounds and with these units. Each task's program is formed and solved, side by side if that is
+/// worth threads. Behind a task that ends the rounds a program may be formed without being solved.
 pub fn first_plan<R: Threads + Sync, P: ProgramSource + Sync>(
     rt: &R,
     alloc: Global,

@@ -1,8 +1,8 @@
 //! The least fitting bounds of a task set by rounds of the response-time recurrence, over any source of blocking programs.
 //!
-//! Each task's program is formed once. A round solves it at the bounds of the round before, for which its limits alone are
-//! computed, and the rounds end where one changes nothing. The definitions of the rounds stand in `specs/`; what fits, and which
-//! bounds are the least, is said in `program_sources`, without any round.
+//! Each task's program is formed once. A round solves it at the bounds of the round before, and computes only its limits anew. The
+//! rounds end with one that changes nothing. `specs/` defines the rounds. `program_sources` says what fits, and which bounds are the
+//! least, without any round.
 #![tactic(auto)]
 
 mod ahead;

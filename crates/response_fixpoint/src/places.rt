@@ -1,4 +1,4 @@
-//! What the threads of a round have found, at the places of its tasks.
+//! What the threads of a round have found, each result at the place of its task.
 
 ghost use Rattle.std.specs.Prelude.{◌≡◌, ℕ, ◌<◌, length, replicate, slice_get, slice_set, None, Some, IfOk};
 ghost use Rattle.response_fixpoint.specs.Places.{AreBelow, places_with, parts_with};
@@ -33,7 +33,7 @@ fn put_all<T: Drop>(places: &mut [Option<T>], found: Vec<Placed<T>>)
     }
 }
 
-/// So many places, at which nothing was found yet.
+/// This many places, with nothing found yet.
 fn no_places<T: Drop>(alloc: Global, count: usize) -> Result<Vec<Option<T>>, AllocError>
     ensures { IfOk result (λ v. v.items ≡ replicate count None) }
 {
@@ -44,7 +44,7 @@ fn no_places<T: Drop>(alloc: Global, count: usize) -> Result<Vec<Option<T>>, All
     Ok(places)
 }
 
-/// What the threads have found of so many tasks, at the places of these.
+/// What the threads have found of this many tasks, each result at the place of its task.
 pub fn in_places<T: Drop>(
     alloc: Global,
     count: usize,

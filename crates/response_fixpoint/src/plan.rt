@@ -1,4 +1,4 @@
-//! What a round begins with: the tasks' programs at its bounds, and which of them have a solution already.
+//! What a round begins with: the tasks' programs at its bounds, and the solutions that some of them have already.
 
 ghost use Rattle.std.specs.Prelude.{◌≡◌, ℕ, ◌<◌, Ok, length, IfOk, IfSome};
 ghost use Rattle.program_form.specs.Program.{IsProgram};
@@ -23,13 +23,13 @@ pub struct Kept {
 #[derive(Debug, Drop)]
 pub struct Planned {
     pub program: SparseProgram,
-    /// What it gave ahead of its place in the round, if it was solved then or has a solution from the round before.
+    /// What it gave ahead of its place in the round, if it was solved then or keeps its solution from the round before.
     pub ahead: Option<Result<Solution, SolveStop>>,
-    /// How much work its run is likely to be, counted in rows gone through, where that is known.
+    /// How much work its run is likely to be, counted in rows gone through, if that is known.
     pub work: u64,
 }
 
-/// The program and its solution, which are both taken over.
+/// The program with its solution, both kept.
 fn taken_over(kept: Kept) -> Planned
     ensures program { result.program ≡ kept.program }
     ensures ahead { IfSome result.ahead (λ o. (o ≡ Ok kept.solution) × (kept.program ≡ result.program)) }
@@ -42,8 +42,8 @@ fn taken_over(kept: Kept) -> Planned
     }
 }
 
-/// The program with these limits. Where they are those that it has, its solution is taken over, and else its run is likely to be as much
-/// work as the last one.
+/// The program with these limits. If they are the old ones, it keeps its solution. If not, its run is likely to be as much work as the
+/// last one.
 fn renewed(kept: Kept, limits: Vec<u64>) -> Planned
     requires { IsProgram (record { costs = kept.program.costs; rows = kept.program.rows; limits = limits.items }) }
     ensures program { result.program ≡ record { costs = kept.program.costs; rows = kept.program.rows; limits = limits.items } }
@@ -65,7 +65,7 @@ fn renewed(kept: Kept, limits: Vec<u64>) -> Planned
     }
 }
 
-/// Task `i`'s program at these bounds, where this is what it was at the earlier ones. Limits that the source says are kept aren't
+/// Task `i`'s program at these bounds, from its program and solution at the earlier ones. Limits that the source says are kept aren't
 /// computed.
 fn planned_after<P: ProgramSource>(
     alloc: Global,
@@ -92,8 +92,8 @@ fn planned_after<P: ProgramSource>(
     Ok(renewed(kept, limits))
 }
 
-/// The plan of the round at these bounds: the programs of the round before, at the earlier bounds, with the limits that are other ones
-/// now.
+/// The plan of the round at these bounds. It takes the programs of the round before, at the earlier bounds, and renews the limits that
+/// change.
 pub fn next_plan<P: ProgramSource>(
     alloc: Global,
     set: &TaskSet,

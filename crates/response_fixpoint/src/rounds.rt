@@ -13,7 +13,7 @@ use sporadic_model::{TaskId, TaskSet};
 use std::alloc::{AllocError, AllocFailed, Global};
 use std::thread::Threads;
 
-/// What a round has found: its units, and for each task that passed the next bound in ticks, and its program with its solution.
+/// What a round has found: its units; and for each task that passed, the next bound in ticks and the program with its solution.
 #[derive(Debug, Drop)]
 pub struct Round {
     pub used: u64,
@@ -28,7 +28,7 @@ pub enum RoundStop {
     NotShown { task: TaskId, bound: u64 },
     /// The run of this task's program is wide.
     Wide(TaskId),
-    /// The runs want more units than are left.
+    /// The runs need more units than are left.
     Allowance,
     Memory,
 }
@@ -53,7 +53,7 @@ impl<T: Drop> From<AllocFailed<T>> for RoundStop {
     }
 }
 
-/// Why a round ends where the run of a task stops so.
+/// The end of a round for this end of a task's run.
 fn stopped(stop: SolveStop, task: TaskId) -> RoundStop
     ensures { result ≡ stop_at stop task.0 }
 {
@@ -64,7 +64,7 @@ fn stopped(stop: SolveStop, task: TaskId) -> RoundStop
     }
 }
 
-/// Takes the run of a task's program into the round, where its value is at most the latest bound.
+/// Takes the run of a task's program into the round, if its value is at most the latest bound.
 fn take_run(
     round: &mut Round,
     program: SparseProgram,
@@ -86,10 +86,10 @@ fn take_run(
     Ok(())
 }
 
-/// One round: the recurrence at `bounds`, task by task, each program with the units that the tasks before it have left.
+/// One round: the recurrence at `bounds`, task by task. Each program may take the units that the tasks before it have left.
 ///
-/// Where it is worth threads the programs of the plan that have no solution yet are solved ahead of their place, each with the units
-/// that are left at the start of the round.
+/// The programs of the plan that have no solution yet are solved ahead of their place, if that is worth threads. Each may take all
+/// units that are left at the start of the round.
 pub fn take_round<R: Threads + Sync, P: ProgramSource + Sync>(
     rt: &R,
     alloc: Global,

@@ -1,4 +1,4 @@
-//! How the programs of a round are shared out to threads, and when a thread stops.
+//! How the programs of a round are shared among threads, and when a thread stops.
 
 ghost use Rattle.std.specs.Prelude.{◌≡◌, ◌<◌, ◌≤◌, ◌/◌, ◌^◌, ◌↔◌, length, IsTrue, IfOk};
 ghost use Rattle.program_sources.specs.Bounds.{IsInRange};
@@ -11,22 +11,22 @@ use simplex::SolveStop;
 use sporadic_model::{ResourceId, TaskId, TaskSet};
 use std::thread::{Threads, available_parallelism};
 
-/// How much work for each thread is worth its start, counted in rows gone through. A thread costs about as long as 2,000 to 4,000 of
-/// these, most of it in the kernel: its stack, its memory, its end.
+/// How much work makes a thread worth its start, counted in rows gone through. A thread costs about as long as 2,000 to 4,000 of these.
+/// Most of that is spent in the kernel: its stack, its memory, its end.
 const WORTH_A_THREAD: u64 = 4_000;
 
-/// How many processors there are where the system doesn't say.
+/// How many processors to assume if the system doesn't say.
 const USUAL_PROCESSORS: usize = 4;
 
-/// The share of one thread: of programs that stand in order each `threads`-th, from number `thread` on. So no thread has to know what
-/// another one does.
+/// The share of one thread: each `threads`-th program of a list, from number `thread` on. So no thread has to know what another one
+/// does.
 #[derive(Clone, Copy, Debug)]
 pub struct Share {
     pub thread: usize,
     pub threads: usize,
 }
 
-/// Is the program of this number one of the share?
+/// Is the program of this number in the share?
 pub fn is_in(share: Share, number: usize) -> bool
     requires { IsShare share }
     ensures { IsTrue result ↔ IsShared share number }
@@ -61,9 +61,9 @@ fn entries_in(set: &TaskSet) -> u64
     entries
 }
 
-/// How many threads are worth starting for the first round, of whose programs nothing is known yet: a program has about as many rows
-/// as the set has entries, and its run makes about as many exchanges. Where some task requests a resource two programs may have
-/// columns, and get two threads whatever their size.
+/// How many threads are worth starting for the first round. Nothing is known of its programs yet. Each has about as many rows as the
+/// set has entries, and its run makes about as many exchanges. If some task requests a resource, two programs may have columns. They
+/// get two threads whatever their size.
 fn first_worth(set: &TaskSet) -> u64
     ensures { result ≡ worth_of (entries_in set.now) (length set.now.tasks) }
 {
@@ -74,7 +74,7 @@ fn first_worth(set: &TaskSet) -> u64
     (entries * entries * set.tasks() as u64 / WORTH_A_THREAD).max(2)
 }
 
-/// How many threads are started for so many programs that are worth so many threads, on so many processors.
+/// How many threads are started for this many programs, where so many threads are worth it, on so many processors.
 fn threads_on(processors: usize, worth: u64, programs: usize) -> usize
     ensures { result ≡ threads_on processors worth programs }
 {
@@ -93,8 +93,8 @@ fn processors<R: Threads>(rt: &R) -> usize {
     }
 }
 
-/// So many threads as are worth starting for so many programs, but at most as many as processors, or two, and at most one for each
-/// program. The answer of a round is the same with any number.
+/// As many threads as are worth starting for this many programs: at most one for each program, and at most as many as processors, or
+/// two. The answer of a round is the same with any number.
 fn threads_for<R: Threads>(rt: &R, worth: u64, programs: usize) -> usize
     ensures { AreThreads worth programs result }
 {
@@ -108,16 +108,15 @@ pub fn first_threads<R: Threads>(rt: &R, set: &TaskSet) -> usize
     threads_for(rt, first_worth(set), set.tasks() as usize)
 }
 
-/// How many threads a later round gets, of whose programs so many are to be solved, with runs that are likely to be so much work
-/// together.
+/// How many threads a later round gets that has to solve this many programs, with runs of so much likely work together.
 pub fn later_threads<R: Threads>(rt: &R, work: u64, programs: usize) -> usize
     ensures { AreThreads (work / WORTH_A_THREAD) programs result }
 {
     threads_for(rt, work / WORTH_A_THREAD, programs)
 }
 
-/// Do the rounds go on behind a task whose program gave this? That spares work and no more: what is answered, the round's own loop
-/// decides.
+/// Do the rounds go on behind a task whose program gave this? A thread asks only to spare work. The answer is decided by the round's
+/// own loop.
 pub fn goes_on<P: ProgramSource>(
     set: &TaskSet,
     protocol: &P,

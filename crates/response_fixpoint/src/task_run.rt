@@ -32,7 +32,7 @@ pub struct TaskRun {
     pub value: u64,
 }
 
-/// The whole part of an optimum: the whole ticks that a job is blocked for.
+/// The whole part of an optimum: the number of whole ticks for which a job is blocked.
 fn whole_part(optimum: Frac) -> u64
     ensures value { result ≡ unsigned_abs optimum.num / unsigned_abs optimum.den }
     ensures most { result < 2 ^ 63 }
@@ -40,7 +40,7 @@ fn whole_part(optimum: Frac) -> u64
     optimum.num().unsigned_abs() / optimum.den().unsigned_abs()
 }
 
-/// Solves a program with the units that are given.
+/// Solves a program with these units.
 pub fn solve_program(
     alloc: Global,
     program: &SparseProgram,
@@ -63,8 +63,8 @@ pub fn solve_program(
 
 /// What a program gives in its place of a round, with the units that are left there.
 ///
-/// `ahead` is what it has given ahead of this place with as many units or more, if it was solved then. Where it was wide it is
-/// solved again, since it may want more units than are left before it comes to a wide number.
+/// `ahead` is what it has given ahead of this place with at least as many units, if it was solved then. If it was wide, it is solved
+/// again: it may need more units than are left before it comes to a wide number.
 fn solve_here(
     alloc: Global,
     program: &SparseProgram,

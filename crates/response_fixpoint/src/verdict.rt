@@ -9,8 +9,8 @@ use std::alloc::AllocError;
 pub enum Verdict {
     /// The set is schedulable: here are the least fitting bounds, in ticks, and a dual for each task.
     Schedulable(Certificate),
-    /// No bounds fit. The rounds end at this task with this value in ticks, which passes its latest bound: its deadline less
-    /// its jitter.
+    /// No bounds fit. The rounds end at this task with this value in ticks. It passes the task's latest bound, which is the deadline
+    /// less the jitter.
     NotShown { task: TaskId, bound: u64 },
 }
 
@@ -19,7 +19,7 @@ pub enum Verdict {
 pub enum Stop {
     /// The program of this task forms a fraction that is too wide.
     Wide(TaskId),
-    /// The rounds want more units than the allowance.
+    /// The rounds need more units than the allowance.
     Allowance,
     /// No memory is left.
     Memory,

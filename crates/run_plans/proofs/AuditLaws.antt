@@ -39,7 +39,7 @@ pub audit_lawful : (p : ProtocolName) (digest : List ℕ) (file : FileDef) (jobs
 audit_lawful p digest file jobs rows =
     tied_lawful digest file.digest (IsAuditOf p jobs rows file.certificate) (own_audit p file.certificate jobs rows)
 
--- The text with the figures that are listed is that with the figures of the schedule.
+-- The text with the listed figures is the text with the schedule's figures.
 kept_same : (set : SetDef) (n : ℕ) (f g : ℕ → TaskFigures) → ((x : ℕ) → x < length set.tasks → f x ≡ g x)
     → kept_text set n f ≡ kept_text set n g
 kept_same set n f g same = ap (λ t. codes "kept " ++ (decimal n ++ (codes "\n" ++ t))) (task_lines_same set figures_line f g same)

@@ -1,4 +1,4 @@
--- What is written and what is checked lists bounds that every lawful schedule keeps.
+-- A certificate that is written or found valid lists bounds that every lawful schedule keeps.
 use Rattle.std.proofs.Common.{◌≡◌, ℕ, ◌<◌, ◌≤◌, List, length, sym, ap, subst, arith}
 use Rattle.std.specs.Prelude.{codes, slice_index, slice_index_or}
 use Rattle.std.proofs.lemmas.List.{get_or_default}
@@ -11,10 +11,10 @@ use Rattle.sporadic_model.specs.Accepted.{IsAccepted}
 use Rattle.sporadic_model.proofs.Laws.{numbers_of_accepted}
 use Rattle.protocol_names.specs.declared.ProtocolName.{ProtocolName}
 use Rattle.named_laws.specs.Named.{SoundUnder, source_of}
-use Rattle.response_fixpoint.specs.Answers.{IsBest}
+use Rattle.response_fixpoint.specs.Answers.{IsBest, IsSmallDual as AreSmall}
 use Rattle.taskset_json.specs.Answers.{IsValue}
 use Rattle.taskset_json.specs.Members.{list_at}
-use Rattle.cert_json.specs.Ranges.{IsSmallDual, IsWritable}
+use Rattle.cert_json.specs.Ranges.{IsSmallDual, HasSmallDuals, IsWritable}
 use Rattle.cert_json.specs.Text.{certificate_text}
 use Rattle.cert_json.specs.Value.{certificate_data}
 use Rattle.cert_json.specs.Written.{numbers_written, certificate_written}
@@ -29,25 +29,30 @@ use Rattle.run_plans.specs.Bounding.{AreKept, ListsBounds}
 use Rattle.named_laws.proofs.EachName.{named_sound, named_word_is_text}
 use Rattle.named_laws.proofs.Values.{values_of, are_values}
 
--- The best certificate of such a set can be written: its bounds have 64 bits, and its duals are small.
-pub writable : (protocol : ProtocolName) (set : SetDef) (c : CertificateDef) → IsAccepted set → IsBest (source_of protocol set) c → IsWritable c
-writable protocol set c accepted best = record {
+-- The bounds of a valid certificate have 64 bits. So it can be written if its duals are small.
+pub written_with : (protocol : ProtocolName) (set : SetDef) (c : CertificateDef) → IsAccepted set → IsValid (source_of protocol set) c
+    → HasSmallDuals c → IsWritable c
+written_with protocol set c accepted valid small = record {
   bounds = λ k d here. (
-      let task : k < length set.tasks = omega (arith, here, best.valid.bound_each) in
+      let task : k < length set.tasks = omega (arith, here, valid.bound_each) in
       let numbers = numbers_of_accepted set k accepted task in
-      let within : slice_index c.bounds k ≤ latest_bound (task_at set k) = (best.valid.proved k task).within in
+      let within : slice_index c.bounds k ≤ latest_bound (task_at set k) = (valid.proved k task).within in
       let same : slice_index_or c.bounds k d ≡ slice_index c.bounds k = get_or_default c.bounds k d 0 here in
       omega (arith, same, within, numbers.deadline_to, numbers.period_to));
-  duals = λ k d here. (
-      let task : k < length set.tasks = omega (arith, here, best.valid.dual_each) in
-      let small = best.small k task in
-      let own : IsSmallDual (dual_at c.duals k) = record {
-        positive = (best.valid.proved k task).feasible.covers.positive;
-        small = omega (arith, small.den);
-        numerators = λ m z there. omega (arith, small.num m z there);
-      } in
-      subst IsSmallDual (get_or_default c.duals k no_dual d here) own);
+  duals = small;
 }
+
+pub writable : (protocol : ProtocolName) (set : SetDef) (c : CertificateDef) → IsAccepted set → IsValid (source_of protocol set) c
+    → ((i : ℕ) → i < length set.tasks → AreSmall (dual_at c.duals i)) → IsWritable c
+writable protocol set c accepted valid each = written_with protocol set c accepted valid (λ k d here. (
+    let task : k < length set.tasks = omega (arith, here, valid.dual_each) in
+    let small = each k task in
+    let own : IsSmallDual (dual_at c.duals k) = record {
+      positive = (valid.proved k task).feasible.covers.positive;
+      small = omega (arith, small.den);
+      numerators = λ m z there. omega (arith, small.num m z there);
+    } in
+    subst IsSmallDual (get_or_default c.duals k no_dual d here) own))
 
 pub text_is_read : (protocol : ProtocolName) (bytes : List ℕ) (c : CertificateDef) → IsWritable c
     → IsFileText protocol (certificate_text (word_of protocol) (sha256 bytes) c) (record { certificate = c; digest = sha256 bytes })
@@ -72,7 +77,7 @@ pub kept : (protocol : ProtocolName) (set : SetDef) (c : CertificateDef) → IsA
 kept protocol set c accepted valid = kept_under protocol set c.bounds (values_of (source_of protocol set) c)
     (named_sound protocol set c (values_of (source_of protocol set) c) accepted valid (are_values (source_of protocol set) c))
 
--- So a text whose value writes a valid certificate lists such bounds.
+-- So a text whose value gives a valid certificate lists such bounds.
 abbrev lists_bounds : (call : Call) (protocol : ProtocolName) (name text : List ℕ) (set : SetDef) (c : CertificateDef) (value : Data)
     → ReadsSome call protocol name set → IsValid (source_of protocol set) c → IsValue text value → c ≡ certificate_written value
     → ListsBounds call protocol name text
@@ -91,7 +96,7 @@ abbrev pub analysis_bounds : (call : Call) (protocol : ProtocolName) (name bytes
     → ReadsSome call protocol name set → IsBest (source_of protocol set) c
     → ListsBounds call protocol name (certificate_text (word_of protocol) (sha256 bytes) c)
 analysis_bounds call protocol name bytes set c read best =
-    let text = text_is_read protocol bytes c (writable protocol set c read.text.accepted best) in
+    let text = text_is_read protocol bytes c (writable protocol set c read.text.accepted best.valid best.small) in
     lists_bounds call protocol name (certificate_text (word_of protocol) (sha256 bytes) c) set c text.0 read best.valid text.1
     (ap (λ (f : FileDef). f.certificate) text.3)
 

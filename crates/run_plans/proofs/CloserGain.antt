@@ -1,4 +1,4 @@
--- What fits under a protocol fits under a closer analysis of it, so of two runs the closer one writes no greater bound.
+-- Bounds that fit under a protocol fit under a closer analysis of it. So the closer one of two runs writes no greater bound.
 use Rattle.std.specs.Prelude.{◌≡◌, ◌≢◌}
 use Rattle.sporadic_model.specs.SetDef.{SetDef}
 use Rattle.protocol_names.specs.declared.ProtocolName.{ProtocolName}

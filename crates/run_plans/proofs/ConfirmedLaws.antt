@@ -1,38 +1,40 @@
--- What `refute` writes is found confirmed, and no set is both accepted and refused.
-use Rattle.std.proofs.Common.{◌≡◌, ℕ, ◌≤◌, List, [], ◌∷◌, length, refl, sym, ◌∙◌, subst, inl, inr, Some, Ok}
+-- What `refute` and `settle` write is found confirmed, and no set is both accepted and refused.
+use Rattle.std.proofs.Common.{◌≡◌, ℕ, List, [], ◌∷◌, refl, sym, ◌∙◌, subst, arith, inl, inr, Some, Ok}
 use Rattle.std.specs.Prelude.{Option}
 use Rattle.std.proofs.lemmas.Option.{same_Some}
 use Rattle.outside_ports.specs.Names.{Inputs, bytes_of, IsNamed}
 use Rattle.outside_ports.specs.Past.{Asked, wholly}
-use Rattle.outside_ports.specs.declared.whole.TheConstants.{GREATEST_INPUT_BYTES}
 use Rattle.sha2.specs.Sha256.{sha256}
 use Rattle.program_sources.specs.Valid.{IsValid}
-use Rattle.refusal_laws.specs.Steps.{StepDef}
+use Rattle.refusal_laws.specs.Steps.{StepDef, Holds}
 use Rattle.sporadic_model.specs.SetDef.{SetDef}
 use Rattle.protocol_names.specs.declared.ProtocolName.{ProtocolName}
 use Rattle.named_laws.specs.Named.{source_of}
 use Rattle.named_laws.proofs.Refusals.{named_none_valid}
 use Rattle.refusal_json.specs.Ranges.{IsWritable}
-use Rattle.command_words.specs.Words.{Refute, Confirm}
-use Rattle.command_words.proofs.SpelledLaws.{refute_has_form, confirm_is_form}
-use Rattle.command_inputs.specs.Known.{Answer, told}
-use Rattle.run_plans.specs.Plans.{IsOutcomeOf}
-use Rattle.command_inputs.specs.RefusalDef.{RefusalDef}
+use Rattle.refusal_json.specs.Text.{refusal_text}
+use Rattle.protocol_names.specs.Names.{word_of}
+use Rattle.command_words.specs.Words.{Refute, Settle, Confirm}
+use Rattle.command_words.specs.Spelled.{confirm_words}
+use Rattle.command_words.proofs.SpelledLaws.{refute_has_form, settle_has_form, confirm_is_form}
+use Rattle.command_inputs.specs.Known.{IsRead, told}
 use Rattle.run_plans.specs.Refuting.{confirmed_answer}
-use Rattle.run_plans.specs.Commands.{confirmation_of, plan_of}
-use Rattle.command_inputs.specs.Inputs.{ReadsSet, IsRefusalText, refusal_input}
+use Rattle.run_plans.specs.Commands.{confirmation_of}
+use Rattle.command_inputs.specs.Inputs.{ReadsSet, IsRefusalText, set_input, refusal_input}
 use Rattle.run_plans.specs.Headline.{Call, Asks, HasInputs, IsSetText}
 use Rattle.run_plans.specs.Run.{IsRun}
-use Rattle.run_plans.specs.Confirmed.{ConfirmsWhatWasWritten, FindsConfirmed, ChecksAndConfirms}
+use Rattle.run_plans.specs.Checked.{ReadsWhatWasWritten}
+use Rattle.run_plans.specs.Confirmed.{ConfirmsWhatWasWritten, ConfirmsWhatWasSettled, FindsConfirmed, ChecksAndConfirms}
 use Rattle.run_plans.proofs.InputLaws.{set_reads_once}
 use Rattle.run_plans.proofs.SetTextLaws.{reads_text}
 use Rattle.run_plans.proofs.SoundLaws.{accepted_of}
 use Rattle.run_plans.proofs.RefusalInputLaws.{text_is_read}
-use Rattle.run_plans.proofs.RefusedLaws.{WroteRefusal, wrote_refusal}
+use Rattle.run_plans.proofs.RefusedLaws.{wrote_refusal}
+use Rattle.run_plans.proofs.SettledLaws.{wrote_refused}
 use Rattle.run_plans.proofs.WritableRefusal.{refusal_writable}
 use Rattle.run_plans.proofs.CheckedLaws.{outcome_of_both, gave_text, has_form, finds}
 
--- Bytes are the text of one set.
+-- Bytes are the text of at most one set.
 one_set : (p : ProtocolName) (bytes others : List ℕ) (set other : SetDef) → bytes ≡ others → IsSetText p bytes set
     → IsSetText p others other → set ≡ other
 one_set p bytes others set other same text text' =
@@ -65,54 +67,70 @@ never_both first second run again c =
 
 -- ---- what was written is confirmed
 
--- The refusal that was written.
-file_of : (inputs : Inputs) (p : ProtocolName) (name : List ℕ) (n : ℕ) (a : Answer) → WroteRefusal (told inputs) p name n a → RefusalDef
-file_of inputs p name n a w = record { steps = w.so.steps; digest = sha256 w.bytes }
+-- A call wrote this text, which holds a refusal of a set.
+record WroteText (inputs : Inputs) (p : ProtocolName) (name text : List ℕ) : Type 0 where
+  bytes : List ℕ
+  set : SetDef
+  read : IsRead (told inputs) (set_input p) name bytes set
+  steps : List StepDef
+  holds : Holds (source_of p set) steps
+  reads : IsRefusalText p text (record { steps = steps; digest = sha256 bytes })
 
-reads_written : (inputs : Inputs) (p : ProtocolName) (name text : List ℕ) (n : ℕ) (a : Answer) (w : WroteRefusal (told inputs) p name n a)
-    → a.text ≡ text → IsRefusalText p text (file_of inputs p name n a w)
-unfolding file_of
-reads_written inputs p name text n a w same =
-    let accepted = accepted_of p w.bytes w.set w.read.1 in
+reads_refusal : (p : ProtocolName) (bytes text : List ℕ) (steps : List StepDef) → IsWritable steps
+    → text ≡ refusal_text (word_of p) (sha256 bytes) steps → IsRefusalText p text (record { steps = steps; digest = sha256 bytes })
+reads_refusal p bytes text steps writable is =
+    subst (λ (t : List ℕ). IsRefusalText p t (record { steps = steps; digest = sha256 bytes })) (sym is) (text_is_read p bytes steps writable)
+
+refuted_text : (first second : Call) → IsRun first → (c : ConfirmsWhatWasWritten first second)
+    → WroteText c.after.inputs c.protocol c.set c.after.text
+refuted_text first second run c =
+    let t = c.after in
+    let form = refute_has_form first.words c.protocol c.set c.more c.refutes (has_form first 0 run t.ended (omega arith)) in
+    let gave = gave_text first t.inputs (Refute c.protocol c.set form.0) 0 t.text run form.1 t.has t.tells t.ended (omega arith) t.wrote in
+    let w = wrote_refusal (told t.inputs) c.protocol c.set form.0 gave.reply gave.outcome gave.ended in
+    let accepted = accepted_of c.protocol w.bytes w.set w.read.1 in
     let writable : IsWritable w.so.steps =
     subst (λ (xs : List StepDef). IsWritable xs) (sym w.so.steps_are)
-    (refusal_writable p w.set n w.so.task w.so.value accepted w.so.ends) in
-    subst (λ (t : List ℕ). IsRefusalText p t (record { steps = w.so.steps; digest = sha256 w.bytes })) (sym w.so.text ∙ same)
-    (text_is_read p w.bytes w.so.steps writable)
-
--- So where the set and the text are there, the outcome of `confirm` is that it is confirmed.
-confirm_outcome : (inputs later : Inputs) (p : ProtocolName) (name again cert text : List ℕ) (n : ℕ) (a : Answer)
-    → WroteRefusal (told inputs) p name n a → a.text ≡ text
-    → length text ≤ GREATEST_INPUT_BYTES → bytes_of later again ≡ bytes_of inputs name → bytes_of later cert ≡ Some text
-    → IsOutcomeOf (told later) (plan_of (Confirm p again cert)) confirmed_answer
-unfolding file_of
-confirm_outcome inputs later p name again cert text n a w same short set_again text_again =
-    outcome_of_both later p again cert w.bytes text w.set (refusal_input p) (file_of inputs p name n a w) (confirmation_of p)
-    confirmed_answer ((set_again ∙ w.read.0.0, w.read.0.1), w.read.1)
-    ((text_again, short), reads_written inputs p name text n a w same) (inr (refl, inl (w.so.holds, refl)))
-
--- What a call that refutes a set wrote, with status 0.
-record WroteText (inputs : Inputs) (p : ProtocolName) (name text : List ℕ) : Type 0 where
-  allowance : ℕ
-  reply : Answer
-  wrote : WroteRefusal (told inputs) p name allowance reply
-  same : reply.text ≡ text
-
-wrote_text : (first second : Call) → IsRun first → (c : ConfirmsWhatWasWritten first second) → WroteText c.inputs c.protocol c.set c.text
-wrote_text first second run c =
-    let form = refute_has_form first.words c.protocol c.set c.more c.refutes (has_form first run c.refused) in
-    let gave = gave_text first c.inputs (Refute c.protocol c.set form.0) c.text run form.1 c.has c.tells c.refused c.wrote in
+    (refusal_writable c.protocol w.set form.0 w.so.task w.so.value accepted w.so.ends) in
     record {
-      allowance = form.0;
-      reply = gave.reply;
-      wrote = wrote_refusal (told c.inputs) c.protocol c.set form.0 gave.reply gave.outcome gave.zero;
-      same = gave.same;
+      bytes = w.bytes;
+      set = w.set;
+      read = w.read;
+      steps = w.so.steps;
+      holds = w.so.holds;
+      reads = reads_refusal c.protocol w.bytes t.text w.so.steps writable (sym gave.same ∙ w.so.text);
     }
+
+settled_text : (first second : Call) → IsRun first → (c : ConfirmsWhatWasSettled first second)
+    → WroteText c.after.inputs c.protocol c.set c.after.text
+settled_text first second run c =
+    let t = c.after in
+    let form = settle_has_form first.words c.protocol c.set c.more c.settles (has_form first 1 run t.ended (omega arith)) in
+    let gave = gave_text first t.inputs (Settle c.protocol c.set form.0) 1 t.text run form.1 t.has t.tells t.ended (omega arith) t.wrote in
+    let w = wrote_refused (told t.inputs) c.protocol c.set form.0 gave.reply gave.outcome gave.ended in
+    record {
+      bytes = w.bytes;
+      set = w.set;
+      read = w.read;
+      steps = w.so.steps;
+      holds = w.so.so.holds;
+      reads = reads_refusal c.protocol w.bytes t.text w.so.steps w.so.so.writable (sym gave.same ∙ w.so.text);
+    }
+
+-- So if the set and the text are there, the outcome of `confirm` is that the refusal is confirmed.
+finds_text : (first second : Call) (n : ℕ) (p : ProtocolName) (name : List ℕ) → IsRun second
+    → (t : ReadsWhatWasWritten first second n confirm_words p name) → WroteText t.inputs p name t.text → FindsConfirmed second
+finds_text first second n p name again t w =
+    finds second t.later (Confirm p t.same_set t.file) confirmed_answer again t.has_later
+    (confirm_is_form second.words p t.same_set t.file t.reads) (λ bytes set read text file also. tt)
+    (outcome_of_both t.later p t.same_set t.file w.bytes t.text w.set (refusal_input p) (record { steps = w.steps; digest = sha256 w.bytes })
+    (confirmation_of p) confirmed_answer ((t.set_again ∙ w.read.0.0, w.read.0.1), w.read.1) ((t.text_again, t.short), w.reads)
+    (inr (refl, inl (w.holds, refl))))
 
 pub finds_confirmed : (first second : Call) → IsRun first → IsRun second → ConfirmsWhatWasWritten first second → FindsConfirmed second
 finds_confirmed first second run again c =
-    let w = wrote_text first second run c in
-    finds second c.later (Confirm c.protocol c.same_set c.refusal) confirmed_answer again c.has_later
-    (confirm_is_form second.words c.protocol c.same_set c.refusal c.confirms)
-    (confirm_outcome c.inputs c.later c.protocol c.set c.same_set c.refusal c.text w.allowance w.reply w.wrote w.same c.short c.set_again
-    c.text_again)
+    finds_text first second 0 c.protocol c.set again c.after (refuted_text first second run c)
+
+pub finds_settled : (first second : Call) → IsRun first → IsRun second → ConfirmsWhatWasSettled first second → FindsConfirmed second
+finds_settled first second run again c =
+    finds_text first second 1 c.protocol c.set again c.after (settled_text first second run c)

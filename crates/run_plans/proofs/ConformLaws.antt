@@ -39,7 +39,7 @@ rule_with_own rule.Priority = refl
 same_rule : (r s : Rule) → rule_number r ≡ rule_number s → r ≡ s
 same_rule r s same = sym (rule_with_own r) ∙ ap rule_with same ∙ rule_with_own s
 
--- The first row that breaks a rule is one, and so is the first rule that it breaks.
+-- No two rows are the first that breaks a rule, and no two rules are the first that this row breaks.
 no_later : (keeps : Rule → Trace → ℕ → Type 0) (w : Trace) (n t u : ℕ) (r s : Rule) → IsFirstUnlawful keeps w n t r
     → IsFirstUnlawful keeps w n u s → t < u → ⊥
 no_later keeps w n t u r s p q less = p.breaks.broken (q.before t less r)
@@ -99,7 +99,7 @@ conformance_lawful protocol jobs rows =
     let n = ticks_of rows.runs in
     kept_lawful (rules_of protocol) w n (lawful_answer (interference_of protocol) w n) refl
 
--- Lines of tasks are the same where they say the same of each task.
+-- Lines of tasks are the same if they say the same of each task.
 pub task_lines_same : {F : Type 0} (set : SetDef) (line : List ℕ → F → List ℕ) (f g : ℕ → F)
     → ((x : ℕ) → x < length set.tasks → f x ≡ g x)
     → collect_below (length set.tasks) (λ x. line (task_at set x).name (f x))
@@ -108,7 +108,7 @@ task_lines_same set line f g same =
     collect_below-agree (length set.tasks) (λ x. line (task_at set x).name (f x)) (λ x. line (task_at set x).name (g x))
     (λ x below. ap (line (task_at set x).name) (same x below))
 
--- So the text with the measures that were taken is that with the measures of the schedule.
+-- So the text with the measures that were taken is the text with the schedule's measures.
 lawful_same : (set : SetDef) (n : ℕ) (f g : ℕ → MeasuresDef) → ((x : ℕ) → x < length set.tasks → f x ≡ g x)
     → lawful_text set n f ≡ lawful_text set n g
 lawful_same set n f g same =

@@ -20,7 +20,7 @@ use Rattle.command_inputs.specs.Inputs.{ReadsSet, set_input}
 use Rattle.run_plans.proofs.OneReading.{Says, one_saying}
 use Rattle.run_plans.proofs.PlanLaws.{ReadsOnce}
 
--- Is the answer of reading one that says something of the bytes?
+-- Does the answer of reading say something of the bytes?
 abbrev pub Tells : Result SetDef SetRefusal → Type 0
 Tells (Err refusal.Memory) = ⊥
 Tells _ = Unit {0}
@@ -70,7 +70,7 @@ says (Err refusal.Memory) bytes reads tells = absurd tells
 pub one_reading : (r s : Result SetDef SetRefusal) (bytes : List ℕ) → Reads r bytes → Reads s bytes → Tells r → Tells s → r ≡ s
 one_reading r s bytes p q a b = one_saying refusal.NotJson judgement r s bytes (says r bytes p a) (says s bytes q b)
 
--- What reading for a protocol makes of what reading says: the first resource without a home refuses a set.
+-- What reading for a protocol says, from what reading says. The first resource without a home refuses a set.
 abbrev pub with_homes : Option ℕ → SetDef → Result SetDef SetRefusal
 with_homes None set = Ok set
 with_homes (Some q) set = Err (refusal.NoHome (record { 0 = q }))

@@ -1,4 +1,4 @@
--- The jobs that a file of jobs writes are lawful.
+-- The jobs that a file of jobs gives are lawful.
 use Rattle.std.proofs.Common.{◌≡◌, ℕ, zero, suc, ◌+◌, ◌<◌, ◌≤◌, ◌&&◌, not, Bool, true, false, List, [], ◌∷◌, length, map, take, refl, sym, ap, ap₂}
 use Rattle.std.proofs.Common.{subst, arith, Option, Some, None, Ok, option_map, is_some, is_none, if◌then◌else◌}
 use Rattle.std.specs.Prelude.{unwrap_or}
@@ -24,7 +24,7 @@ use Rattle.trace_csv.specs.declared.refusal.JobsRefusal.{JobsRefusal}
 use Rattle.trace_csv.specs.declared.refusal.JobsRefusal.TheVariants as refusal
 use Rattle.command_inputs.specs.Inputs.{ReadsJobs}
 
--- ---- where nothing is refused
+-- ---- if nothing is refused
 
 unless : (b : Bool) (r : JobsRefusal) (o : Option JobsRefusal) → (if b then Some r else o) ≡ None → (b ≡ false) × (o ≡ None)
 unless true r o e = absurd (cc)
@@ -120,7 +120,7 @@ take_all : (lines : List Fields) → take (length lines) lines ≡ lines
 take_all [] = refl
 take_all (line ∷ lines) = ap (λ l. line ∷ l) (take_all lines)
 
--- What the input of jobs reads are lawful jobs of the set.
+-- The input of jobs reads lawful jobs of the set.
 pub read_lawful : (set : SetDef) (bytes : List ℕ) (list : JobsDef) → ReadsJobs set bytes (Ok list) → (list.set ≡ set) × AreLawfulJobs list
 read_lawful set bytes list (are, same) =
     let lines : List Fields = job_lines (records_in bytes) in

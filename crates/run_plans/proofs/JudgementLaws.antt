@@ -37,7 +37,7 @@ full_table_lawful p digest set file =
     tied_lawful digest file.digest (IsFullTable p set file.certificate)
     (judgement_lawful p set file.certificate (reported_answer p set file.certificate) refl)
 
--- The task that a failure names is one of the set.
+-- A failure names a task of the set.
 pub fails_task : (protocol : ProtocolName) (set : SetDef) (c : CertificateDef) (e : Invalid)
     → IsFailure e (source_of protocol set) c → FailsTask set e
 fails_task protocol set c invalid.Size fails = tt
@@ -47,7 +47,7 @@ fails_task protocol set c (invalid.Cover i k) fails = fails.1.below
 fails_task protocol set c (invalid.Small i) fails = fails.1.below
 fails_task protocol set c invalid.Memory fails = fails
 
--- The table of the values that are listed is the one of the duals' values.
+-- The table with the listed values is the table with the duals' values.
 pub listed_table : (protocol : ProtocolName) (set : SetDef) (c : CertificateDef) (values : List ℕ) (a : Answer)
     → AreValues (source_of protocol set) c values
     → a ≡ record { status = 0; text = full_text set c.bounds (slice_index values) } → a ≡ reported_answer protocol set c

@@ -30,7 +30,7 @@ use Rattle.run_plans.proofs.SoundLaws.{accepted_of}
 use Rattle.run_plans.proofs.ShownLaws.{reads_valid}
 use Rattle.run_plans.proofs.WorkLaws.{tied_at_zero}
 
--- What the outcome of `audit` with status 0 is: the figures of a schedule that keeps the rules, beside a valid certificate.
+-- The outcome of `audit` with status 0 is the figures of a schedule that keeps the rules, beside a valid certificate.
 record FoundKept (known : Known) (protocol : ProtocolName) (name cert jobs rows : List ℕ) (a : Answer) : Type 0 where
   bytes : List ℕ
   set : SetDef

@@ -8,9 +8,13 @@ pub mod SimulationLaws
 pub mod StudyLaws
 pub mod RefusalInputLaws
 pub mod RefusalLaws
+mod SettleLaws
 pub mod CommandLaws
 pub mod ReplyLaws
 pub mod RefusalReplyLaws
+pub mod SettlementReplyLaws
+mod SettledLaws
+mod UpgradedLaws
 pub mod RunLaws
 pub mod TwiceLaws
 pub mod JudgementLaws
@@ -29,3 +33,4 @@ pub mod JobsLaws
 pub mod KeptLaws
 pub mod Examples
 mod CloserGain
+mod OneOutcome

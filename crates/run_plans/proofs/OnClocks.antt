@@ -1,4 +1,4 @@
--- What is written and what is checked lists bounds that hold on the machine's clock.
+-- A certificate that is written or found valid lists bounds that hold on the machine's clock.
 use Rattle.std.proofs.Common.{◌≡◌, ℕ, List, ap, subst, arith}
 use Rattle.std.specs.Prelude.{[], ◌∷◌, codes}
 use Rattle.std.specs.Io.KnownBytes.{Appends}
@@ -38,7 +38,7 @@ kept protocol set c accepted valid = λ k w n j some spared l due.
     (named_on_clocks protocol set c (values_of (source_of protocol set) c) accepted valid (are_values (source_of protocol set) c) k w n some
     (lawful_of_spared (rules_of protocol) (is_whole (source_of protocol set) c) k set w n some accepted spared)).finished j l due
 
--- So a text whose value writes a valid certificate lists such bounds.
+-- So a text whose value gives a valid certificate lists such bounds.
 abbrev lists_on_clocks : (call : Call) (protocol : ProtocolName) (name text : List ℕ) (set : SetDef) (c : CertificateDef) (value : Data)
     → ReadsSome call protocol name set → IsValid (source_of protocol set) c → IsValue text value → c ≡ certificate_written value
     → ListsOnClocks call protocol name text
@@ -56,7 +56,7 @@ abbrev analysis_lists : (call : Call) (protocol : ProtocolName) (name bytes : Li
     → ReadsSome call protocol name set → IsBest (source_of protocol set) c
     → ListsOnClocks call protocol name (certificate_text (word_of protocol) (sha256 bytes) c)
 analysis_lists call protocol name bytes set c read best =
-    let text = text_is_read protocol bytes c (writable protocol set c read.text.accepted best) in
+    let text = text_is_read protocol bytes c (writable protocol set c read.text.accepted best.valid best.small) in
     lists_on_clocks call protocol name (certificate_text (word_of protocol) (sha256 bytes) c) set c text.0 read best.valid text.1
     (ap (λ (f : FileDef). f.certificate) text.3)
 
@@ -77,7 +77,7 @@ abbrev pub check_on_clocks : (call : Call) (protocol : ProtocolName) (name cert 
 check_on_clocks call protocol name cert p = lists_on_clocks call protocol name p.bytes p.set p.certificate p.reads.0 p.read p.valid p.reads.1
     (ap (λ (f : FileDef). f.certificate) p.reads.3)
 
--- With another status nothing is said.
+-- With another status there is nothing to show.
 pub not_on_clocks : (call : Call) → (call.status ≡ 0 → ⊥) → IsOnClocks call
 not_on_clocks call other = record {
   analysed = λ protocol name more words zero. absurd (other zero);

@@ -1,4 +1,4 @@
--- A reader that says one thing of the value of bytes, and one thing where they have none, reads bytes in one way.
+-- A reader reads bytes in one way if it says one thing of their value, and one thing if they have none.
 use Rattle.std.proofs.Common.{◌≡◌, ℕ, List, sym, ◌∙◌, ap, inl, inr, ◌⊎◌, Err}
 use Rattle.std.specs.Prelude.{Result}
 use Rattle.std.proofs.lemmas.Option.{same_Some}

@@ -12,11 +12,11 @@ use Rattle.outside_ports.specs.declared.whole.TheConstants.{GREATEST_INPUT_BYTES
 use Rattle.outside_ports.specs.declared.shelf.ShelfFault.TheVariants.{Absent}
 use Rattle.command_inputs.specs.Known.{Answer, Input, refused, Known, past, readings_after, IsStopped, IsRead, Shown, shown_by, told}
 use Rattle.command_inputs.specs.Known.{FitAll, AreInputs}
-use Rattle.run_plans.specs.Plans.{Work, Plan, Working, Reading, IsWorking}
+use Rattle.run_plans.specs.Plans.{Work, Plan, Working, Reading, IsWorking, HasOneAnswer}
 use Rattle.run_plans.specs.Plans.{IsOutcomeOf, IsReadFaultOf, EndsWell, AsksAll, AsksPart}
 use Rattle.run_plans.specs.Outcome.{IsReplyOf}
 
--- Is whatever one knows also known by the other?
+-- Is everything that is known by the first also known by the second?
 pub record Implies (k l : Known) : Type 0 where
   pub absent : (name : List ℕ) → k.absent name → l.absent name
   pub longer : (name : List ℕ) → k.longer name → l.longer name
@@ -24,7 +24,7 @@ pub record Implies (k l : Known) : Type 0 where
   pub last : (bytes : List ℕ) → k.last bytes → l.last bytes
   pub asked : (readings : List Asked) → k.asked readings → l.asked readings
 
--- Then it is so of the rest, once an input was asked for.
+-- Then the same holds for the rest, after an input was asked for.
 past_implied : (k l : Known) → Implies k l → (one : Asked) → Implies (past k one) (past l one)
 past_implied k l i one = record {
   absent = i.absent;
@@ -67,7 +67,7 @@ fault_implied k l i (Reading input name next) a (inr (bytes, value, read, fault)
       fault_implied (past k one) (past l one) (past_implied k l i one) (next bytes value) a fault,
     )
 
--- What a shelf shows that tells its inputs is so for these inputs.
+-- If a shelf tells its inputs, what it shows holds for these inputs.
 told_implied : (shelf : Shown) (inputs : Inputs) → shelf.names ≡ Some inputs → Implies (shown_by shelf) (told inputs)
 told_implied shelf inputs is = record {
   absent = λ name h. subst (λ (n : Option Inputs). IsAbsent n name shelf.before shelf.now) is h.0;
@@ -77,7 +77,7 @@ told_implied shelf inputs is = record {
   asked = λ readings h. tt;
 }
 
--- What is shown of the later part of a call is so for the whole of it.
+-- What is shown of the later part of a call holds for the whole call.
 absent_before : (names : Option Inputs) (name : List ℕ) (before mid now : ℕ) → before ≤ mid
     → IsAbsent names name mid now → IsAbsent names name before now
 absent_before None name before mid now later rose = omega (arith, later, rose)
@@ -94,7 +94,7 @@ later_implied names before mid now given had has later = record {
   asked = λ readings h. h;
 }
 
--- The reply of a plan, from an input that is read and the reply of what comes then.
+-- The reply of a plan, from an input that is read and the reply of the rest.
 pub then_reply : (names : Option Inputs) (before mid now given : ℕ) (had has : List Asked) (input : Input) (name : List ℕ)
     (next : List ℕ → input.Value → Plan) (bytes : List ℕ) (value : input.Value) (a : Answer)
     → before ≤ mid → IsNamed names name bytes × (length bytes ≤ GREATEST_INPUT_BYTES) → input.reads bytes (Ok value)
@@ -121,13 +121,13 @@ stopped_status k input name a stopped = ap (λ x. x.status) (stopped_reason k in
 
 -- ---- what was asked for
 
--- What was asked for where a plan has this outcome: all that it names, or what came before the input that stopped it.
+-- What was asked for if a plan has this outcome: all inputs that it names, or those up to the one that stopped it.
 pub record AsksFor (known : Known) (plan : Plan) (three : Type 0) : Type 0 where
   pub readings : List Asked
   pub asked : known.asked readings
   pub are : AsksAll plan readings ⊎ (AsksPart plan readings × three)
 
--- Where an input stops the plan it is the last.
+-- An input that stops the plan is the last one.
 stopped_asks : (k : Known) (input : Input) (name : List ℕ) (next : List ℕ → input.Value → Plan) (a : Answer) (three : Type 0)
     → IsStopped k input name a → three → AsksFor k (Reading input name next) three
 stopped_asks k input name next a three (inl (absent, asked, is)) why = record {
@@ -146,7 +146,7 @@ stopped_asks k input name next a three (inr (inr (bytes, refusal, has, last, ask
   are = inr (inl (wholly name bytes, refl, refl), why);
 }
 
--- Where one is read it comes before what is asked for then.
+-- An input that is read comes before those that are asked for after it.
 then_asks : (k : Known) (input : Input) (name bytes : List ℕ) (value : input.Value) (next : List ℕ → input.Value → Plan) (three : Type 0)
     → input.reads bytes (Ok value) → AsksFor (past k (wholly name bytes)) (next bytes value) three → AsksFor k (Reading input name next) three
 then_asks k input name bytes value next three reads later = record {
@@ -174,7 +174,7 @@ fault_asks k (Reading input name next) a (inr (bytes, value, read, fault)) =
 
 -- ---- inputs that fit what was asked for and given
 
--- What came of an input whose reading fits named ones is so of these.
+-- If the reading of an input fits named inputs, its result holds for them.
 longer_told : (o : Option (List ℕ)) (part rest : List ℕ) → o ≡ Some (part ++ rest) → GREATEST_INPUT_BYTES < length part
     → IsSomeAnd o (λ bytes. GREATEST_INPUT_BYTES < length bytes)
 longer_told o part rest is more =
@@ -191,7 +191,7 @@ stopped_told shelf inputs fit input name a (inr (inl (part, longer, more, asked,
 stopped_told shelf inputs fit input name a (inr (inr (bytes, refusal, has, last, asked, reads, is))) =
     inr (inr (bytes, refusal, ((fit (wholly name bytes ∷ []) asked).0, has.1), tt, tt, reads, is))
 
--- The shelf once one more input was asked for.
+-- The shelf after one more input was asked for.
 abbrev shelf_past : Shown → Asked → Shown
 shelf_past shelf one = record {
   names = shelf.names;
@@ -202,7 +202,7 @@ shelf_past shelf one = record {
   has = shelf.has;
 }
 
--- So the outcome is that of the inputs which fit.
+-- So the outcome is the outcome for the inputs that fit.
 fitting_told : (p : Plan) (shelf : Shown) (inputs : Inputs)
     → ((readings : List Asked) → shelf.has ≡ readings_after shelf.had readings → FitAll inputs readings)
     → (a : Answer) → IsOutcomeOf (shown_by shelf) p a → IsOutcomeOf (told inputs) p a
@@ -261,9 +261,10 @@ at_most_one a (inr one) = omega (arith, one)
 abbrev pub ReadsOnce : Input → Type 0
 ReadsOnce input = (bytes : List ℕ) (r s : Result input.Value input.Refusal) → input.reads bytes r → input.reads bytes s → r ≡ s
 
--- Has the work one answer, with such a status, which is 0 or 1 under its condition?
+-- Does the work have at most one answer under its condition for that? Does each answer have such a status, which is 0 or 1 under the other
+-- condition?
 pub record IsLawfulWork (work : Work) : Type 0 where
-  pub one : (a b : Answer) → work.answers a → work.answers b → a ≡ b
+  pub one : work.one → (a b : Answer) → work.answers a → work.answers b → a ≡ b
   pub plain : (a : Answer) → work.answers a → IsPlain a
   pub well : work.ends → (a : Answer) → work.answers a → (a.status ≡ 0) ⊎ (a.status ≡ 1)
 
@@ -282,7 +283,7 @@ not_longer o bytes some short longer =
 absent_not_longer : (o : Option (List ℕ)) → o ≡ None → IsSomeAnd o (λ b. GREATEST_INPUT_BYTES < length b) → ⊥
 absent_not_longer o none longer = subst (λ (x : Option (List ℕ)). IsSomeAnd x (λ b. GREATEST_INPUT_BYTES < length b)) none longer
 
--- Two readings of the same bytes are one.
+-- Two readings of the same bytes are the same.
 same_reading : (input : Input) → ReadsOnce input → (bytes other : List ℕ) (r s : Result input.Value input.Refusal)
     → bytes ≡ other → input.reads bytes r → input.reads other s → r ≡ s
 same_reading input once bytes other r s same p q = once other r s (subst (λ (x : List ℕ). input.reads x r) same p) q
@@ -309,7 +310,7 @@ not_stopped inputs input name bytes value a once read (inr (inr (other, refusal,
     (same_reading input once bytes other (Ok value) (Err refusal)
     (same_Some bytes other (sym read.0.0 ∙ has.0)) read.1 reads) refl
 
--- Where an input is read, the outcome is that of what comes then.
+-- If an input is read, the outcome is that of the rest.
 pub rest_of : (inputs : Inputs) (input : Input) (name : List ℕ) (next : List ℕ → input.Value → Plan) (bytes : List ℕ)
     (value : input.Value) (a : Answer) → ReadsOnce input
     → IsRead (told inputs) input name bytes value → IsOutcomeOf (told inputs) (Reading input name next) a
@@ -345,16 +346,17 @@ stopped_once inputs input name a b once (inr (inr (bytes, refusal, has, last, as
     let both : Err refusal ≡ Err found = same_reading input once bytes other (Err refusal) (Err found) same reads reads' in
     is ∙ ap (λ r. refused input.word (input.reason r)) (same_err refusal found (Err refusal) (Err found) refl refl both) ∙ sym is'
 
--- Named inputs have one outcome.
-pub one_of_plan : (inputs : Inputs) (p : Plan) → IsLawful p → (a b : Answer) → IsOutcomeOf (told inputs) p a
+-- Named inputs have at most one outcome if the plan has at most one answer.
+pub one_of_plan : (inputs : Inputs) (p : Plan) → IsLawful p → HasOneAnswer (told inputs) p → (a b : Answer) → IsOutcomeOf (told inputs) p a
     → IsOutcomeOf (told inputs) p b → a ≡ b
-one_of_plan inputs (Working work) lawful a b out out' = lawful.one a b out.0 out'.0
-one_of_plan inputs (Reading input name next) lawful a b (inl stopped) (inl stopped') =
+one_of_plan inputs (Working work) lawful one a b out out' = lawful.one one a b out.0 out'.0
+one_of_plan inputs (Reading input name next) lawful one a b (inl stopped) (inl stopped') =
     stopped_once inputs input name a b lawful.0 stopped stopped'
-one_of_plan inputs (Reading input name next) lawful a b (inl stopped) (inr (bytes, value, read, last, out)) =
+one_of_plan inputs (Reading input name next) lawful one a b (inl stopped) (inr (bytes, value, read, last, out)) =
     absurd (not_stopped inputs input name bytes value a lawful.0 read stopped)
-one_of_plan inputs (Reading input name next) lawful a b (inr (bytes, value, read, last, out)) other =
-    one_of_plan inputs (next bytes value) (lawful.1 bytes value) a b out (rest_of inputs input name next bytes value b lawful.0 read other)
+one_of_plan inputs (Reading input name next) lawful one a b (inr (bytes, value, read, last, out)) other =
+    one_of_plan inputs (next bytes value) (lawful.1 bytes value) (one bytes value read) a b out
+    (rest_of inputs input name next bytes value b lawful.0 read other)
 
 -- The statuses of answers.
 pub stopped_not_zero : (k : Known) (input : Input) (name : List ℕ) (a : Answer) → IsStopped k input name a → a.status ≡ 0 → ⊥
@@ -373,14 +375,14 @@ fault_status k (Reading input name next) a (inl (one, is)) = ap (λ x. x.status)
 fault_status k (Reading input name next) a (inr (bytes, value, read, fault)) =
     fault_status (past k (wholly name bytes)) (next bytes value) a fault
 
--- Where every input is there and accepted and the work ends well, the status is 0 or 1.
+-- If every input is there and accepted and the work ends well, the status is 0 or 1.
 pub plan_well : (inputs : Inputs) (p : Plan) → IsLawful p → EndsWell (told inputs) p → (a : Answer)
     → IsOutcomeOf (told inputs) p a → (a.status ≡ 0) ⊎ (a.status ≡ 1)
 plan_well inputs (Working work) lawful ends a out = lawful.well ends a out.0
 plan_well inputs (Reading input name next) lawful (bytes, value, read, ends) a out =
     plan_well inputs (next bytes value) (lawful.1 bytes value) ends a (rest_of inputs input name next bytes value a lawful.0 read out)
 
--- Where more bytes were given than an input may have, the outcome is that an input is too long.
+-- If more bytes were given than an input may have, the outcome is that an input is too long.
 pub plan_longer : (shelf : Shown) (p : Plan) → (IsWorking p → ⊥) → (a : Answer) → IsOutcomeOf (shown_by shelf) p a
     → GREATEST_INPUT_BYTES < shelf.given
     → (word : List ℕ) × (a ≡ refused word (codes "toolong"))

@@ -69,7 +69,7 @@ refused_refusal p bytes fault.Shape reads other = reads
 refused_refusal p bytes fault.OtherProtocol reads other = (reads.0, reads.1, reads.2.0, reads.2.1)
 refused_refusal p bytes fault.Memory reads other = absurd (other refl)
 
--- What is written of steps that can be written is read as them.
+-- The text of steps that can be written is read as these steps.
 pub text_is_read : (p : ProtocolName) (bytes : List ℕ) (steps : List StepDef) → IsWritable steps
     → IsRefusalText p (refusal_text (word_of p) (sha256 bytes) steps) (record { steps = steps; digest = sha256 bytes })
 text_is_read p bytes steps w =

@@ -1,4 +1,4 @@
--- Laws of the works on refusals: each has one answer, with a status that is its own, and what status 0 says.
+-- Laws of the works on refusals: each has one answer, with one of its own statuses. And what status 0 says.
 use Rattle.std.proofs.Common.{◌≡◌, ℕ, List, refl, sym, ◌∙◌, ap, subst, inl, inr}
 use Rattle.sporadic_model.specs.SetDef.{SetDef}
 use Rattle.sporadic_model.specs.Accepted.{IsAccepted}
@@ -24,33 +24,29 @@ use Rattle.run_plans.proofs.WorkLaws.{always, fixed_lawful, judged_lawful, tied_
 
 -- ---- the rounds that refuse
 
--- Rounds that end in one way have one answer, whichever way they are told to go.
-at_one : (p : ProtocolName) (digest : List ℕ) (set : SetDef) (n : ℕ) (e : Ending) (a b : EndsIn (refuting (source_of p set)) n e)
-    → refuting_answer p digest set e (refusal_of (refuting (source_of p set)) n e a)
-    ≡ refuting_answer p digest set e (refusal_of (refuting (source_of p set)) n e b)
-at_one p digest set n (Schedulable bounds points) a b = refl
-at_one p digest set n (NotShown i v) a b =
-    ap (λ (steps : List StepDef). refuting_answer p digest set (NotShown i v) steps)
-    (one_refusal (refuting (source_of p set)) (points_once (source_of p set)) n i v a b)
-at_one p digest set n (Wide i) a b = refl
-at_one p digest set n Allowance a b = refl
+-- Rounds that end in one way give the same steps, however this ending is shown.
+same_steps : (p : ProtocolName) (set : SetDef) (n : ℕ) (e : Ending) (a b : EndsIn (refuting (source_of p set)) n e)
+    → refusal_of (refuting (source_of p set)) n e a ≡ refusal_of (refuting (source_of p set)) n e b
+same_steps p set n (Schedulable bounds points) a b = refl
+same_steps p set n (NotShown i v) a b = one_refusal (refuting (source_of p set)) (points_once (source_of p set)) n i v a b
+same_steps p set n (Wide i) a b = refl
+same_steps p set n Allowance a b = refl
 
-at_same : (p : ProtocolName) (digest : List ℕ) (set : SetDef) (n : ℕ) (e g : Ending) → e ≡ g
+-- So there is one answer from the ending and the steps.
+pub answered_once : (p : ProtocolName) (set : SetDef) (n : ℕ) (says : Ending → List StepDef → Answer) (e g : Ending) → e ≡ g
     → (a : EndsIn (refuting (source_of p set)) n e) (b : EndsIn (refuting (source_of p set)) n g)
-    → refuting_answer p digest set e (refusal_of (refuting (source_of p set)) n e a)
-    ≡ refuting_answer p digest set g (refusal_of (refuting (source_of p set)) n g b)
-at_same p digest set n e g same a =
+    → says e (refusal_of (refuting (source_of p set)) n e a) ≡ says g (refusal_of (refuting (source_of p set)) n g b)
+answered_once p set n says e g same a =
     subst (λ (x : Ending). (b : EndsIn (refuting (source_of p set)) n x)
-    → refuting_answer p digest set e (refusal_of (refuting (source_of p set)) n e a)
-    ≡ refuting_answer p digest set x (refusal_of (refuting (source_of p set)) n x b)) same
-    (λ b. at_one p digest set n e a b)
+    → says e (refusal_of (refuting (source_of p set)) n e a) ≡ says x (refusal_of (refuting (source_of p set)) n x b)) same
+    (λ b. ap (says e) (same_steps p set n e a b))
 
 one_refutation : (p : ProtocolName) (digest : List ℕ) (set : SetDef) (n : ℕ) (a b : Answer) → IsRefutation p digest set n a
     → IsRefutation p digest set n b → a ≡ b
 one_refutation p digest set n a b (e, ends, is) (g, ends', is') =
-    is ∙ at_same p digest set n e g (refuting_once (source_of p set) n e g ends ends') ends ends' ∙ sym is'
+    is ∙ answered_once p set n (refuting_answer p digest set) e g (refuting_once (source_of p set) n e g ends ends') ends ends' ∙ sym is'
 
--- Its status tells how the rounds ended.
+-- The status of the answer tells how the rounds ended.
 pub refuting_tells : (p : ProtocolName) (digest : List ℕ) (set : SetDef) (e : Ending) (steps : List StepDef) (a : Answer)
     → a ≡ refuting_answer p digest set e steps → TellsEnding e a
 refuting_tells p digest set (Schedulable bounds points) steps a is = inr (ap (λ x. x.status) is)
@@ -64,12 +60,12 @@ refutation_tells p digest set n a (e, ends, is) = refuting_tells p digest set e 
 
 pub refutation_lawful : (p : ProtocolName) (digest : List ℕ) (set : SetDef) (n : ℕ) → IsLawfulWork (refutation_of p digest set n)
 refutation_lawful p digest set n = record {
-  one = one_refutation p digest set n;
+  one = λ always. one_refutation p digest set n;
   plain = λ a is. told_plain is.0 a (refutation_tells p digest set n a is);
   well = λ well a is. told_well (EndsIn (refuting (source_of p set)) n) is.0 a (refutation_tells p digest set n a is) is.1 well.0 well.1;
 }
 
--- With status 0 it is the text of a refusal of these rounds, which holds.
+-- With status 0 the answer is the text of a refusal of these rounds, and this refusal holds.
 pub record RefusedSo (p : ProtocolName) (digest : List ℕ) (set : SetDef) (n : ℕ) (a : Answer) : Type 0 where
   pub task : ℕ
   pub value : ℕ

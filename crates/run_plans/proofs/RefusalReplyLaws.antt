@@ -1,4 +1,4 @@
--- What is replied to `refute`, from what came of it, and what is known of a refusal that is read.
+-- The reply to `refute`, from its result, and what is known of a refusal that is read.
 use Rattle.std.proofs.Common.{ℕ, List, ◌∙◌, ap, Ok, Err}
 use Rattle.std.specs.Prelude.{Result}
 use Rattle.sporadic_model.specs.SetDef.{SetDef}

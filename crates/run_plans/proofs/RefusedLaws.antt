@@ -22,7 +22,7 @@ use Rattle.run_plans.proofs.SoundLaws.{accepted_of}
 use Rattle.run_plans.proofs.ShownLaws.{some_read}
 use Rattle.run_plans.proofs.RefusalLaws.{RefusedSo, refused_at_zero, confirmed_at_zero}
 
--- What the outcome of `refute` with status 0 is: the text of a refusal that holds.
+-- The outcome of `refute` with status 0 is the text of a refusal that holds.
 pub record WroteRefusal (known : Known) (protocol : ProtocolName) (name : List ℕ) (allowance : ℕ) (a : Answer) : Type 0 where
   pub bytes : List ℕ
   pub set : SetDef
@@ -61,7 +61,7 @@ proved_refutation call protocol name allowance a out gives zero =
       none = λ s fits. named_none_fits protocol w.set w.so.steps s w.so.holds fits;
     }
 
--- What the outcome of `confirm` with status 0 is: that the refusal is of the set, and holds.
+-- The outcome of `confirm` with status 0 is that the refusal is of the set, and holds.
 record FoundHolding (known : Known) (protocol : ProtocolName) (name cert : List ℕ) : Type 0 where
   bytes : List ℕ
   set : SetDef

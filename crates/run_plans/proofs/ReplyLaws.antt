@@ -1,4 +1,4 @@
--- What is replied, from what came of inputs and of the work.
+-- The reply, from the results of the inputs and of the work.
 use Rattle.std.proofs.Common.{◌≡◌, ℕ, List, ◌∷◌, refl, sym, ◌∙◌, subst, inl, inr, Ok, Err, map}
 use Rattle.std.specs.Prelude.{Option, Result}
 use Rattle.outside_ports.specs.Names.{Inputs}
@@ -29,7 +29,7 @@ use Rattle.command_inputs.specs.declared.halt.Halt.{Halt}
 use Rattle.command_inputs.specs.declared.halt.Halt.TheVariants as halt
 use Rattle.run_plans.proofs.PlanLaws.{then_reply}
 
--- What is said of a halt may be said in other words.
+-- The answer of a halt has each property that follows from one that it has.
 pub halts_also : (P Q : Answer → Type 0) → ((a : Answer) → P a → Q a) → (h : Halt) → HaltsWith h P → HaltsWith h Q
 halts_also P Q f (halt.Reply r) says = f (reply_seen r) says
 halts_also P Q f halt.Memory says = tt
@@ -38,7 +38,7 @@ pub answered_also : (P Q : Answer → Type 0) → ((a : Answer) → P a → Q a)
 answered_also P Q f (Ok r) says = f (reply_seen r) says
 answered_also P Q f (Err h) says = halts_also P Q f h says
 
--- What is answered of an input of which nothing is got is the reply of the plan.
+-- The answer to an input that gives nothing is the reply of the plan.
 ungot_reply : (shelf : Shown) (input : Input) (name : List ℕ) (next : List ℕ → input.Value → Plan) (a : Answer)
     → IsUngot shelf input name a → IsReplyOf shelf (Reading input name next) a
 ungot_reply shelf input name next a (inl (rose, small, asked, is)) = inl (rose, small, inl (asked, is))
@@ -50,7 +50,7 @@ pub replied_ungot : (shelf : Shown) (input : Input) (name : List ℕ) (next : Li
 replied_ungot shelf input name next h says = halts_also (IsUngot shelf input name)
     (IsReplyOf shelf (Reading input name next)) (ungot_reply shelf input name next) h says
 
--- What is replied once an input is got is the reply of the plan.
+-- The reply after an input was got is the reply of the plan.
 pub replied_got : (old mid new : ShelfDef) (input : Input) (name : List ℕ) (next : List ℕ → input.Value → Plan) (value : input.Value)
     (r : Result Reply Halt) → Keeps old mid → (given : IsGiven (shown old mid) input name value)
     → (IsWorking (next given.0 value) → new.given ≡ mid.given)
@@ -84,7 +84,7 @@ replied_got old mid new input name next value r keeps (bytes, read, size, asked)
             has = new.readings;
           }) (next bytes value) a) asked is)
 
--- The same where the work comes next, which takes nothing from the shelf.
+-- The same if the work comes next. It takes nothing from the shelf.
 pub replied_work : (old new : ShelfDef) (input : Input) (name : List ℕ) (next : List ℕ → input.Value → Plan) (value : input.Value)
     (says : Answer → Type 0) (r : Result Reply Halt) → Keeps old new → (given : IsGiven (shown old new) input name value)
     → ((a : Answer) → says a → IsOutcomeOf (shown_by (shown new new)) (next given.0 value) a)
@@ -93,7 +93,7 @@ replied_work old new input name next value says r keeps given works answered =
     replied_got old new new input name next value r keeps given (λ w. refl)
     (answered_also says (IsReplyOf (shown new new) (next given.0 value)) (λ a is. inr (works a is)) r answered)
 
--- The same of a set that is got with the digest of its bytes, where the rest of the plan, or the work, is given the digest.
+-- The same for a set that is got with the digest of its bytes. The rest of the plan, or the work, is given the digest.
 pub replied_tied : (old mid new : ShelfDef) (protocol : ProtocolName) (name : List ℕ) (next : List ℕ → SetDef → Plan)
     (got : SetDef × List ℕ) (r : Result Reply Halt) → Keeps old mid → IsGotTied (shown old mid) protocol name (Ok got)
     → ((digest : List ℕ) (set : SetDef) → IsWorking (next digest set) → ⊥)
@@ -113,7 +113,7 @@ replied_tied_work old new protocol name work got r keeps (given, tied) says =
     ((work (sha256 given.0) got.0).answers) r keeps given (λ (a : Answer) is. (is, refl))
     (subst (λ (digest : List ℕ). Answered r ((work digest got.0).answers)) tied says)
 
--- The answer to an analysis that ends so is the outcome of the analysis.
+-- The answer to an analysis with this result is the outcome of the analysis.
 analysis_of_verdict : (protocol : ProtocolName) (digest : List ℕ) (set : SetDef) (allowance : ℕ) (r : Result Verdict Stop) (a : Answer)
     → Answers r (source_of protocol set) allowance → RepliesTo protocol digest set r a
     → IsAnalysis protocol digest set allowance a
@@ -129,7 +129,7 @@ pub analysis_replied : (protocol : ProtocolName) (digest : List ℕ) (set : SetD
     → RepliesTo protocol digest set r (reply_seen reply) → IsAnalysis protocol digest set allowance (reply_seen reply)
 analysis_replied protocol digest set allowance r reply ends is = analysis_of_verdict protocol digest set allowance r (reply_seen reply) ends is
 
--- The task that an analysis names is one of the set.
+-- An analysis names a task of the set.
 pub names_task : (protocol : ProtocolName) (set : SetDef) (allowance : ℕ) (r : Result Verdict Stop)
     → Answers r (source_of protocol set) allowance → NamesTask set r
 names_task protocol set allowance (Ok (verdict.Schedulable certificate)) ends = tt

@@ -19,20 +19,20 @@ use Rattle.named_laws.proofs.EachName.{named_above, named_no_columns}
 use Rattle.response_fixpoint.proofs.RunLaws.{rounds_never_wide}
 use Rattle.program_sources.specs.Fitting.{AreFitting}
 use Rattle.command_inputs.specs.Known.{Answer, refused, Shown, shown_by, told, AreInputs}
-use Rattle.run_plans.specs.Plans.{Working, IsWorking, IsOutcomeOf, AsksAll, AsksPart}
-use Rattle.command_words.specs.Words.{Form, Analyse, Refute, Check, Confirm, Audit, form_of}
-use Rattle.command_words.specs.Spelled.{analyse_words, refute_words, check_words, confirm_words}
+use Rattle.run_plans.specs.Plans.{Working, IsWorking, HasOneAnswer, IsOutcomeOf, AsksAll, AsksPart}
+use Rattle.command_words.specs.Words.{Form, Analyse, Refute, Settle, Check, Confirm, Upgrade, Audit, form_of}
+use Rattle.command_words.specs.Spelled.{analyse_words, refute_words, settle_words, check_words, confirm_words}
 use Rattle.command_words.proofs.SpelledLaws.{analyse_has_form, analyse_is_form, refute_has_form, check_is_form, confirm_is_form}
-use Rattle.command_words.proofs.SpelledLaws.{audit_is_form}
+use Rattle.command_words.proofs.SpelledLaws.{settle_has_form, upgrade_is_form, audit_is_form}
 use Rattle.command_inputs.specs.Inputs.{set_input}
 use Rattle.run_plans.specs.Commands.{ending_answer, IsAnalysis, analysis_of, plan_of}
-use Rattle.run_plans.specs.Outcome.{refused_words, IsOutcome, IsReplyOf, IsReply}
+use Rattle.run_plans.specs.Outcome.{refused_words, IsOutcome, HasOneOutcome, IsReplyOf, IsReply}
 use Rattle.run_plans.specs.Headline.{Call, Asks, RanOut, WritesSchedulable, Analyses, IsHeadline, IsProvedAnalysis, IsProvedCheck}
-use Rattle.run_plans.specs.Run.{shelf_of, Gives, FailsToWrite, Replies, GivesOutcome, AsksInOrder, IsRun, RoundsEnd, IsWideEnding, IsAllowanceEnding}
+use Rattle.run_plans.specs.Run.{shelf_of, Gives, FailsToWrite, Replies, GivesOutcome, AsksInOrder, IsRun, RoundsEnd, IsWideEnding, IsShortEnding}
 use Rattle.run_plans.proofs.PlanLaws.{not_zero, outcome_told, outcome_asks, fault_asks, rest_of, one_of_plan, plan_plain, plan_well}
-use Rattle.run_plans.proofs.PlanLaws.{plan_longer, fault_status}
+use Rattle.run_plans.proofs.PlanLaws.{plan_longer, fault_status, at_most_one}
 use Rattle.run_plans.proofs.InputLaws.{set_reads_once}
-use Rattle.run_plans.proofs.CommandLaws.{lawful, ending_tells, only_wide, only_short}
+use Rattle.run_plans.proofs.CommandLaws.{lawful, of_form, ending_tells, only_wide, only_short}
 use Rattle.run_plans.proofs.WorkLaws.{told_wide}
 use Rattle.run_plans.proofs.SoundLaws.{sound_outcome}
 use Rattle.run_plans.proofs.ShownLaws.{best_writes, proved_analysis, bounded_analysis, proved_check}
@@ -41,6 +41,9 @@ use Rattle.run_plans.proofs.OnClocks.{analysis_on_clocks, check_on_clocks, not_o
 use Rattle.run_plans.proofs.KeptLaws.{proved_audit}
 use Rattle.run_plans.proofs.RefusedLaws.{proved_refutation, proved_confirmation}
 use Rattle.run_plans.specs.Refused.{IsProvedRefutation, IsProvedConfirmation}
+use Rattle.run_plans.specs.Settled.{SettlesExactly, IsSettling, IsProvedSettlement}
+use Rattle.run_plans.proofs.SettledLaws.{proved_settlement, proved_settled_refusal, outcome_exactly}
+use Rattle.run_plans.proofs.UpgradedLaws.{proved_upgrade}
 use Rattle.run_plans.proofs.SetTextLaws.{told_reads}
 
 -- What follows from a reply to words of this form, or of none.
@@ -49,11 +52,11 @@ pub record Replied (shelf : Shown) (o : Option Form) (a : Answer) : Type 0 where
   pub none : o ≡ None → a ≡ refused_words
   pub four : a.status ≡ 4 → Rose shelf.before shelf.now
   pub five : a.status ≡ 5 → (form : Form) × (o ≡ Some form) × RoundsEnd (shown_by shelf) form IsWideEnding
-  pub six : a.status ≡ 6 → (form : Form) × (o ≡ Some form) × RoundsEnd (shown_by shelf) form IsAllowanceEnding
+  pub six : a.status ≡ 6 → (form : Form) × (o ≡ Some form) × RoundsEnd (shown_by shelf) form (IsShortEnding form)
   pub most : a.status ≤ 6
   pub long : (form : Form) → o ≡ Some form → (IsWorking (plan_of form) → ⊥) → GREATEST_INPUT_BYTES < shelf.given
       → (word : List ℕ) × (a ≡ refused word (codes "toolong"))
-  pub shows : (form : Form) → o ≡ Some form → a.status ≡ 0 → IsOutcomeOf (shown_by shelf) (plan_of form) a
+  pub shows : (form : Form) → o ≡ Some form → (a.status ≡ 0) ⊎ (a.status ≡ 1) → IsOutcomeOf (shown_by shelf) (plan_of form) a
   pub asks : (readings : List Asked) × (shown_by shelf).asked readings × MatchOption o (readings ≡ [])
       (λ form. AsksAll (plan_of form) readings ⊎ (AsksPart (plan_of form) readings × ((a.status ≡ 3) ⊎ (a.status ≡ 4))))
   pub outcome : (inputs : Inputs) → AreInputs shelf inputs
@@ -72,7 +75,7 @@ replied shelf None a (is, none) =
       six = λ e. absurd (omega (arith, two, e));
       most = omega (arith, two);
       long = λ form some more long. absurd (none-some form some);
-      shows = λ form some zero. absurd (none-some form some);
+      shows = λ form some verdict. absurd (none-some form some);
       asks = ([], none, refl);
       outcome = λ inputs tells. inl is;
     }
@@ -86,7 +89,7 @@ replied shelf (Some form) a (inl (rose, small, fault)) =
       six = λ e. absurd (omega (arith, four, e));
       most = omega (arith, four);
       long = λ other some more long. absurd (omega (arith, small, long));
-      shows = λ other some zero. absurd (omega (arith, four, zero));
+      shows = λ other some verdict. absurd (omega (arith, four, at_most_one a verdict));
       asks = (
           let asks = fault_asks (shown_by shelf) (plan_of form) a fault in
           (asks.readings, asks.asked, elim asks.are [ inl all ↦ inl all | inr (part, why) ↦ inr (part, inr four) ]));
@@ -104,29 +107,26 @@ replied shelf (Some form) a (inr out) =
       long = λ other some more long. (
           let same : form ≡ other = same_Some form other some in
           plan_longer shelf (plan_of form) (λ w. more (subst (λ (x : Form). IsWorking (plan_of x)) same w)) a out long);
-      shows = λ other some zero. subst (λ (x : Form). IsOutcomeOf (shown_by shelf) (plan_of x) a) (same_Some form other some) out;
+      shows = λ other some verdict. subst (λ (x : Form). IsOutcomeOf (shown_by shelf) (plan_of x) a) (same_Some form other some) out;
       asks = (
           let asks = outcome_asks (shown_by shelf) (plan_of form) a out in
           (asks.readings, asks.asked, elim asks.are [ inl all ↦ inl all | inr (part, three) ↦ inr (part, inl three) ]));
       outcome = λ inputs are. inl (outcome_told (plan_of form) shelf inputs are a out);
     }
 
--- Words and named inputs have one outcome.
+-- Words and named inputs have at most one outcome if their plan has at most one answer.
 one_of_form : (inputs : Inputs) (o : Option Form) (a b : Answer)
+    → MatchOption o (Unit {0}) (λ form. HasOneAnswer (told inputs) (plan_of form))
     → MatchOption o (a ≡ refused_words) (λ form. IsOutcomeOf (told inputs) (plan_of form) a)
     → MatchOption o (b ≡ refused_words) (λ form. IsOutcomeOf (told inputs) (plan_of form) b) → a ≡ b
-one_of_form inputs None a b p q = p ∙ sym q
-one_of_form inputs (Some form) a b p q = one_of_plan inputs (plan_of form) (lawful form) a b p q
+one_of_form inputs None a b one p q = p ∙ sym q
+one_of_form inputs (Some form) a b one p q = one_of_plan inputs (plan_of form) (lawful form) one a b p q
 
-pub one_outcome : (inputs : Inputs) (words : List (List ℕ)) (a b : Answer) → IsOutcome inputs words a → IsOutcome inputs words b → a ≡ b
-one_outcome inputs words a b p q = one_of_form inputs (form_of words) a b p q
+one_outcome : (inputs : Inputs) (words : List (List ℕ)) (a b : Answer) → HasOneOutcome inputs words → IsOutcome inputs words a
+    → IsOutcome inputs words b → a ≡ b
+one_outcome inputs words a b one p q = one_of_form inputs (form_of words) a b one p q
 
-pub of_form : (inputs : Inputs) (words : List (List ℕ)) (form : Form) (a : Answer) → form_of words ≡ Some form
-    → IsOutcome inputs words a → IsOutcomeOf (told inputs) (plan_of form) a
-of_form inputs words form a is out =
-    subst (λ (o : Option Form). MatchOption o (a ≡ refused_words) (λ f. IsOutcomeOf (told inputs) (plan_of f) a)) is out
-
--- What a call that analyses a set answers, where it gives its outcome.
+-- The answer of a call that analyses a set, if the call gives its outcome.
 record Ended (protocol : ProtocolName) (digest : List ℕ) (set : SetDef) (allowance : ℕ) (a : Answer) : Type 0 where
   ending : Ending
   ends : EndsIn (rounds_of (source_of protocol set)) allowance ending
@@ -152,7 +152,7 @@ writes call protocol digest set allowance bounds duals a accepted ends is gives 
     let moved : Gives call (ending_answer protocol digest set (Schedulable bounds duals)) = subst (λ (x : Answer). Gives call x) is gives in
     best_writes call protocol digest set (record { bounds = bounds; duals = duals }) accepted best moved.0 moved.1
 
--- The headline's two halves without its last premise.
+-- The headline's fields `least` and `none`, for a call that gives its answer.
 least_of : (call : Call) (protocol : ProtocolName) (digest : List ℕ) (set : SetDef) (n : ℕ) (e : Ending) (a : Answer)
     → IsAccepted set → EndsIn (rounds_of (source_of protocol set)) n e → a ≡ ending_answer protocol digest set e → Gives call a → call.status ≡ 0
     → WritesSchedulable call protocol digest set
@@ -198,7 +198,7 @@ never_five protocol digest set n a e nothing five =
     rounds_never_wide (source_of protocol set) n wide.0 (named_no_columns protocol set nothing)
     (subst (λ (x : Ending). EndsIn (rounds_of (source_of protocol set)) n x) wide.1 e.ends)
 
--- What is so of a call whose status is that of a fault or of want of memory, for which there is a cause.
+-- The headline for a call that ends with a fault or without memory, from its cause.
 other_headline : (call : Call) (protocol : ProtocolName) (digest : List ℕ) (set : SetDef) → ((call.status ≡ 4) ⊎ RanOut call)
     → (Rose call.shelf_before.faults call.shelf_now.faults ⊎ (Rose call.sink_before.faults call.sink_now.faults ⊎ RanOut call))
     → IsHeadline call protocol digest set
@@ -214,7 +214,25 @@ other_headline call protocol digest set status cause = record {
   apart call n (inl f) four seven is = four (sym is ∙ f)
   apart call n (inr ran) four seven is = seven (sym is ∙ ran.status)
 
--- What is so of the readings where one status has a cause is so where another one has it then.
+-- If a count of faults rose or memory ran out, `SettlesExactly` holds, since one of its premises fails.
+caused : (call : Call) (protocol : ProtocolName) (digest : List ℕ) (set : SetDef)
+    → (Rose call.shelf_before.faults call.shelf_now.faults ⊎ (Rose call.sink_before.faults call.sink_now.faults ⊎ RanOut call))
+    → SettlesExactly call protocol digest set
+caused call protocol digest set (inl shelf) no_shelf no_sink no_want no_wide no_allowance = absurd (no_shelf shelf)
+caused call protocol digest set (inr (inl sink)) no_shelf no_sink no_want no_wide no_allowance = absurd (no_sink sink)
+caused call protocol digest set (inr (inr ran)) no_shelf no_sink no_want no_wide no_allowance = absurd (no_want ran)
+
+-- The same for a call that settles a set.
+other_settling : (call : Call) (n : ℕ) → call.status ≡ n → 4 ≤ n
+    → (Rose call.shelf_before.faults call.shelf_now.faults ⊎ (Rose call.sink_before.faults call.sink_now.faults ⊎ RanOut call))
+    → IsSettling call
+other_settling call n is most cause = record {
+  least = λ protocol name more words zero. absurd (omega (arith, is, most, zero));
+  refused = λ protocol name more words one. absurd (omega (arith, is, most, one));
+  exactly = λ protocol set settles. caused call protocol (sha256 settles.read.bytes) set cause;
+}
+
+-- Readings that fit one status fit another, if the other is 3 or 4 whenever the first is.
 asks_with : (o : Option Form) (readings : List Asked) (m n : ℕ) → ((m ≡ 3) ⊎ (m ≡ 4) → (n ≡ 3) ⊎ (n ≡ 4))
     → MatchOption o (readings ≡ []) (λ form. AsksAll (plan_of form) readings ⊎ (AsksPart (plan_of form) readings × ((m ≡ 3) ⊎ (m ≡ 4))))
     → MatchOption o (readings ≡ []) (λ form. AsksAll (plan_of form) readings ⊎ (AsksPart (plan_of form) readings × ((n ≡ 3) ⊎ (n ≡ 4))))
@@ -235,8 +253,8 @@ gave_run call replies r gives =
       faults = λ e. inl (r.four (sym is ∙ e));
       want = λ e. (let most = r.most in absurd (omega (arith, most, is, e)));
       asked = inl (asked_of r.asks);
-      exactly = λ inputs b has out. elim (r.outcome inputs has) [
-        | inl mine ↦ inl (subst (λ (x : Answer). Gives call x) (one_outcome inputs call.words a b mine out) gives)
+      exactly = λ inputs b has one out. elim (r.outcome inputs has) [
+        | inl mine ↦ inl (subst (λ (x : Answer). Gives call x) (one_outcome inputs call.words a b one mine out) gives)
         | inr fault ↦ inr (inl (is ∙ fault.1))
       ];
       wide = λ e. r.five (sym is ∙ e);
@@ -266,7 +284,7 @@ gave_run call replies r gives =
       bounding = record {
         analysed = λ protocol name more words zero. (
             let form = analyse_has_form call.words protocol name more words (some_form zero) in
-            bounded_analysis call protocol name form.0 a (r.shows (Analyse protocol name form.0) form.1 (sym is ∙ zero)) gives zero);
+            bounded_analysis call protocol name form.0 a (r.shows (Analyse protocol name form.0) form.1 (inl (sym is ∙ zero))) gives zero);
         checked = λ protocol name cert words zero. (
             let c = checked protocol name cert words zero in
             let p = c.proved in (p.bytes, p.named, (check_bounds call protocol name cert p, c.asked)));
@@ -274,16 +292,26 @@ gave_run call replies r gives =
       on_clocks = record {
         analysed = λ protocol name more words zero. (
             let form = analyse_has_form call.words protocol name more words (some_form zero) in
-            analysis_on_clocks call protocol name form.0 a (r.shows (Analyse protocol name form.0) form.1 (sym is ∙ zero)) gives zero);
+            analysis_on_clocks call protocol name form.0 a (r.shows (Analyse protocol name form.0) form.1 (inl (sym is ∙ zero))) gives zero);
         checked = λ protocol name cert words zero. (
             let c = checked protocol name cert words zero in
             let p = c.proved in (p.bytes, p.named, (check_on_clocks call protocol name cert p, c.asked)));
       };
       audited = λ protocol name cert jobs rows words zero. proved_audit call protocol name cert jobs rows a
-          (r.shows (Audit protocol name cert jobs rows) (audit_is_form call.words protocol name cert jobs rows words) (sym is ∙ zero))
+          (r.shows (Audit protocol name cert jobs rows) (audit_is_form call.words protocol name cert jobs rows words) (inl (sym is ∙ zero)))
           gives zero;
       refuted = refuted;
       confirmed = confirmed;
+      settled = record {
+        least = least;
+        refused = refused;
+        exactly = λ protocol set settles. elim (r.outcome settles.inputs settles.has) [
+          | inl mine ↦ λ shelf sink ran. outcome_exactly call protocol set settles a mine gives
+          | inr fault ↦ caused call protocol (sha256 settles.read.bytes) set (inl fault.0)
+        ];
+      };
+      upgraded = λ protocol name cert words zero. proved_upgrade call protocol name cert a
+          (r.shows (Upgrade protocol name cert) (upgrade_is_form call.words protocol name cert words) (inl (sym is ∙ zero))) gives zero;
     } where
       asked_of : (readings : List Asked) × Asks call readings × MatchOption (form_of call.words) (readings ≡ [])
           (λ form. AsksAll (plan_of form) readings
@@ -298,29 +326,44 @@ gave_run call replies r gives =
       some_form : call.status ≡ 0 → form_of call.words ≡ None → ⊥
       some_form zero none = let two : call.status ≡ 2 = gives.0 ∙ ap (λ x. x.status) (r.none none) in absurd (omega (arith, two, zero))
 
+      least : (protocol : ProtocolName) (name : List ℕ) (more : List (List ℕ)) → call.words ≡ settle_words protocol name more
+          → call.status ≡ 0 → IsProvedSettlement call protocol name
+      least protocol name more words zero =
+          let form = settle_has_form call.words protocol name more words (some_form zero) in
+          proved_settlement call protocol name form.0 replies.reply
+          (r.shows (Settle protocol name form.0) form.1 (inl (sym gives.0 ∙ zero))) gives zero
+
+      refused : (protocol : ProtocolName) (name : List ℕ) (more : List (List ℕ)) → call.words ≡ settle_words protocol name more
+          → call.status ≡ 1 → IsProvedRefutation call protocol name
+      refused protocol name more words one =
+          let form = settle_has_form call.words protocol name more words
+          (λ none. (let two : call.status ≡ 2 = gives.0 ∙ ap (λ x. x.status) (r.none none) in absurd (omega (arith, two, one)))) in
+          proved_settled_refusal call protocol name form.0 replies.reply
+          (r.shows (Settle protocol name form.0) form.1 (inr (sym gives.0 ∙ one))) gives one
+
       analysed : (protocol : ProtocolName) (name : List ℕ) (more : List (List ℕ)) → call.words ≡ analyse_words protocol name more
           → call.status ≡ 0 → IsProvedAnalysis call protocol name
       analysed protocol name more words zero =
           let form = analyse_has_form call.words protocol name more words (some_form zero) in
           proved_analysis call protocol name form.0 replies.reply
-          (r.shows (Analyse protocol name form.0) form.1 (sym gives.0 ∙ zero)) gives zero
+          (r.shows (Analyse protocol name form.0) form.1 (inl (sym gives.0 ∙ zero))) gives zero
 
       checked : (protocol : ProtocolName) (name cert : List ℕ) → call.words ≡ check_words protocol name cert
           → call.status ≡ 0 → IsProvedCheck call protocol name cert
       checked protocol name cert words zero = proved_check call protocol name cert replies.reply
-          (r.shows (Check protocol name cert) (check_is_form call.words protocol name cert words) (sym gives.0 ∙ zero)) gives zero
+          (r.shows (Check protocol name cert) (check_is_form call.words protocol name cert words) (inl (sym gives.0 ∙ zero))) gives zero
 
       refuted : (protocol : ProtocolName) (name : List ℕ) (more : List (List ℕ)) → call.words ≡ refute_words protocol name more
           → call.status ≡ 0 → IsProvedRefutation call protocol name
       refuted protocol name more words zero =
           let form = refute_has_form call.words protocol name more words (some_form zero) in
           proved_refutation call protocol name form.0 replies.reply
-          (r.shows (Refute protocol name form.0) form.1 (sym gives.0 ∙ zero)) gives zero
+          (r.shows (Refute protocol name form.0) form.1 (inl (sym gives.0 ∙ zero))) gives zero
 
       confirmed : (protocol : ProtocolName) (name cert : List ℕ) → call.words ≡ confirm_words protocol name cert
           → call.status ≡ 0 → IsProvedConfirmation call protocol name cert
       confirmed protocol name cert words zero = proved_confirmation call protocol name cert replies.reply
-          (r.shows (Confirm protocol name cert) (confirm_is_form call.words protocol name cert words) (sym gives.0 ∙ zero)) gives zero
+          (r.shows (Confirm protocol name cert) (confirm_is_form call.words protocol name cert words) (inl (sym gives.0 ∙ zero))) gives zero
 
       well : (inputs : Inputs) (form : Form) → form_of call.words ≡ Some form
           → IsOutcome inputs call.words replies.reply → (replies.reply.status ≡ 0) ⊎ (replies.reply.status ≡ 1)
@@ -340,7 +383,7 @@ cut_run call replies r fails =
       faults = λ e. inr fails.rose;
       want = λ e. absurd (omega (arith, four, e));
       asked = inl (asked_cut r.asks);
-      exactly = λ inputs b has out. inr (inl four);
+      exactly = λ inputs b has one out. inr (inl four);
       wide = λ e. absurd (omega (arith, four, e));
       never_wide = λ protocol set analyses nothing e. absurd (omega (arith, four, e));
       allowance = λ e. absurd (omega (arith, four, e));
@@ -357,6 +400,8 @@ cut_run call replies r fails =
       audited = λ protocol name cert jobs rows words zero. absurd (omega (arith, four, zero));
       refuted = λ protocol name more words zero. absurd (omega (arith, four, zero));
       confirmed = λ protocol name cert words zero. absurd (omega (arith, four, zero));
+      settled = other_settling call 4 four (omega arith) (inr (inl fails.rose));
+      upgraded = λ protocol name cert words zero. absurd (omega (arith, four, zero));
     } where
       asked_cut : (readings : List Asked) × Asks call readings × MatchOption (form_of call.words) (readings ≡ [])
           (λ form. AsksAll (plan_of form) readings
@@ -364,7 +409,7 @@ cut_run call replies r fails =
       asked_cut (readings, asked, are) =
           (readings, asked, asks_with (form_of call.words) readings replies.reply.status call.status (λ why. inr fails.status) are)
 
--- A call that had no memory.
+-- A call that ran out of memory.
 pub run_ran_out : (call : Call) → RanOut call → IsRun call
 run_ran_out call ran =
     let seven : call.status ≡ 7 = ran.status in
@@ -375,7 +420,7 @@ run_ran_out call ran =
       faults = λ e. absurd (omega (arith, seven, e));
       want = λ e. ran;
       asked = inr ran;
-      exactly = λ inputs b has out. inr (inr ran);
+      exactly = λ inputs b has one out. inr (inr ran);
       wide = λ e. absurd (omega (arith, seven, e));
       never_wide = λ protocol set analyses nothing e. absurd (omega (arith, seven, e));
       allowance = λ e. absurd (omega (arith, seven, e));
@@ -392,14 +437,16 @@ run_ran_out call ran =
       audited = λ protocol name cert jobs rows words zero. absurd (omega (arith, seven, zero));
       refuted = λ protocol name more words zero. absurd (omega (arith, seven, zero));
       confirmed = λ protocol name cert words zero. absurd (omega (arith, seven, zero));
+      settled = other_settling call 7 seven (omega arith) (inr (inr ran));
+      upgraded = λ protocol name cert words zero. absurd (omega (arith, seven, zero));
     }
 
--- What the sink promised for a reply that is this long.
+-- What the sink promised for a reply of this length.
 abbrev pub HasRoom : Call → Answer → Type 0
 HasRoom call a = length a.text ≤ call.sink_before.room → Gives call a
     × (call.sink_before.room ≤ call.sink_now.room + length a.text) × (call.sink_now.faults ≡ call.sink_before.faults)
 
--- What was replied went out whole, or it did not.
+-- The reply went out whole, or it didn't.
 pub run_replied : (call : Call) (a : Answer) → IsReply (shelf_of call) call.words a
     → (Gives call a ⊎ FailsToWrite call a) → HasRoom call a → IsRun call
 run_replied call a reply out room =
@@ -407,7 +454,7 @@ run_replied call a reply out room =
     let replies : Replies call = record { reply = a; is = reply; out = out; room = room; longer = r.long } in
     elim out [ inl gives ↦ gave_run call replies r gives | inr fails ↦ cut_run call replies r fails ]
 
--- The same from what writing the text promises.
+-- The same, from what writing the text promises.
 pub run_written : (call : Call) (a : Answer) → IsReply (shelf_of call) call.words a → Gives call a
     → (length a.text ≤ call.sink_before.room
     → (call.sink_before.room ≤ call.sink_now.room + length a.text) × (call.sink_now.faults ≡ call.sink_before.faults)) → IsRun call

@@ -23,7 +23,7 @@ not_missing : (o : Option ℕ) → IsSome o → is_none o ≡ false
 not_missing None some = sym some
 not_missing (Some k) some = refl
 
--- Where the homes are there none is missed.
+-- If the homes are there, none is missing.
 none_homeless : (p : Protocol) (set : SetDef) → HasHomesFor p set → first_homeless set p ≡ None
 none_homeless protocol.Mpcp set homes = refl
 none_homeless protocol.FmlpPlus set homes = refl
@@ -34,12 +34,12 @@ pub reads_text : (p : ProtocolName) (bytes : List ℕ) (set : SetDef) → IsSetT
 reads_text p bytes set t =
     ((t.value, t.is_value, (t.form, subst IsAccepted t.set_is t.accepted, t.set_is)), none_homeless (homes_as p) set t.homes)
 
--- So what a call read under a name is what its inputs hold, where these are their bytes.
+-- So what a call read under a name is what its inputs hold, if these are the bytes of the name.
 pub told_reads : (call : Call) (inputs : Inputs) (p : ProtocolName) (name : List ℕ) (set : SetDef) (read : ReadsSome call p name set)
     → bytes_of inputs name ≡ Some read.bytes → IsRead (told inputs) (set_input p) name read.bytes set
 told_reads call inputs p name set read named = ((named, read.short), reads_text p read.bytes set read.text)
 
--- Where no home is missed all are there.
+-- If no home is missing, all are there.
 no_place : (b : Bool) (n : ℕ) → (if b then Some n else None) ≡ None → b ≡ false
 no_place true n e = cc
 no_place false n e = refl
@@ -59,7 +59,7 @@ homes_there protocol.Mpcp set none = tt
 homes_there protocol.FmlpPlus set none = tt
 homes_there protocol.Dpcp set none = each_home set none
 
--- What is read is the text of a set.
+-- Bytes that are read as a set are the text of this set.
 pub is_text : (p : ProtocolName) (bytes : List ℕ) (set : SetDef) → ReadsSet p bytes (Ok set) → IsSetText p bytes set
 is_text p bytes set ((value, is_value, (form, accepted, same)), none) = record {
   value = value;

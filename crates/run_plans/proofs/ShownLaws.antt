@@ -20,7 +20,7 @@ use Rattle.sha2.specs.Sha256.{sha256}
 use Rattle.command_inputs.specs.Known.{Answer, Known, past, IsRead}
 use Rattle.run_plans.specs.Plans.{IsOutcomeOf}
 use Rattle.command_inputs.specs.Inputs.{set_input, cert_input}
-use Rattle.run_plans.specs.Commands.{ending_answer, IsCheck, plan_of}
+use Rattle.run_plans.specs.Commands.{ending_answer, checked_answer, IsCheck, plan_of}
 use Rattle.command_inputs.specs.Known.{shown_by}
 use Rattle.run_plans.specs.Headline.{Call, Asks, WritesSchedulable, ReadsSome, ReadsValid, IsProvedAnalysis, IsProvedCheck}
 use Rattle.run_plans.specs.Bounding.{ListsBounds}
@@ -31,7 +31,7 @@ use Rattle.run_plans.proofs.WorkLaws.{tied_at_zero}
 use Rattle.run_plans.proofs.SetTextLaws.{is_text}
 use Rattle.run_plans.proofs.BoundLaws.{analysis_bounds}
 
--- An analysis has status 0 only where its rounds end as schedulable.
+-- An analysis has status 0 only if its rounds end as schedulable.
 record IsSchedulableEnding (e : Ending) : Type 0 where
   bounds : List ℕ
   duals : List DualDef
@@ -44,7 +44,7 @@ schedulable_ending protocol digest set (NotShown i value) a is zero = absurd (no
 schedulable_ending protocol digest set (Wide i) a is zero = absurd (not_zero 4 is refl zero)
 schedulable_ending protocol digest set Allowance a is zero = absurd (not_zero 5 is refl zero)
 
--- What the outcome of an analysis with status 0 is: the text of the best certificate of the set.
+-- The outcome of an analysis with status 0 is the text of the best certificate of the set.
 pub record WroteBest (known : Known) (protocol : ProtocolName) (name : List ℕ) (a : Answer) : Type 0 where
   pub bytes : List ℕ
   pub set : SetDef
@@ -75,7 +75,7 @@ wrote_best known protocol name allowance a (inr (bytes, set, read, last, ((e, en
       text = ap (λ x. x.text) is ∙ ap (λ (x : Ending). (ending_answer protocol (sha256 bytes) set x).text) end.is;
     }
 
--- What the outcome of `check` with status 0 is: that the certificate is valid.
+-- The outcome of `check` with status 0 is that the certificate is valid.
 record FoundValid (known : Known) (protocol : ProtocolName) (name cert : List ℕ) : Type 0 where
   bytes : List ℕ
   set : SetDef
@@ -104,7 +104,7 @@ found_valid known protocol name cert a (inr (bytes, set, read, none, inr (text, 
       also = subst (λ (d : List ℕ). IsRead known (cert_input protocol) cert text (record { certificate = file.certificate; digest = d })) own.0 also;
       last = last tt;
       asked = asked;
-      valid = valid_at_zero protocol set file.certificate a own.1 zero;
+      valid = (valid_at_zero protocol set file.certificate checked_answer a own.1 zero).0;
     }
 
 -- A set that was read under a name.
@@ -113,7 +113,7 @@ abbrev pub some_read : (call : Call) (protocol : ProtocolName) (name bytes : Lis
 some_read call protocol name bytes set (has, reads) =
     record { bytes = bytes; named = has.0; short = has.1; text = is_text protocol bytes set reads }
 
--- What the best certificate of an accepted set writes.
+-- A call with status 0 that writes the best certificate of an accepted set writes "schedulable".
 pub best_writes : (call : Call) (protocol : ProtocolName) (digest : List ℕ) (set : SetDef) (c : CertificateDef) → IsAccepted set → IsBest (source_of protocol set) c
     → call.status ≡ 0 → Appends call.sink_before.written call.sink_now.written (certificate_text (word_of protocol) digest c)
     → WritesSchedulable call protocol digest set

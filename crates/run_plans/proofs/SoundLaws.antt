@@ -27,12 +27,13 @@ use Rattle.run_plans.proofs.SetTextLaws.{told_reads}
 pub accepted_of : (protocol : ProtocolName) (bytes : List ℕ) (set : SetDef) → ReadsSet protocol bytes (Ok set) → IsAccepted set
 accepted_of protocol bytes set (reads, homes) = subst IsAccepted (sym reads.2.2) reads.2.1
 
-pub valid_at_zero : (p : ProtocolName) (set : SetDef) (c : CertificateDef) (a : Answer) → IsJudgement p set c checked_answer a
-    → a.status ≡ 0 → IsValid (source_of p set) c
-valid_at_zero p set c a (inl (valid, is)) zero = valid
-valid_at_zero p set c a (inr (e, fails, is)) zero = absurd (not_zero 0 is refl zero)
+-- A judgement with status 0 says that the certificate is valid.
+pub valid_at_zero : (p : ProtocolName) (set : SetDef) (c : CertificateDef) (says a : Answer) → IsJudgement p set c says a
+    → a.status ≡ 0 → (IsValid (source_of p set) c) × (a ≡ says)
+valid_at_zero p set c says a (inl valid) zero = valid
+valid_at_zero p set c says a (inr (e, fails, is)) zero = absurd (not_zero 0 is refl zero)
 
--- Where the outcome of a call that checks a certificate has status 0, the certificate is sound.
+-- If the outcome of a call that checks a certificate has status 0, the certificate is sound.
 pub sound_outcome : (call : Call) (p : ProtocolName) (set : SetDef) (c : CertificateDef) (checks : Checks call p set c) (a : Answer)
     → IsOutcomeOf (told checks.inputs) (plan_of (Check p checks.name checks.cert)) a → a.status ≡ 0
     → (values : List ℕ) → AreValues (source_of p set) c values → SoundUnder p set c.bounds values
@@ -48,4 +49,4 @@ sound_outcome call p set c checks a out zero values are =
     (rest_of checks.inputs (cert_input p) checks.cert (λ bytes d. Working (check_of p digest set d)) checks.bytes file a
     (cert_reads_once p) ((checks.named, checks.short), checks.reads) later).0 in
     let judged : IsJudgement p set c checked_answer a = (tied_at_zero digest checks.digest (IsCheck p set c) a tied zero).1 in
-    named_sound p set c values read.text.accepted (valid_at_zero p set c a judged zero) are
+    named_sound p set c values read.text.accepted (valid_at_zero p set c checked_answer a judged zero).0 are

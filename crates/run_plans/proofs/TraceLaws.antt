@@ -19,7 +19,7 @@ use Rattle.trace_csv.specs.declared.refusal.RowsRefusal.TheVariants as rows
 use Rattle.command_inputs.specs.Inputs.{ReadsJobs, jobs_input, ReadsRows, rows_input}
 use Rattle.run_plans.proofs.PlanLaws.{ReadsOnce}
 
--- The first line that is refused is one.
+-- There is at most one first line that is refused.
 first_once : {R : Type 0} (due : ℕ → Option R) (i j : ℕ) (r s : R) → ((k : ℕ) → k < i → due k ≡ None) → due i ≡ Some r
     → ((k : ℕ) → k < j → due k ≡ None) → due j ≡ Some s → r ≡ s
 first_once due i j r s before here before' here' = elim (cases_order i j) [
@@ -28,7 +28,7 @@ first_once due i j r s before here before' here' = elim (cases_order i j) [
   | inr (inr more) ↦ absurd (none-some s (sym (before j more) ∙ here'))
 ]
 
--- What a refusal says of a file, whatever its lines are: its header is missing, or here is the first line that is refused.
+-- What a refusal says of a file, for any kind of lines: its header is missing, or this is the first line that is refused.
 abbrev IsFileRefused : {R : Type 0} → R → Type 0 → (ℕ → R → Type 0) → R → Type 0
 IsFileRefused missing HasHeader IsFirst r = ((r ≡ missing) × (HasHeader → ⊥)) ⊎ (HasHeader × ((i : ℕ) × IsFirst i r))
 
@@ -40,13 +40,13 @@ file_refused_once missing HasHeader IsFirst once r s (inl (is, without)) (inr (h
 file_refused_once missing HasHeader IsFirst once r s (inr (header, first)) (inl (is, without)) = absurd (without header)
 file_refused_once missing HasHeader IsFirst once r s (inr (header, (i, p))) (inr (header', (j, q))) = once i j r s p q
 
--- A file with a header of which no line is refused is not refused.
+-- A file isn't refused if it has its header and none of its lines is refused.
 file_accepted : {R : Type 0} (missing : R) (HasHeader : Type 0) (IsFirst : ℕ → R → Type 0) → HasHeader
     → ((i : ℕ) (r : R) → IsFirst i r → ⊥) → (r : R) → IsFileRefused missing HasHeader IsFirst r → ⊥
 file_accepted missing HasHeader IsFirst there none r (inl (is, without)) = without there
 file_accepted missing HasHeader IsFirst there none r (inr (header, (i, p))) = none i r p
 
--- An input that accepts such bytes with one value, or refuses them with one refusal, reads them in one way.
+-- An input reads such bytes in one way if it accepts them with one value, or refuses them with one refusal.
 read_once : {A R : Type 0} (says : Result A R → Type 0) (Accepts : Type 0) (value : A) (Refuses : R → Type 0)
     → ((a : A) → says (Ok a) → Accepts × (a ≡ value)) → ((r : R) → says (Err r) → Refuses r)
     → (Accepts → (r : R) → Refuses r → ⊥) → ((r s : R) → Refuses r → Refuses s → r ≡ s)
@@ -56,7 +56,7 @@ read_once says Accepts value Refuses ok err apart once (Ok a) (Err s) p q = absu
 read_once says Accepts value Refuses ok err apart once (Err r) (Ok b) p q = absurd (apart (ok b q).0 r (err r p))
 read_once says Accepts value Refuses ok err apart once (Err r) (Err s) p q = ap (λ x. Err x) (once r s (err r p) (err s q))
 
--- So a file is read in one way that is accepted where it has its header and none of its n lines is due to be refused.
+-- So a file is read in one way if it is accepted when it has its header and none of its n lines is due to be refused.
 file_read_once : {A R : Type 0} (says : Result A R → Type 0) (value : A) (missing : R) (HasHeader : Type 0) (n : ℕ) (due : ℕ → Option R)
     (IsFirst : ℕ → R → Type 0) → ((a : A) → says (Ok a) → (HasHeader × ((i : ℕ) → i < n → due i ≡ None)) × (a ≡ value))
     → ((r : R) → says (Err r) → IsFileRefused missing HasHeader IsFirst r)

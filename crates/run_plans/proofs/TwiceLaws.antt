@@ -7,7 +7,7 @@ use Rattle.run_plans.specs.Headline.{Call}
 use Rattle.run_plans.specs.Run.{IsRun, IsCompletePremise}
 use Rattle.run_plans.specs.Twice.{AreSteady, IsCompleteCall}
 
--- A count that stays has not risen, where it is below its last value.
+-- A count that stays has not risen, if it is below its greatest value.
 not_risen : (before now : ℕ) → now ≡ before → before < 2 ^ 64 - 1 → Rose before now → ⊥
 not_risen before now same below rose = absurd (omega (arith, same, below, rose))
 

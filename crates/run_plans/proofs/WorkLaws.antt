@@ -7,14 +7,14 @@ use Rattle.run_plans.specs.Commands.{IfOfSet}
 use Rattle.run_plans.specs.Run.{IsWideEnding, IsAllowanceEnding}
 use Rattle.run_plans.proofs.PlanLaws.{IsPlain, IsLawfulWork, plain_is, plain_of_status, not_zero, at_most_one}
 
--- A work that ends with status 0 or 1 whatever it works on.
+-- A work that always ends with status 0 or 1, and has one answer.
 abbrev pub always : (Answer → Type 0) → Work
-always answers = record { answers = answers; ends = Unit {0} }
+always answers = record { answers = answers; ends = Unit {0}; one = Unit {0} }
 
 pub always_lawful : (answers : Answer → Type 0) → ((a b : Answer) → answers a → answers b → a ≡ b)
     → ((a : Answer) → answers a → (a.status ≡ 0) ⊎ (a.status ≡ 1)) → IsLawfulWork (always answers)
 always_lawful answers one status = record {
-  one = one;
+  one = λ always. one;
   plain = λ a is. plain_of_status a (status a is);
   well = λ ends a is. status a is;
 }
@@ -24,13 +24,13 @@ always_lawful answers one status = record {
 pub fixed_lawful : (b : Answer) → b.status ≡ 0 → IsLawfulWork (always (λ a. a ≡ b))
 fixed_lawful b zero = always_lawful (λ a. a ≡ b) (λ a c p q. p ∙ sym q) (λ a is. inl (ap (λ (x : Answer). x.status) is ∙ zero))
 
--- ---- a thing holds, or here is what fails first
+-- ---- something holds, or this fails first
 
 one_judged : {E : Type 0} (holds : Type 0) (says : Answer → Type 0) (fails : E → Type 0) (failing : E → Answer)
     → IsLawfulWork (always says) → ((e : E) → fails e → holds → ⊥) → ((d e : E) → fails d → fails e → d ≡ e) → (a b : Answer)
     → (holds × says a) ⊎ ((e : E) × fails e × (a ≡ failing e))
     → (holds × says b) ⊎ ((e : E) × fails e × (b ≡ failing e)) → a ≡ b
-one_judged holds says fails failing own apart once a b (inl (h, is)) (inl (h', is')) = own.one a b is is'
+one_judged holds says fails failing own apart once a b (inl (h, is)) (inl (h', is')) = own.one tt a b is is'
 one_judged holds says fails failing own apart once a b (inl (h, is)) (inr (e, f, is')) = absurd (apart e f h)
 one_judged holds says fails failing own apart once a b (inr (e, f, is)) (inl (h, is')) = absurd (apart e f h)
 one_judged holds says fails failing own apart once a b (inr (d, f, is)) (inr (e, g, is')) = is ∙ ap failing (once d e f g) ∙ sym is'
@@ -57,7 +57,7 @@ one_tied : (digest named : List ℕ) (says : Answer → Type 0) → IsLawfulWork
 one_tied digest named says own a b (inl (other, is)) (inl (other', is')) = is ∙ sym is'
 one_tied digest named says own a b (inl (other, is)) (inr (same, is')) = absurd (other same)
 one_tied digest named says own a b (inr (same, is)) (inl (other, is')) = absurd (other same)
-one_tied digest named says own a b (inr (same, is)) (inr (same', is')) = own.one a b is is'
+one_tied digest named says own a b (inr (same, is)) (inr (same', is')) = own.one tt a b is is'
 
 tied_status : (digest named : List ℕ) (says : Answer → Type 0) → IsLawfulWork (always says) → (a : Answer) → IfOfSet digest named says a
     → (a.status ≡ 0) ⊎ (a.status ≡ 1)
@@ -69,7 +69,7 @@ pub tied_lawful : (digest named : List ℕ) (says : Answer → Type 0) → IsLaw
 tied_lawful digest named says own =
     always_lawful (IfOfSet digest named says) (one_tied digest named says own) (tied_status digest named says own)
 
--- With status 0 it is of the set, and the answer is that on what it holds.
+-- With status 0 the file is of the set, and the answer is the one on what the file holds.
 pub tied_at_zero : (digest named : List ℕ) (says : Answer → Type 0) (a : Answer) → IfOfSet digest named says a → a.status ≡ 0
     → (named ≡ digest) × says a
 tied_at_zero digest named says a (inl (other, is)) zero = absurd (not_zero 0 is refl zero)
@@ -77,7 +77,7 @@ tied_at_zero digest named says a (inr own) zero = own
 
 -- ---- how rounds ended
 
--- Does the status tell how rounds ended: with a verdict, or short of one?
+-- Does the status tell how rounds ended: with a verdict, or without one?
 abbrev pub TellsEnding : Ending → Answer → Type 0
 TellsEnding (Schedulable bounds duals) a = (a.status ≡ 0) ⊎ (a.status ≡ 1)
 TellsEnding (NotShown i value) a = (a.status ≡ 0) ⊎ (a.status ≡ 1)
@@ -90,7 +90,7 @@ told_plain (NotShown i value) a verdict = plain_of_status a verdict
 told_plain (Wide i) a five = plain_is a 5 five refl
 told_plain Allowance a six = plain_is a 6 six refl
 
--- Where rounds of this kind come to no other end, it is a verdict.
+-- If rounds of this kind come to no other end, they come to a verdict.
 pub told_well : (ends : Ending → Type 0) (e : Ending) (a : Answer) → TellsEnding e a → ends e → ((i : ℕ) → ends (Wide i) → ⊥)
     → (ends Allowance → ⊥) → (a.status ≡ 0) ⊎ (a.status ≡ 1)
 told_well ends (Schedulable bounds duals) a verdict is no_wide no_allowance = verdict

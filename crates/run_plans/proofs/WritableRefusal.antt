@@ -61,7 +61,7 @@ small_optimum p left k value best d is form =
     ap (λ (f : Fraction). unsigned_abs f.num) is.read_off.is_value in
     omega (arith, ints, same, form.small_num)
 
--- How many ticks do jobs of a higher task count for? At most those of three of the greatest periods.
+-- The ticks that count for jobs of a higher task are at most three of the greatest periods.
 one_task_small : (window bound period cost : ℕ) → 1 ≤ period → cost ≤ period → window ≤ 1000000000 → bound ≤ 1000000000
     → period ≤ 1000000000 → jobs_within window bound period * cost ≤ 3000000000
 one_task_small window bound period cost some within w b p =

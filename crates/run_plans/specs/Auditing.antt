@@ -1,4 +1,4 @@
--- What status 0 says of words of `audit`: the figures that the call writes lie within what the certificate proves.
+-- What status 0 of words of `audit` says: the figures that the call writes are within what the certificate proves.
 use Rattle.std.specs.Prelude.{◌≡◌, ℕ, List, [], ◌∷◌, length}
 use Rattle.std.specs.Io.KnownBytes.{Appends}
 use Rattle.outside_ports.specs.Past.{wholly}
@@ -14,12 +14,13 @@ use Rattle.command_inputs.specs.Known.{Input, IsRead, shown, shown_by}
 use Rattle.command_inputs.specs.Inputs.{jobs_input, rows_input}
 use Rattle.run_plans.specs.Headline.{Call, Asks, ReadsValid}
 
--- The call read this value of the input, under this name and of these bytes.
+-- The call read this value of the input, under this name and from these bytes.
 abbrev pub Read : Call → (input : Input) → List ℕ → List ℕ → input.Value → Type 0
 Read call input name bytes value = IsRead (shown_by (shown call.shelf_before call.shelf_now)) input name bytes value
 
--- The call read a set with a valid certificate of it, jobs of the set and rows of these jobs. They are of the very bytes that the shelf
--- gave, in this order, and it was asked for nothing else. The rows are a lawful schedule. What the call writes are its figures, which lie within what the certificate proves and add up.
+-- The call read a set with a valid certificate of it, jobs of the set and rows of these jobs. They come from the bytes that the shelf gave,
+-- in this order, and nothing else was asked for. The rows are a lawful schedule. The call writes its figures. They are within what the
+-- certificate proves, and add up.
 pub record IsProvedAudit (call : Call) (protocol : ProtocolName) (name cert jobs rows : List ℕ) : Type 0 where
   pub proved : ReadsValid call protocol name cert
   pub jobs_bytes : List ℕ

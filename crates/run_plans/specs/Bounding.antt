@@ -1,4 +1,4 @@
--- The promise on bounds alone, in which no program, dual or row of one stands.
+-- The promise on bounds alone. It mentions no program, no dual and no row of a program.
 use Rattle.std.specs.Prelude.{◌≡◌, ℕ, ◌<◌, ◌≤◌, List, [], ◌∷◌, length, codes}
 use Rattle.std.specs.Io.KnownBytes.{Appends}
 use Rattle.serde_json.specs.Data.{Data}
@@ -18,13 +18,13 @@ use Rattle.taskset_json.specs.Members.{list_at}
 use Rattle.cert_json.specs.Written.{numbers_written}
 use Rattle.run_plans.specs.Headline.{Call, Asks, ReadsSome}
 
--- In every schedule that keeps the protocol's rules, of whatever lawful jobs of the set, is each job finished by its release plus its
--- task's bound, where that lies within the rows?
+-- Take any schedule of lawful jobs of the set that keeps the protocol's rules. Is each job finished by its release plus its task's bound,
+-- if that lies within the rows?
 abbrev pub AreKept : ProtocolName → SetDef → List ℕ → Type 0
 AreKept protocol set bounds = (w : Trace) (n j : ℕ) → IsLawfulSchedule (rules_of protocol) set w n → j < length w.jobs
     → due_tick w bounds j ≤ n → phase_of w (due_tick w bounds j) j ≡ Finished
 
--- The text lists bounds for a set that the call read under this name: they are the numbers of its member `bounds`, within all
+-- The text lists bounds for a set that the call read under this name. They are the numbers of its member `bounds`. They are within all
 -- deadlines, and every lawful schedule keeps them.
 pub record ListsBounds (call : Call) (protocol : ProtocolName) (name : List ℕ) (text : List ℕ) : Type 0 where
   pub set : SetDef
@@ -34,8 +34,8 @@ pub record ListsBounds (call : Call) (protocol : ProtocolName) (name : List ℕ)
   pub within : AreWithinDeadlines set (numbers_written (list_at (codes "bounds") value))
   pub kept : AreKept protocol set (numbers_written (list_at (codes "bounds") value))
 
--- With status 0, what `analyse` writes lists such bounds for the set of the very bytes that the shelf gave, and it gave no others. So
--- does the certificate that `check` read, which are the bytes that the shelf gave after those of the set.
+-- With status 0, what `analyse` writes lists such bounds for the set whose bytes the shelf gave, and it gave no others. So does the
+-- certificate that `check` read with status 0. The shelf gave its bytes after those of the set.
 pub record IsBounding (call : Call) : Type 0 where
   pub analysed : (protocol : ProtocolName) (name : List ℕ) (more : List (List ℕ)) → call.words ≡ analyse_words protocol name more
       → call.status ≡ 0 → (text : List ℕ) × Appends call.sink_before.written call.sink_now.written text

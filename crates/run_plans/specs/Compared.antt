@@ -6,8 +6,8 @@ use Rattle.program_sources.specs.Bounds.{AtMost}
 use Rattle.sha2.specs.Sha256.{sha256}
 use Rattle.run_plans.specs.Headline.{Call, Analyses, WritesSchedulable}
 
--- The first call's words are those of `analyse` for the plain protocol, the second's those for the closer analysis, and each reads the
--- set.
+-- The first call's words are those of `analyse` for the plain protocol, and the second's are those for the closer analysis. Each call reads
+-- the set.
 pub record AnalyseOneSet (plain closer : ProtocolName) (first second : Call) (set : SetDef) : Type 0 where
   pub plain_call : Analyses first plain set
   pub closer_call : Analyses second closer set

@@ -25,7 +25,7 @@ use Rattle.sha2.specs.Sha256.{sha256}
 use Rattle.command_inputs.specs.Inputs.{IsFileText}
 use Rattle.command_inputs.specs.Known.{AreInputs, readings_after, shown}
 
--- A call: its words; what the shelf and the sink were before it, and what they are after it; and the status.
+-- A call: its words, the shelf and the sink before it and after it, and the status.
 pub record Call : Type 0 where
   pub words : List (List ℕ)
   pub shelf_before : ShelfDef
@@ -38,7 +38,7 @@ pub record Call : Type 0 where
 abbrev pub Asks : Call → List Asked → Type 0
 Asks call readings = call.shelf_now.readings ≡ readings_after call.shelf_before.readings readings
 
--- Are these the inputs of the call? They are those that the shelf tells, or they fit all that the call asked for and was given.
+-- Are these the inputs of the call? The shelf tells them, or they fit all that the call asked for and was given.
 abbrev pub HasInputs : Call → Inputs → Type 0
 HasInputs call inputs = AreInputs (shown call.shelf_before call.shelf_now) inputs
 
@@ -49,9 +49,9 @@ pub record RanOut (call : Call) : Type 0 where
   pub faults : call.sink_now.faults ≡ call.sink_before.faults
   pub room : call.sink_before.room ≤ call.sink_now.room
 
--- Does the call write "schedulable", as the text of a certificate for the set of this digest? Its bounds are the least within all
--- deadlines that satisfy the recurrence, and its duals are optimal. And its bounds and the values of its duals are sound: every lawful
--- schedule keeps them.
+-- Does the call write "schedulable", as the text of a certificate for the set of this digest? Its bounds are the least within all deadlines
+-- that satisfy the recurrence, and its duals are optimal. Its bounds and the values of its duals are sound: every lawful schedule keeps
+-- them.
 pub record WritesSchedulable (call : Call) (protocol : ProtocolName) (digest : List ℕ) (set : SetDef) : Type 0 where
   pub certificate : CertificateDef
   pub done : call.status ≡ 0
@@ -60,8 +60,8 @@ pub record WritesSchedulable (call : Call) (protocol : ProtocolName) (digest : L
   pub optimal : AreOptimalDuals (source_of protocol set) certificate.bounds certificate.duals
   pub sound : (values : List ℕ) → AreValues (source_of protocol set) certificate values → SoundUnder protocol set certificate.bounds values
 
--- The bytes are the text of this set: their value has the form, and what it writes is accepted and has the homes that the protocol
--- asks for.
+-- The bytes are the text of this set. Their value has the form. The set that it gives is accepted, and has the homes that the protocol asks
+-- for.
 pub record IsSetText (protocol : ProtocolName) (bytes : List ℕ) (set : SetDef) : Type 0 where
   pub value : Data
   pub is_value : IsValue bytes value
@@ -70,16 +70,15 @@ pub record IsSetText (protocol : ProtocolName) (bytes : List ℕ) (set : SetDef)
   pub accepted : IsAccepted set
   pub homes : HasHomes protocol set
 
--- The call read a set under this name: some bytes are the text of the set. Where the shelf tells its inputs, they are the bytes of
--- the name.
+-- The call read a set under this name: some bytes are the text of the set. If the shelf tells its inputs, they are the bytes of the name.
 pub record ReadsSome (call : Call) (protocol : ProtocolName) (name : List ℕ) (set : SetDef) : Type 0 where
   pub bytes : List ℕ
   pub named : IsNamed call.shelf_before.names name bytes
   pub short : length bytes ≤ GREATEST_INPUT_BYTES
   pub text : IsSetText protocol bytes set
 
--- The call analyses the set: its words are those of `analyse`, with an allowance or none, and the bytes of the name, among the call's
--- inputs, are the set.
+-- The call analyses the set. Its words are those of `analyse`, with an allowance or none. Among the call's inputs, the bytes of the name
+-- are the text of the set.
 pub record Analyses (call : Call) (protocol : ProtocolName) (set : SetDef) : Type 0 where
   pub inputs : Inputs
   pub name : List ℕ
@@ -91,19 +90,18 @@ pub record Analyses (call : Call) (protocol : ProtocolName) (set : SetDef) : Typ
   pub read : ReadsSome call protocol name set
   pub named_set : bytes_of inputs name ≡ Some read.bytes
 
--- The headline: the call writes "schedulable" exactly where some bounds within all deadlines satisfy the recurrence, giving the
--- least such bounds with optimal duals. Its premises: no count of faults rose in the call, memory did not run out, and the status
--- isn't 5 or 6, which come only where the rounds end in a program that is too wide, or with the allowance (`wide` and `allowance`
--- of `IsRun`). Without them: what is written as schedulable is least and optimal, and a set is said to be not shown only where
--- nothing fits.
+-- The headline: the call writes "schedulable" if some bounds within all deadlines satisfy the recurrence, and only then. It gives the least
+-- such bounds, with optimal duals. Its premises: no count of faults rose in the call, memory did not run out, and the status isn't 5 or 6.
+-- These two come only if the rounds end in a program that is too wide, or with the allowance (`wide` and `allowance` of `IsRun`). Without
+-- the premises: what is written as schedulable is least and optimal, and a set is said to be not shown only if nothing fits.
 pub record IsHeadline (call : Call) (protocol : ProtocolName) (digest : List ℕ) (set : SetDef) : Type 0 where
   pub exactly : (Rose call.shelf_before.faults call.shelf_now.faults → ⊥) → (Rose call.sink_before.faults call.sink_now.faults → ⊥) → (RanOut call → ⊥)
       → call.status ≢ 5 → call.status ≢ 6 → WritesSchedulable call protocol digest set ↔ ((s : List ℕ) × AreFitting (source_of protocol set) s)
   pub least : call.status ≡ 0 → WritesSchedulable call protocol digest set
   pub none : call.status ≡ 1 → (s : List ℕ) → AreFitting (source_of protocol set) s → ⊥
 
--- The call checks a certificate of the set: its words are those of `check`, and the bytes of the names, among the call's inputs, are
--- the two.
+-- The call checks a certificate of the set. Its words are those of `check`. Among the call's inputs, the bytes of the names are the texts
+-- of the two.
 pub record Checks (call : Call) (protocol : ProtocolName) (set : SetDef) (c : CertificateDef) : Type 0 where
   pub inputs : Inputs
   pub name : List ℕ
@@ -118,14 +116,14 @@ pub record Checks (call : Call) (protocol : ProtocolName) (set : SetDef) (c : Ce
   pub digest : List ℕ
   pub reads : IsFileText protocol bytes (record { certificate = c; digest = digest })
 
--- The headline's second half: what the call accepts, with status 0, is sound. In every schedule that keeps the protocol's rules,
--- of whatever lawful jobs of the set, each job ends within its bound, and is blocked at no more ticks than its dual's value.
+-- The headline's second half: what the call accepts, with status 0, is sound. Take any schedule of lawful jobs of the set that keeps the
+-- protocol's rules. Each job ends within its bound, and is blocked at no more ticks than its dual's value.
 abbrev pub IsSoundCheck : Call → ProtocolName → SetDef → CertificateDef → Type 0
 IsSoundCheck call protocol set c = call.status ≡ 0 → (values : List ℕ) → AreValues (source_of protocol set) c values
     → SoundUnder protocol set c.bounds values
 
--- What status 0 says of words of `analyse`, whatever the shelf tells: the call asked for the set alone, and of the set whose text are
--- the very bytes that the shelf gave it writes "schedulable".
+-- What status 0 of words of `analyse` says, whatever the shelf tells. The call asked for the set alone. The bytes that the shelf gave are
+-- the text of the set. For this set the call writes "schedulable".
 pub record IsProvedAnalysis (call : Call) (protocol : ProtocolName) (name : List ℕ) : Type 0 where
   pub set : SetDef
   pub read : ReadsSome call protocol name set
@@ -145,8 +143,8 @@ pub record ReadsValid (call : Call) (protocol : ProtocolName) (name cert : List 
   pub valid : IsValid (source_of protocol set) certificate
   pub sound : (values : List ℕ) → AreValues (source_of protocol set) certificate values → SoundUnder protocol set certificate.bounds values
 
--- What status 0 says of words of `check`, whatever the shelf tells: the call asked for the set and then for the certificate, and for
--- nothing else, and they are of the very bytes that the shelf gave.
+-- What status 0 of words of `check` says, whatever the shelf tells. The call asked for the set and then for the certificate, and for
+-- nothing else. Both are read from the bytes that the shelf gave.
 pub record IsProvedCheck (call : Call) (protocol : ProtocolName) (name cert : List ℕ) : Type 0 where
   pub proved : ReadsValid call protocol name cert
   pub asked : Asks call (wholly name proved.read.bytes ∷ wholly cert proved.bytes ∷ [])

@@ -1,4 +1,4 @@
--- The promise on bounds alone, on the machine's clock: a row is a cycle there, and a tick has any number of cycles.
+-- The promise on bounds alone, on the machine's clock. A row is a cycle there, and a tick has any number of cycles.
 use Rattle.std.specs.Prelude.{◌≡◌, ℕ, ◌<◌, ◌≤◌, false, List, [], ◌∷◌, length, codes}
 use Rattle.std.specs.Io.KnownBytes.{Appends}
 use Rattle.serde_json.specs.Data.{Data}
@@ -19,9 +19,9 @@ use Rattle.taskset_json.specs.Members.{list_at}
 use Rattle.cert_json.specs.Written.{numbers_written}
 use Rattle.run_plans.specs.Headline.{Call, Asks, ReadsSome}
 
--- However many cycles a tick has: in every schedule whose rows are cycles, which keeps the protocol's rules, of whatever lawful jobs of
--- the set said in cycles, each of which leaves all but one cycle of a tick of its cost, is each job finished by its release plus its
--- task's bound in cycles, where that lies within the rows?
+-- However many cycles a tick has, take any schedule whose rows are cycles, of lawful jobs of the set in cycles. It keeps the protocol's
+-- rules, and each job leaves all but one cycle of a tick of its cost. Is each job finished by its release plus its task's bound in cycles,
+-- if that lies within the rows?
 abbrev pub AreKeptOnClocks : ProtocolName → SetDef → List ℕ → Type 0
 AreKeptOnClocks protocol set bounds = (k : ℕ) (w : Trace) (n j : ℕ) → 1 ≤ k → IsLawfulInCycles (rules_of protocol) (λ i. false) k set w n
     → j < length w.jobs → due_tick w (times_each k bounds) j ≤ n → phase_of w (due_tick w (times_each k bounds) j) j ≡ Finished
@@ -34,8 +34,8 @@ pub record ListsOnClocks (call : Call) (protocol : ProtocolName) (name : List �
   pub is_value : IsValue text value
   pub kept : AreKeptOnClocks protocol set (numbers_written (list_at (codes "bounds") value))
 
--- With status 0, what `analyse` writes lists such bounds for the set of the very bytes that the shelf gave, and it gave no others. So
--- does the certificate that `check` read, which are the bytes that the shelf gave after those of the set.
+-- With status 0, what `analyse` writes lists such bounds for the set whose bytes the shelf gave, and it gave no others. So does the
+-- certificate that `check` read with status 0. The shelf gave its bytes after those of the set.
 pub record IsOnClocks (call : Call) : Type 0 where
   pub analysed : (protocol : ProtocolName) (name : List ℕ) (more : List (List ℕ)) → call.words ≡ analyse_words protocol name more
       → call.status ≡ 0 → (text : List ℕ) × Appends call.sink_before.written call.sink_now.written text

@@ -13,12 +13,12 @@ use Rattle.reply_texts.specs.Texts.{wide_text, allowance_text}
 use Rattle.reply_texts.specs.Refuted.{schedulable_text}
 use Rattle.command_inputs.specs.Known.{Answer}
 
--- Is the task that the stop names, if any, one of the set?
+-- Is the task that the stop names, if any, a task of the set?
 abbrev pub NamesWide : SetDef → Result Refutation RefuteStop → Type 0
 NamesWide set (Err (stop.Wide task)) = task.0 < length set.tasks
 NamesWide set _ = Unit {0}
 
--- Is this the answer to `refute` where this came of it? Want of memory has none.
+-- Is this the answer to `refute` with this result? Running out of memory has none.
 abbrev pub RepliesToRefutation : ProtocolName → List ℕ → SetDef → Result Refutation RefuteStop → Answer → Type 0
 RepliesToRefutation protocol digest set (Ok (refutation.Refused refusal)) answer =
     answer ≡ record { status = 0; text = refusal_text (word_of protocol) digest (steps_seen refusal) }

@@ -1,4 +1,4 @@
--- What status 0 of `refute` and of `confirm` says: nothing fits, and here is why.
+-- What status 0 of `refute` and of `confirm` says: nothing fits, and this is why.
 use Rattle.std.specs.Prelude.{◌≡◌, ℕ, ◌≤◌, List, [], ◌∷◌, length}
 use Rattle.std.specs.Io.KnownBytes.{Appends}
 use Rattle.outside_ports.specs.Names.{IsNamed}
@@ -15,8 +15,8 @@ use Rattle.named_laws.specs.Named.{source_of}
 use Rattle.command_inputs.specs.Inputs.{IsRefusalText}
 use Rattle.run_plans.specs.Headline.{Call, Asks, ReadsSome}
 
--- The call asked for the set alone. Of the set whose text are the very bytes that the shelf gave it writes a refusal that holds, with
--- the digest of these bytes: no bounds within all deadlines satisfy the recurrence.
+-- The call asked for the set alone. The bytes that the shelf gave are the text of the set. The call writes a refusal of it that holds, with
+-- the digest of these bytes. So no bounds within all deadlines satisfy the recurrence.
 pub record IsProvedRefutation (call : Call) (protocol : ProtocolName) (name : List ℕ) : Type 0 where
   pub set : SetDef
   pub read : ReadsSome call protocol name set
@@ -39,7 +39,7 @@ pub record ReadsHolding (call : Call) (protocol : ProtocolName) (name cert : Lis
   pub holds : Holds (source_of protocol set) steps
   pub none : (s : List ℕ) → AreFitting (source_of protocol set) s → ⊥
 
--- The call asked for the set and then for the refusal, and for nothing else, and they are of the very bytes that the shelf gave.
+-- The call asked for the set and then for the refusal, and for nothing else. Both are read from the bytes that the shelf gave.
 pub record IsProvedConfirmation (call : Call) (protocol : ProtocolName) (name cert : List ℕ) : Type 0 where
   pub proved : ReadsHolding call protocol name cert
   pub asked : Asks call (wholly name proved.read.bytes ∷ wholly cert proved.bytes ∷ [])

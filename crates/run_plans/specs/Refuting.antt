@@ -16,7 +16,7 @@ use Rattle.reply_texts.specs.Refuted.{schedulable_text, confirmed_text, unconfir
 use Rattle.command_inputs.specs.Known.{Answer}
 use Rattle.run_plans.specs.Plans.{Work}
 
--- What goes out where the rounds that refuse end so, and these are the steps of the refusal. The set's bytes have this digest.
+-- What goes out if the rounds that refuse end in this way, with these steps of the refusal. The set's bytes have this digest.
 abbrev pub refuting_answer : ProtocolName → List ℕ → SetDef → Ending → List StepDef → Answer
 refuting_answer protocol digest set (Schedulable bounds points) steps = record { status = 1; text = schedulable_text }
 refuting_answer protocol digest set (NotShown i value) steps =
@@ -30,12 +30,13 @@ IsRefutation protocol digest set allowance answer =
     (e : Ending) × (ends : EndsIn (refuting (source_of protocol set)) allowance e)
     × (answer ≡ refuting_answer protocol digest set e (refusal_of (refuting (source_of protocol set)) allowance e ends))
 
--- It has status 0 or 1 where the rounds come to a verdict.
+-- It has status 0 or 1 if the rounds come to a verdict.
 abbrev pub refutation_of : ProtocolName → List ℕ → SetDef → ℕ → Work
 refutation_of protocol digest set allowance = record {
   answers = IsRefutation protocol digest set allowance;
   ends = ((i : ℕ) → EndsIn (refuting (source_of protocol set)) allowance (Wide i) → ⊥)
       × (EndsIn (refuting (source_of protocol set)) allowance Allowance → ⊥);
+  one = Unit {0};
 }
 
 -- The answer on a refusal: that it holds, or its first fault.

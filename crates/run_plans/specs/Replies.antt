@@ -1,4 +1,4 @@
--- What is replied, as contracts see it, before anything goes out.
+-- The reply, as contracts see it, before anything goes out.
 use Rattle.std.specs.Prelude.{◌≡◌, List, ℕ, Result, Ok, Err, map}
 use Rattle.outside_ports.specs.Ports.{ShelfDef}
 use Rattle.program_form.specs.Certificate.{dual_seen}
@@ -17,7 +17,7 @@ use Rattle.run_plans.specs.Plans.{Plan}
 use Rattle.run_plans.specs.Commands.{ending_answer}
 use Rattle.run_plans.specs.Outcome.{IsReplyOf}
 
--- Is this the answer to an analysis that ends so?
+-- Is this the answer to an analysis with this result?
 abbrev pub RepliesTo : ProtocolName → List ℕ → SetDef → Result Verdict Stop → Answer → Type 0
 RepliesTo protocol digest set (Ok (verdict.Schedulable certificate)) answer =
     answer ≡ ending_answer protocol digest set (Schedulable certificate.bounds.items (map dual_seen certificate.duals.items))
@@ -26,6 +26,6 @@ RepliesTo protocol digest set (Err (stop.Wide task)) answer = answer ≡ ending_
 RepliesTo protocol digest set (Err stop.Allowance) answer = answer ≡ ending_answer protocol digest set Allowance
 RepliesTo protocol digest set (Err stop.Memory) answer = ⊥
 
--- Is this a reply of the plan, where the shelf became another? Want of memory says nothing.
+-- Is this a reply of the plan, if the shelf changes in this way? Running out of memory says nothing.
 abbrev pub AnswersPlan : Result Reply Halt → ShelfDef → ShelfDef → Plan → Type 0
 AnswersPlan result old new plan = Answered result (IsReplyOf (shown old new) plan)

@@ -9,8 +9,8 @@ use Rattle.command_inputs.specs.Known.{told}
 use Rattle.command_inputs.specs.Got.{Keeps}
 use Rattle.run_plans.specs.Headline.{Call}
 
--- Two calls over one shelf and one sink, the second over what the first left. The shelf promises that no call fails, each call
--- keeps what a run keeps, and the sink tells its bytes.
+-- Two calls over one shelf and one sink. The second one finds the shelf as the first one left it. The shelf promises that no call fails,
+-- each call keeps what a run keeps, and the sink tells its bytes.
 pub record AreSteady (first second : Call) : Type 0 where
   pub steady : first.shelf_before.steady ≡ true
   pub count : first.shelf_before.faults < 2 ^ 64 - 1
@@ -20,8 +20,8 @@ pub record AreSteady (first second : Call) : Type 0 where
   pub keeps_still : Keeps second.shelf_before second.shelf_now
   pub same_shelf : second.shelf_before ≡ first.shelf_now
 
--- Where the words have a form, each input that it names is there and accepted, the work on them comes to an end with
--- status 0 or 1, and the sink's count doesn't rise, the status is 0 or 1, or 7 for want of memory.
+-- Let the words have a form, each input that it names be there and accepted, the work on them end with status 0 or 1, and the sink's count
+-- not rise. Then the status is 0 or 1, or 7 if memory runs out.
 abbrev pub IsCompleteCall : Call → Type 0
 IsCompleteCall call = (inputs : Inputs) (form : Form) → form_of call.words ≡ Some form → call.shelf_before.names ≡ Some inputs
     → EndsWell (told inputs) (plan_of form) → (Rose call.sink_before.faults call.sink_now.faults → ⊥)

@@ -56,14 +56,14 @@ keeps_of f allowance (Err stop.Allowance) one (inr (inr ((i, value, late), short
     inr (inl (i, value, one e (NotShown i value) ends late))
 keeps_of f allowance (Err stop.Memory) one settles e ends = tt
 
--- Each verdict comes exactly where it is right.
+-- Each verdict comes if it is right, and only then.
 pub exactly_of : (f : SourceDef) (r : Result Settled SettleStop) → IfOk r (λ settled. IsRight settled f)
     → IfOk r (λ settled. IsSchedulable settled ↔ ((s : List ℕ) × AreFitting f s))
 exactly_of f (Ok (settled.Schedulable certificate)) right = ((λ _. (certificate.bounds.items, right.least.fitting)), λ _. tt)
 exactly_of f (Ok (settled.Refused refusal)) right = ((λ h. absurd h), λ h. absurd (right.1 h.0 h.1))
 exactly_of f (Err e) right = tt
 
--- The answer where the analysis gives a certificate, where it is wide, and where it doesn't show the set.
+-- The answer if the analysis gives a certificate, if it is wide, and if it doesn't show the set.
 pub answers_best : (f : SourceDef) (allowance : ℕ) (c : Certificate)
     → EndsIn (rounds_of f) allowance (Schedulable c.bounds.items (map dual_seen c.duals.items)) → IsBest f (certificate_seen c)
     → AnswersSo (Ok (settled.Schedulable c)) f allowance
@@ -88,7 +88,7 @@ answers_refusal f allowance (Err stop.Allowance) late (inl wide) = (inr (inl (in
 answers_refusal f allowance (Err stop.Allowance) late (inr short) = (inr (inr (late, short)), tt)
 answers_refusal f allowance (Err stop.Memory) late gives = (tt, tt)
 
--- What steps of a search give, where they are asked for.
+-- What steps of a search give, for a wide analysis and for wide rounds of refusals.
 pub wide_of : (f : SourceDef) (r : Result Settled SettleStop) → RefusesSo r f → GivesWide r f
 wide_of f (Ok (settled.Schedulable certificate)) gives = absurd gives
 wide_of f (Ok (settled.Refused refusal)) gives = gives
@@ -102,7 +102,7 @@ refusal_of_steps f allowance i (Err (stop.Wide task)) wide gives = (i, wide)
 refusal_of_steps f allowance i (Err stop.Allowance) wide gives = inl (i, wide)
 refusal_of_steps f allowance i (Err stop.Memory) wide gives = tt
 
--- What the endings of an analysis and of a refutation say, by the answers' variants.
+-- What the endings of an analysis and of a refutation say, for each variant of the answers.
 pub not_shown_of : (f : SourceDef) (allowance : ℕ) (r : Result Verdict Stop) (v : Verdict) (task : TaskId) (bound : ℕ)
     → Answers r f allowance → r ≡ Ok v → v ≡ verdict.NotShown task bound → IsNotShown f allowance
 not_shown_of f allowance r v task bound answers is same =
@@ -138,7 +138,7 @@ wide_refutation_of f allowance r e task rounds is same =
     subst (λ (x : RefuteStop). Refutes (Err x) f allowance) same
     (subst (λ (x : Result Answer RefuteStop). Refutes x f allowance) is rounds)
 
--- The bounds of a certificate are sound, where valid certificates are.
+-- The bounds of a certificate are sound, if those of valid certificates are.
 pub sound_of : (f : SourceDef) (keeps : Rule → Trace → ℕ → Type 0) (interferes : Trace → ℕ → ℕ → Bool) (r : Result Settled SettleStop)
     → IfOk r (λ settled. IsRight settled f)
     → ((c : CertificateDef) (values : List ℕ) → IsValid f c → AreValues f c values → Sound keeps interferes f.set c.bounds values)

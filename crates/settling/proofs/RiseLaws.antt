@@ -16,8 +16,8 @@ use Rattle.dual_check.specs.Answers.{Judges}
 use Rattle.settling.specs.Rising.{IsReached, AreReached, IsNextBound, AreNextBounds, IsWithin}
 use Rattle.settling.specs.declared.reached.Reached.{Reached}
 
--- What the laws of least bounds say of a source: responses that are reached at bounds below all fitting vectors are so too, and what is
--- reached stays so where bounds rise.
+-- What the laws of least bounds say of a source. If bounds are at most every fitting vector, so are the responses that are reached at them.
+-- What is reached stays reached if bounds rise.
 abbrev pub RespondsBelow : SourceDef → Type 0
 RespondsBelow f = (v s : List ℕ) (i blocking : ℕ) → AreBelowAllFitting f v → AreFitting f s → i < tasks_of f
     → Reaches (f.program i v) blocking → response_with f v i blocking ≤ slice_index s i
@@ -45,7 +45,7 @@ next_below f v next responds are below s fits i here =
     let own : slice_index v i ≤ slice_index s i = below s fits i here in
     omega (arith, response, own, b.greater)
 
--- What was reached of a task by its place.
+-- What was reached by the program of a task, by the task's place.
 pub reached_at : (f : SourceDef) (v : List ℕ) (reached : List Reached) (i : ℕ) (r : Reached) → AreReached f v reached
     → slice_get reached i ≡ Some r → IsReached f v i r.ticks
 reached_at f v reached i r are here =
@@ -63,14 +63,14 @@ stay_reached f v w reached stays most size are = λ i r here.
     let first : i ≡ 0 + i = omega arith in
     subst (λ (k : ℕ). IsReached f w k r.ticks) first now
 
--- As a look-up gives it.
+-- The same, as a look-up gives it.
 pub reached_here : (f : SourceDef) (v : List ℕ) (reached : List Reached) (i : ℕ) (r : Reached) → AreReached f v reached
     → i < length reached → r ≡ get_or reached i r → IsReached f v i (get_or reached i r).ticks
 reached_here f v reached i r are here is =
     subst (λ (x : Reached). IsReached f v i x.ticks) is
     (reached_at f v reached i r are (slice_get_read reached (length reached) i r refl here is))
 
--- And one task more.
+-- The same with one more task.
 pub one_more_reached : (f : SourceDef) (v : List ℕ) (reached : List Reached) (i : ℕ) (r : Reached) → length reached ≡ i
     → AreReached f v reached → IsReached f v i r.ticks → AreReached f v (reached ++ r ∷ [])
 one_more_reached f v reached i r size are is =
@@ -80,7 +80,7 @@ one_more_reached f v reached i r size are is =
 pub none_reached : (f : SourceDef) (v : List ℕ) (reached : List Reached) → length reached ≡ 0 → AreReached f v reached
 none_reached f v reached none = each_none (λ k (x : Reached). IsReached f v k x.ticks) 0 reached none
 
--- One bound more.
+-- One more bound.
 pub one_more_bound : (f : SourceDef) (v next : List ℕ) (i b : ℕ) → length next ≡ i
     → ((k : ℕ) → k < i → IsNextBound f v k (slice_index next k)) → IsNextBound f v i b
     → (k : ℕ) → k < i + 1 → IsNextBound f v k (slice_index (next ++ b ∷ []) k)

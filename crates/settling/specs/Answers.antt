@@ -60,7 +60,7 @@ abbrev pub NamesTask : SetDef → Result Settled SettleStop → Type 0
 NamesTask set (Ok settled) = Unit {0}
 NamesTask set (Err stop) = StopsWithin set stop
 
--- Is the answer right: are the bounds the least that fit, with a valid certificate, or does the refusal hold, so that nothing fits?
+-- Is the answer right? The bounds are the least that fit, with a valid certificate. Or the refusal holds, so that nothing fits.
 abbrev pub IsRight : Settled → SourceDef → Type 0
 IsRight (settled.Schedulable certificate) f = IsProvedLeast f (certificate_seen certificate)
 IsRight (settled.Refused refusal) f = (Holds f (steps_seen refusal)) × ((s : List ℕ) → AreFitting f s → ⊥)
@@ -77,7 +77,7 @@ IsNotShown f allowance = (i : ℕ) × (value : ℕ) × EndsIn (rounds_of f) allo
 abbrev pub IsWideToRefute : SourceDef → ℕ → Type 0
 IsWideToRefute f allowance = (i : ℕ) × EndsIn (refuting f) allowance (Wide i)
 
--- Do the rounds leave the set open: do they end wide, or at a task that isn't shown where the rounds of refusals end wide?
+-- Do the rounds leave the set open? The analysis ends wide. Or it ends at a task that isn't shown, and the rounds of refusals end wide.
 abbrev pub IsLeftOpen : SourceDef → ℕ → Type 0
 IsLeftOpen f allowance = ((i : ℕ) × EndsIn (rounds_of f) allowance (Wide i))
     ⊎ ((IsNotShown f allowance) × IsWideToRefute f allowance)
@@ -88,13 +88,13 @@ RefusesSo (Ok (settled.Schedulable certificate)) f = ⊥
 RefusesSo (Ok (settled.Refused refusal)) f = (IsRight (settled.Refused refusal) f) × HasSmallPoints (steps_seen refusal)
 RefusesSo (Err e) f = Unit {0}
 
--- What is answered where the analysis is wide.
+-- What is answered if the analysis is wide.
 abbrev pub GivesWide : Result Settled SettleStop → SourceDef → Type 0
 GivesWide (Ok (settled.Schedulable certificate)) f = IsRight (settled.Schedulable certificate) f
 GivesWide (Ok (settled.Refused refusal)) f = (IsRight (settled.Refused refusal) f) × HasSmallPoints (steps_seen refusal)
 GivesWide (Err e) f = Unit {0}
 
--- What is answered where the analysis doesn't show the set.
+-- What is answered if the analysis doesn't show the set.
 abbrev pub GivesRefusal : Result Settled SettleStop → SourceDef → ℕ → Type 0
 GivesRefusal (Ok (settled.Schedulable certificate)) f allowance = ⊥
 GivesRefusal (Ok (settled.Refused refusal)) f allowance = (IsRight (settled.Refused refusal) f)
@@ -104,8 +104,8 @@ GivesRefusal (Err (stop.Wide task)) f allowance = IsWideToRefute f allowance
 GivesRefusal (Err stop.Allowance) f allowance = (IsWideToRefute f allowance) ⊎ EndsIn (refuting f) allowance Allowance
 GivesRefusal (Err stop.Memory) f allowance = Unit {0}
 
--- Where an answer comes. Where the rounds of an analysis leave nothing open, it is theirs, or that of the rounds of refusals. Want of
--- memory says nothing.
+-- Where an answer comes from. If the rounds don't leave the set open, it is that of the analysis, or that of the rounds of refusals.
+-- Running out of memory says nothing.
 abbrev pub Settles : Result Settled SettleStop → SourceDef → ℕ → Type 0
 Settles (Ok (settled.Schedulable certificate)) f allowance =
     (EndsIn (rounds_of f) allowance (Schedulable certificate.bounds.items (map dual_seen certificate.duals.items)))
@@ -118,7 +118,7 @@ Settles (Err stop.Allowance) f allowance = (EndsIn (rounds_of f) allowance Allow
     ⊎ (IsLeftOpen f allowance) ⊎ ((IsNotShown f allowance) × EndsIn (refuting f) allowance Allowance)
 Settles (Err stop.Memory) f allowance = Unit {0}
 
--- Where it comes, and is it right?
+-- Does the answer come from there, and is it right?
 abbrev pub AnswersSo : Result Settled SettleStop → SourceDef → ℕ → Type 0
 AnswersSo r f allowance = (Settles r f allowance) × IfOk r (λ settled. IsRight settled f)
 
@@ -129,8 +129,8 @@ IsUnshown e = (i : ℕ) × (value : ℕ) × (e ≡ NotShown i value)
 abbrev pub IsWide : Ending → Type 0
 IsWide e = (i : ℕ) × (e ≡ Wide i)
 
--- Which endings of the analysis does an answer leave? A certificate is the one that the analysis gives, unless that is wide. Want of
--- memory says nothing.
+-- Which endings may the analysis have, given the answer? A certificate is the one that the analysis gives, unless that is wide. Running out
+-- of memory says nothing.
 abbrev pub Keeps : Result Settled SettleStop → Ending → Type 0
 Keeps (Ok (settled.Schedulable certificate)) e =
     (e ≡ Schedulable certificate.bounds.items (map dual_seen certificate.duals.items)) ⊎ IsWide e

@@ -20,11 +20,12 @@ pub record IsReached (f : SourceDef) (v : List ℕ) (i ticks : ℕ) : Type 0 whe
   pub reached : Reaches (f.program i v) ticks
   pub small : ticks < 2 ^ 63
 
--- Was this reached of the first tasks, one after another?
+-- Was this reached by the programs of the first tasks, one after another?
 abbrev pub AreReached : SourceDef → List ℕ → List Reached → Type 0
 AreReached f v reached = AreEach (λ i r. IsReached f v i r.ticks) 0 reached
 
--- Is b task i's response time with a blocking that its program reaches, or its bound where that is greater, and within its latest bound?
+-- Is b within task i's latest bound? Is it the task's response time with a blocking that its program reaches, or its bound if that is
+-- greater?
 pub record IsNextBound (f : SourceDef) (v : List ℕ) (i b : ℕ) : Type 0 where
   pub blocking : ℕ
   pub is_reached : IsReached f v i blocking
@@ -36,7 +37,7 @@ pub record AreNextBounds (f : SourceDef) (v next : List ℕ) : Type 0 where
   pub one_each : length next ≡ tasks_of f
   pub each : (i : ℕ) → i < tasks_of f → IsNextBound f v i (slice_index next i)
 
--- Has dual i of a list a denominator of at least 1, and are its numbers below 2^63?
+-- Does dual i of a list have a denominator of at least 1, and are its numbers below 2^63?
 abbrev pub IsUsable : List Dual → ℕ → Type 0
 IsUsable duals i = (1 ≤ (dual_at (map dual_seen duals) i).den) × IsSmallDual (dual_at (map dual_seen duals) i)
 
@@ -55,8 +56,7 @@ pub record IsProvedLeast (f : SourceDef) (c : CertificateDef) : Type 0 where
   pub valid : IsValid f c
   pub small : (i : ℕ) → i < tasks_of f → IsSmallDual (dual_at c.duals i)
 
--- What a walk shows: least bounds, or nothing yet where a value passes its latest bound, since the steps that led there are to be
--- confirmed.
+-- What a walk shows: least bounds. Or nothing yet, if a value passes its latest bound, since the steps that led there have to be confirmed.
 abbrev pub Rises : Risen → SourceDef → Type 0
 Rises (risen.Least certificate) f = IsProvedLeast f (certificate_seen certificate)
 Rises (risen.Late refusal) f = Unit {0}

@@ -10,7 +10,7 @@ use std::alloc::{AllocError, AllocFailed};
 pub enum Settled {
     /// Every deadline is met: the least bounds that fit, with a dual for each task.
     Schedulable(Certificate),
-    /// No bounds fit: here are the steps that show so.
+    /// No bounds fit. These steps show it.
     Refused(Refusal),
 }
 

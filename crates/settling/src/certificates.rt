@@ -17,7 +17,7 @@ use program_sources::ProgramSource;
 use sporadic_model::{TaskId, TaskSet};
 use std::alloc::{AllocError, Global};
 
-/// Has the dual a denominator of at least 1, and no number above 2^63 - 1?
+/// Does the dual have a denominator of at least 1, and no number above 2^63 - 1?
 pub(crate) fn is_small(dual: &Dual) -> bool
     ensures positive { IsTrue result → 1 ≤ dual.now.den }
     ensures small { IsTrue result → IsSmallDual (dual_seen dual.now) }
@@ -51,7 +51,7 @@ fn duals_of(alloc: Global, reached: Vec<Reached>) -> Result<Vec<Dual>, AllocErro
     Ok(duals)
 }
 
-/// Why settling stops where a certificate isn't valid.
+/// Why settling stops if a certificate isn't valid.
 fn stop_at(set: &TaskSet, invalid: Invalid) -> SettleStop
     requires { IsWithin set.now invalid }
     ensures { StopsWithin set.now result }
@@ -68,7 +68,7 @@ fn stop_at(set: &TaskSet, invalid: Invalid) -> SettleStop
     }
 }
 
-/// The certificate of these bounds with the duals that were found, where it is valid.
+/// The certificate of these bounds with the duals that were found, if it is valid.
 pub(crate) fn certificate_of<P: ProgramSource>(
     alloc: Global,
     set: &TaskSet,

@@ -13,7 +13,7 @@ use whole_numbers::Whole;
 pub(crate) enum Points {
     /// As they are found, whatever their size.
     Exact,
-    /// With 63 bits: as it is where it fits, else over a power of two, each number rounded down.
+    /// With 63 bits: as it is if it fits, else over a power of two, each number rounded down.
     Rounded,
 }
 
@@ -35,7 +35,7 @@ fn wholes_of(alloc: Global, numbers: &[u64]) -> Result<Vec<Whole>, AllocError> {
     Ok(wholes)
 }
 
-/// The same with its point rounded down where it needs more than 63 bits. None where no such point has 63 bits.
+/// The same with its point rounded down if it needs more than 63 bits. None if no such point has 63 bits.
 fn with_rounded_point(
     alloc: Global,
     program: &SparseProgram,
@@ -54,7 +54,7 @@ fn with_rounded_point(
     }))
 }
 
-/// What the search finds of the program, with its point written so.
+/// What the search finds of the program, with its point written in this way.
 pub(crate) fn find<S: Search>(
     alloc: Global,
     search: &S,

@@ -1,7 +1,7 @@
-//! Settling task sets: least bounds or a refusal also where an analysis is wide.
+//! Settling task sets: least bounds or a refusal, also if an analysis is wide.
 //!
-//! A search proposes points and duals of programs. Nothing that it finds is believed: each point is tested exactly before it raises a
-//! bound, a certificate is judged before it is answered, and a refusal is confirmed.
+//! A search proposes points and duals of programs. Nothing that it finds is believed. Each point is tested without rounding before it
+//! raises a bound. A certificate is judged before it is answered, and a refusal is confirmed.
 #![tactic(auto)]
 
 mod answer;

@@ -22,11 +22,11 @@ use whole_numbers::Whole;
 pub(crate) struct Reached {
     /// A blocking that the program reaches, in ticks.
     pub ticks: u64,
-    /// The limits of its rows there. They tell whether a search anew is worth its while, and nothing rests on them.
+    /// The limits of its rows there. They tell whether a new search is worth it. Nothing rests on them.
     pub limits: Vec<u64>,
-    /// The point that reaches it, where each number has 63 bits. A refusal that has it is confirmed.
+    /// The point that reaches it, if each number has 63 bits. A refusal with this point is confirmed.
     pub point: Option<Dual>,
-    /// The dual that was found. A certificate that has it is judged.
+    /// The dual that was found. A certificate with this dual is judged.
     pub dual: Dual,
     /// The units that the search used.
     pub used: u64,
@@ -39,12 +39,12 @@ pub(crate) fn copy_of(alloc: Global, dual: &Dual) -> Result<Dual, AllocError> {
     })
 }
 
-// The number, where it has 63 bits.
+// The number, if it has 63 bits.
 fn small(number: &Whole) -> Option<u64> {
     number.as_u64().filter(|n| *n <= MOST_NUMBER)
 }
 
-// The point with numbers of 63 bits, where it has only such.
+// The point with numbers of 63 bits, if all its numbers have so few.
 fn small_point(alloc: Global, den: &Whole, num: &[Whole]) -> Result<Option<Dual>, AllocError> {
     let Some(den) = small(den) else {
         return Ok(None);
@@ -59,7 +59,7 @@ fn small_point(alloc: Global, den: &Whole, num: &[Whole]) -> Result<Option<Dual>
     Ok(Some(Dual { den, num: numbers }))
 }
 
-/// What is reached stays reached where bounds rise, and where the limits stay no search finds more. This takes a unit.
+/// What is reached stays reached if bounds rise. If the limits stay, no search finds more. This takes a unit.
 fn taken_over(alloc: Global, before: &Reached) -> Result<Reached, AllocError>
     ensures { IfOk result (λ r. r.ticks ≡ before.now.ticks) }
 {

@@ -1,4 +1,4 @@
-//! Refusals by rounded points. None is answered that isn't confirmed.
+//! Refusals by rounded points. None is answered unless it is confirmed.
 
 ghost use Rattle.std.specs.Prelude.{◌≡◌, ℕ, ◌<◌, ◌≤◌, List, IfOk, IsTrue, length};
 ghost use Rattle.program_form.specs.Certificate.{dual_seen};
@@ -18,7 +18,7 @@ use sporadic_model::{TaskId, TaskSet};
 use std::alloc::Global;
 use std::thread::Threads;
 
-/// Has each point only numbers of 63 bits?
+/// Does each point have only numbers of 63 bits?
 fn has_small_points(refusal: &Refusal) -> bool
     ensures { IsTrue result → HasSmallPoints (steps_seen refusal.now) }
 {
@@ -47,7 +47,7 @@ pub(crate) fn keeps_64_bits(refusal: &Refusal)
     }
 }
 
-/// Answers the refusal, where it holds. Where it doesn't, settling stops at this task.
+/// Answers the refusal if it holds. If it doesn't, settling stops at this task.
 pub(crate) fn answer_confirmed<R: Threads + Sync, P: ProgramSource + Sync>(
     rt: &R,
     alloc: Global,
@@ -73,7 +73,7 @@ pub(crate) fn answer_confirmed<R: Threads + Sync, P: ProgramSource + Sync>(
     }
 }
 
-/// A refusal by points that are rounded down. Where they come to none, settling stops at this task.
+/// A refusal by points that are rounded down. If they lead to none, settling stops at this task.
 pub(crate) fn refuse_by_rounded_points<R: Threads + Sync, P: ProgramSource + Sync, S: Search>(
     rt: &R,
     alloc: Global,

@@ -26,12 +26,12 @@ use response_fixpoint::costs;
 use sporadic_model::TaskSet;
 use std::alloc::Global;
 
-/// Where a walk comes to.
+/// Where a walk ends.
 #[derive(Drop)]
 pub(crate) enum Risen {
     /// No bound rises any more, and the certificate of these bounds is valid.
     Least(Certificate),
-    /// A value passes its task's latest bound: the steps that led there, where all are written in 63 bits. They aren't confirmed yet.
+    /// A value passes its task's latest bound: the steps that led there, if all are written in 63 bits. They aren't confirmed yet.
     Late(Option<Refusal>),
 }
 

@@ -77,7 +77,7 @@ fn refuse<R: Threads + Sync, P: ProgramSource + Sync, S: Search>(
     }
 }
 
-/// The answer, where it comes.
+/// The answer, from the analysis, a refutation or a search.
 fn settle<R: Threads + Sync, P: ProgramSource + Sync, S: Search>(
     rt: &R,
     alloc: Global,
@@ -111,15 +111,15 @@ pub fn settle_by<R: Threads + Sync, P: ProgramSource + Sync, S: Search>(
 ) -> Result<Settled, SettleStop>
     requires serves { P.serves protocol.now set.now }
 
-    // Where each answer comes: it is that of the analysis, or of a refutation, unless these are wide.
+    // Where each answer comes from: the analysis, or a refutation, unless these are wide.
     ensures settles { Settles result (source_at (P.source protocol.now) set.now) allowance }
 
     // What is kept of each ending of the analysis.
     ensures keeps { (e : Ending)
         → EndsIn (rounds_of (source_at (P.source protocol.now) set.now)) allowance e → Keeps result e }
 
-    // Schedulable: the least fitting bounds, with a valid certificate. Refused: the refusal holds, and nothing fits. So each comes exactly
-    // there.
+    // Schedulable: the least fitting bounds, with a valid certificate. Refused: the refusal holds, and nothing fits. So an answer is
+    // schedulable if some bounds fit, and only then.
     ensures right { IfOk result (λ settled. IsRight settled (source_at (P.source protocol.now) set.now)) }
     ensures exactly { IfOk result (λ settled. IsSchedulable settled
         ↔ ((s : List ℕ) × AreFitting (source_at (P.source protocol.now) set.now) s)) }
@@ -133,17 +133,17 @@ pub fn settle_by<R: Threads + Sync, P: ProgramSource + Sync, S: Search>(
     settle(rt, alloc, set, protocol, search, allowance)
 }
 
-/// Settles a task set: least bounds with a certificate, or a refusal, whichever it is.
+/// Settles a task set: least bounds with a certificate, or a refusal.
 ///
-/// The analysis is made first, so that its answer stays where it has one. A set that it doesn't show is refuted. Where either is wide, a
-/// search over numbers of any size proposes points and duals, and bounds rise from the costs by points that are tested. Where no bound
-/// rises any more, they are the least that fit, and the duals make a certificate, which is judged. Where a value passes its task's latest
-/// bound, steps with points of 63 bits make a refusal, which is confirmed.
+/// The analysis is made first, so that its answer stays if it has one. A set that it doesn't show is refuted. If either is wide, a search
+/// over numbers of any size proposes points and duals. Bounds rise from the costs by points that are tested. If no bound rises any more,
+/// they are the least that fit, and the duals make a certificate, which is judged. If a value passes its task's latest bound, steps with
+/// points of 63 bits make a refusal, which is confirmed.
 ///
-/// `allowance` is the number of units for the analysis, as many for the refutation, and as many for each walk of a search: a task takes
-/// one in each round, and one more for each exchange. `SettleStop::Wide` names a task whose program isn't settled, and comes only where
-/// the analysis, or the refutation of a set that isn't shown, is wide. `SettleStop::Allowance` comes where one of them, or a search,
-/// wants more units; `SettleStop::Memory` comes for want of memory alone.
+/// `allowance` is the number of units for the analysis, as many for the refutation, and as many for each walk of a search. A task takes one
+/// in each round, and one more for each exchange. `SettleStop::Wide` names a task whose program isn't settled. It comes only if the
+/// analysis is wide, or the refutation of a set that isn't shown. `SettleStop::Allowance` comes if one of them, or a search, wants more
+/// units. `SettleStop::Memory` comes only if memory runs out.
 pub fn settle_with<R: Threads + Sync, P: ChargedProtocol + Sync>(
     rt: &R,
     alloc: Global,
@@ -161,7 +161,7 @@ pub fn settle_with<R: Threads + Sync, P: ChargedProtocol + Sync>(
     ensures names { NamesTask set.now result }
     ensures small_steps { IfOk result (λ settled. RefusesBySmallSteps settled) }
 
-    // The bounds of a certificate hold in every schedule that keeps the protocol's rules, of whatever lawful jobs.
+    // The bounds of a certificate hold in every schedule of lawful jobs that keeps the protocol's rules.
     ensures sound { IfOk result (λ settled.
         IsSound (P.keeps protocol.now) (P.interferes protocol.now) (source_at (P.source protocol.now) set.now) settled) }
 {

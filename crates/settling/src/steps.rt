@@ -50,7 +50,7 @@ impl Steps {
         Ok(())
     }
 
-    /// The refusal of these steps, where all are written.
+    /// The refusal of these steps, if all are written.
     pub(crate) fn refusal(self) -> Option<Refusal> {
         if !self.are_written {
             return None;

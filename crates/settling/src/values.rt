@@ -10,7 +10,7 @@ use program_sources::{ProgramSource, response};
 use sporadic_model::{TaskId, TaskSet};
 use std::alloc::{AllocError, Global};
 
-/// Task `i`'s response time with this blocking, or its bound where that is greater. None where this passes its latest bound.
+/// Task `i`'s response time with this blocking, or its bound if that is greater. None if this passes its latest bound.
 pub(crate) fn next_bound<P: ProgramSource>(
     set: &TaskSet,
     protocol: &P,
@@ -31,7 +31,7 @@ pub(crate) fn next_bound<P: ProgramSource>(
     Some(value)
 }
 
-/// The next bounds, by what each task's program reaches at these. None where one passes its latest bound.
+/// The next bounds, from what each task's program reaches at these. None if one passes its latest bound.
 pub(crate) fn next_bounds<P: ProgramSource>(
     alloc: Global,
     set: &TaskSet,

@@ -1,6 +1,5 @@
 """Closer analyses, in each command that takes a protocol."""
-import re
-
+from bounds import audited, bounded
 from setting import TOP, Case, runs_on
 from sets import PAIR, PAIR_FULL_TABLE, PAIR_JOBS, PAIR_MEASURED, PAIR_ROWS, PAIR_SIMULATED, certificate, old, refusal, resource, step, task, task_set, tied
 
@@ -43,6 +42,7 @@ KINDS = {
 CEILED = (task("t1", 3, 100, 5, ("q", 1)), task("t2", 1, 110, 5, ("s", 1), ("u", 1)), task("t3", 1, 300, 10, ("q", 1), ("r", 1)))
 OTHERS = (task("t5", 2, 500, 10, ("r", 1)), task("t6", 2, 600, 10, ("q", 1)))
 FOUR = [resource("q"), resource("r"), resource("s"), resource("u")]
+ABOVE = (task("t3", 2, 120, 10, ("q", 1), ("r", 1)), task("t4", 1, 300, 10, ("q", 1), ("r", 1)))
 AWAY = task_set(2, [resource("q")], task("t1", 2, 100, 15, ("q", 5, 2)), task("t2", 1, 200, 6, ("q", 4)))
 MPCP_KINDS = {
     "shared holdings": (task_set(3, FOUR, *CEILED, task("t4", 2, 400, 31, ("s", 4), ("u", 4)), *OTHERS), [6, 16, 26, 36, 44, 53], [6, 16, 22, 36, 44, 53]),
@@ -60,18 +60,68 @@ MPCP_KINDS = {
     "lower waits": (
         task_set(2, [resource("q")], task("t1", 2, 100, 10, ("q", 1)), task("t2", 1, 100, 10, ("q", 1)), task("t3", 1, 200, 30, ("q", 5, 5))),
         [15, 26, 41], [15, 21, 41]),
+    "shared holdings by a higher task": (
+        task_set(3, FOUR, task("t1", 3, 100, 5, ("q", 1)), task("t2", 3, 110, 5, ("s", 1), ("u", 1)), *ABOVE, task("t5", 2, 400, 31, ("s", 4), ("u", 4))),
+        [8, 19, 21, 21, 44], [8, 19, 21, 17, 44]),
+    "holdings by resource, by a higher task": (
+        task_set(3, FOUR, task("t1", 3, 100, 5, ("q", 1), ("u", 1)), task("t2", 3, 110, 5, ("s", 1)), *ABOVE, task("t5", 2, 400, 31, ("s", 4, 2), ("u", 1))),
+        [9, 15, 22, 21, 44], [9, 15, 22, 18, 44]),
+}
+
+# of each further kind of rows a set and a lawful schedule that meets a row of it with equality, and with it the proved bound: its jobs, its
+# rows, and what an audit says
+MET = {
+    "holders": (
+        KINDS["holders"][0], "t1,1,1 r:1 1 s:1 6\nt2,1,1 r:1\nt3,0,1 q:3\nt4,0,1 q:1 6 s:1\n",
+        "1,,3,4,,,\n1,1,2,4,,,4\n3,,3,4,2,,3\n1,,2,4,2,,\n1,1,,4,1,,\n1,1,,4,,,\n1,,,4,,4,\n1,1,,,,1,\n6,1,,,,,\n",
+        "kept 16\nt1 15 15 5 5 2 3 0\nt2 5 17 3 7 0 0 3\nt3 5 32 0 2 0 0 0\nt4 9 15 0 5 0 0 0\n"),
+    "other holders": (
+        KINDS["other holders"][0], "t1,1,1 r:1 1 s:1 6\nt2,1,1 r:1\nt3,0,1 q:3 2 s:1\nt4,0,1 q:1\n",
+        "1,,3,4,,,\n1,1,2,4,,,4\n3,,3,,2,,3\n1,,2,,2,,\n1,1,3,,1,,\n1,1,3,,,,\n1,,3,,,3,\n1,1,,,,1,\n6,1,,,,,\n",
+        "kept 16\nt1 15 15 5 5 2 3 0\nt2 5 17 3 7 0 0 3\nt3 9 32 0 2 0 0 0\nt4 2 14 0 4 0 0 0\n"),
+    "lower tasks": (
+        KINDS["lower tasks"][0], "t1,1,1 q:1 8\nt2,0,1 q:3 1 q:3\nt3,4,1 q:1\n",
+        "1,2,,\n3,2,,2\n1,1,3,\n1,2,3,3\n1,1,,1\n3,2,,2\n8,1,,\n",
+        "kept 18\nt1 17 17 7 7 1 0 6\nt2 10 31 0 1 0 0 0\nt3 2 14 0 4 0 0 0\n"),
+    "local preemption": (
+        KINDS["local preemption"][0], "t1,1,10\nt3,0,1 r:4\n", "1,2,\n4,2,2\n10,1,\n",
+        "kept 15\nt1 14 14 4 4 0 0 4\nt2 - 34 0 4 0 0 0\nt3 5 50 0 0 0 0 0\n"),
+    # t1 requests q, and never waits for it
+    "local waits": (
+        ALONE, "t1,1,1 q:1 1\nt2,0,1 q:3\n", "1,2,\n3,2,2\n1,1,\n1,1,1\n1,1,\n", "kept 7\nt1 6 6 3 3 0 0 3\nt2 4 13 0 0 0 0 0\n"),
+    # t1 waits for r, and q never runs in its holder's place
+    "local runners": (
+        KINDS["local runners"][0], "t1,4,1 r:1 8\nt2,1,1 r:1\nt3,0,1 q:3\n", "1,,3,,\n3,,3,,3\n1,1,2,,\n1,,2,2,\n1,1,,1,\n8,1,,,\n",
+        "kept 15\nt1 11 11 1 1 1 0 0\nt2 5 14 3 4 0 0 3\nt3 4 30 0 0 0 0 0\n"),
+}
+MPCP_MET = {
+    "shared holdings": (
+        MPCP_KINDS["shared holdings by a higher task"][0], "t1,8,1 q:1\nt2,0,1 s:1\nt3,1,1 r:1 2 q:1\nt4,1,1 r:1 1 q:1 6\nt5,0,1 s:4\n",
+        "1,,5,2,,,,\n1,4,3,2,,,2,\n4,,5,,,3,5,\n1,,3,,,3,,\n1,4,3,,,4,,\n1,4,3,1,,,,\n1,,,1,1,,,\n1,,3,,3,,,\n1,4,,,4,,,\n6,4,,,,,,\n",
+        "kept 18\nt1 2 8 0 3 0 0 0\nt2 2 19 0 9 0 0 0\nt3 10 21 5 11 1 0 4\nt4 17 17 7 7 3 4 0\nt5 6 44 0 3 0 0 0\n"),
+    "holdings by resource": (
+        MPCP_KINDS["holdings by resource, by a higher task"][0], "t1,8,1 q:1\nt2,0,1 s:1\nt3,1,1 r:1 2 q:1\nt4,1,1 r:1 1 q:1 6\nt5,0,1 s:4 1 u:1\n",
+        "1,,5,2,,,,\n1,4,3,2,,,2,\n4,,5,,,3,5,\n1,,3,,,3,,\n1,4,3,,,4,,\n1,4,3,1,,,,\n1,,5,1,1,,,\n1,,5,,3,,,5\n1,,3,,3,,,\n1,4,,,4,,,\n6,4,,,,,,\n",
+        "kept 19\nt1 2 9 0 4 0 0 0\nt2 2 15 0 5 0 0 0\nt3 11 22 6 12 1 0 5\nt4 18 18 8 8 3 5 0\nt5 11 44 0 3 0 0 0\n"),
+    "away holdings": (
+        AWAY, "t1,0,1 q:5\nt2,0,1 q:4 1\n", "1,2,1,\n5,,1,1\n4,2,,2\n1,2,,\n", "kept 11\nt1 6 19 0 4 0 0 0\nt2 11 11 5 5 5 0 0\n"),
+    "shared intervals": (
+        MPCP_KINDS["shared intervals"][0], "t2,1,1 q:4 1\nt3,0,1 r:2\n", "1,,2,,\n2,,2,,2\n1,,1,,\n4,,1,1,\n1,,1,,\n",
+        "kept 9\nt1 - 8 0 4 0 0 0\nt2 8 8 2 2 0 0 2\nt3 3 14 0 2 0 0 0\n"),
+    "local preemption": (
+        MPCP_KINDS["local preemption"][0], "t1,1,5\nt3,0,1 q:4\n", "1,2,\n4,2,2\n5,1,\n",
+        "kept 10\nt1 9 9 4 4 0 0 4\nt2 - 22 0 4 0 0 0\nt3 5 23 0 0 0 0 0\n"),
+    # t2 waits for t1's request, and never for one of t3
+    "lower waits": (
+        MPCP_KINDS["lower waits"][0], "t1,6,1 q:1\nt2,1,1 q:1 8\nt3,0,1 q:5 1 q:5\n",
+        "1,3,,\n5,3,,3\n1,2,1,\n1,3,1,1\n1,2,,2\n5,3,,3\n8,2,,\n",
+        "kept 22\nt1 2 15 0 5 0 0 0\nt2 21 21 11 11 1 0 10\nt3 14 41 0 1 0 0 0\n"),
 }
 MPCP_PAIR = certificate("mpcp-c", [5, 5], [[2, 0, 0, 0], [1, 0, 0]])
 AWAY_LATE = AWAY.replace('"cost": 6,', '"cost": 6, "deadline": 11,')
 AWAY_TOO_LATE = AWAY.replace('"cost": 6,', '"cost": 6, "deadline": 10,')
 
 run = runs_on(PAIR)
-
-
-def bounded(shows, protocol, bounds, set):
-    """The bounds of a set, whatever proves them."""
-    says = re.escape(f'{{"bounds":{bounds},'.replace(" ", "")) + r'"duals":.*,"protocol":"' + re.escape(protocol) + r'",.*\}\n'
-    return Case(f"{shows}, {protocol}", f"analyse {protocol} set", re.compile(says), 0, {"set": set})
 
 
 ANALYSES = [
@@ -125,6 +175,8 @@ SCHEDULES = [
         cert=MPCP_PAIR, jobs=PAIR_JOBS, rows=PAIR_SIMULATED),
     run("what was charged beside what is proved", "audit fmlp+-c", "kept 5\nt1 5 5 2 2 2 0 0\nt2 4 5 0 1 0 0 0\n", 0,
         cert=PAIR_CERTIFICATE, jobs=PAIR_JOBS, rows=PAIR_ROWS),
+    *(audited(kind, "fmlp+-c", *schedule) for kind, schedule in MET.items()),
+    *(audited(kind, "mpcp-c", *schedule) for kind, schedule in MPCP_MET.items()),
 ]
 
 WORDS = [

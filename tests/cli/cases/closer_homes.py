@@ -1,6 +1,5 @@
 """The closer analyses of DPCP and of the distributed FIFO protocol, in each command that takes a protocol."""
-import re
-
+from bounds import audited, bounded
 from setting import Case, runs_on
 from sets import HOME, HOMELESS, HOME_JOBS, HOME_ROWS, PAIR, PAIR_FULL_TABLE, PAIR_JOBS, PAIR_SIMULATED, certificate, old, resource, task, task_set, tied
 
@@ -26,6 +25,30 @@ KINDS = {
     "lower preemption": (LOWER, [17, 34, 53], [14, 34, 53]),
 }
 
+# two lower tasks of the processor on which the requests of all run
+OWN = task_set(1, [resource("q", 1)], task("t1", 1, 100, 10, ("q", 1)), task("t2", 1, 200, 20, ("q", 3)), task("t3", 1, 300, 20, ("q", 4)))
+# a lower task of another one
+ACROSS = task_set(2, [resource("q", 1)], task("t1", 1, 100, 10, ("q", 1)), task("t2", 2, 200, 10, ("q", 3)))
+
+# of each further kind of rows a set and a lawful schedule that meets a row of it with equality, and with it the proved bound: its jobs, its
+# rows, and what an audit says
+MET = {
+    "home tasks": (
+        KINDS["home tasks"][0], "t2,0,1 q:4\nt3,0,1 q:1 8\n", "1,2,1,\n4,,1,1\n1,,2,2\n8,2,,\n",
+        "kept 14\nt1 - 15 0 5 0 0 0\nt2 5 24 0 4 0 0 0\nt3 14 14 4 4 4 0 0\n"),
+    # t1 requests q, and never waits for it
+    "home tasks of its own processor": (
+        OWN, "t1,1,1 q:1 8\nt3,0,1 q:4\n", "1,2,\n4,2,2\n1,1,\n1,1,1\n8,1,\n",
+        "kept 15\nt1 14 14 4 4 0 0 4\nt2 - 35 0 5 0 0 0\nt3 5 54 0 4 0 0 0\n"),
+    "lower tasks": (
+        KINDS["lower tasks"][0], "t1,1,1 r:1 8\nt2,0,1 q:3 1 q:3\n", "1,2,,,\n3,2,,2,\n1,1,,,\n1,2,1,,1\n3,2,,2,\n8,1,,,\n",
+        "kept 17\nt1 16 16 6 6 0 0 6\nt2 9 41 0 1 0 0 0\n"),
+    "lower preemption": (
+        LOWER, "t1,1,10\nt3,0,1 s:4\n", "1,2,,\n4,2,,2\n10,1,,\n", "kept 15\nt1 14 14 4 4 0 0 4\nt2 - 34 0 4 0 0 0\nt3 5 53 0 3 0 0 0\n"),
+}
+# t1 is preempted by t2's request, and never waits for it
+LOWER_WAITS = (ACROSS, "t1,1,1 q:1 8\nt2,0,1 q:3\n", "1,,2,\n3,2,,2\n1,1,,\n1,1,,1\n8,1,,\n", "kept 14\nt1 13 13 3 3 0 0 3\nt2 4 11 0 1 0 0 0\n")
+
 AT_HOME = PAIR_SIMULATED.replace("1,1,,1", "1,,1,1")
 PAIR_DUALS = {"dpcp-c": [[2, 0, 0, 0], [1, 0, 0]], "dflp-c": [[2, 0, 0, 0, 0], [1, 0, 0, 0]]}
 HOME_CERTIFICATES = {
@@ -35,12 +58,6 @@ HOME_CERTIFICATES = {
 IN_TURN = HOME_ROWS.replace("1,,,2,2,", "1,,,2,2,1")
 
 run = runs_on(PAIR)
-
-
-def bounded(shows, protocol, bounds, set):
-    """The bounds of a set, whatever proves them."""
-    says = re.escape(f'{{"bounds":{bounds},'.replace(" ", "")) + r'"duals":.*,"protocol":"' + re.escape(protocol) + r'",.*\}\n'
-    return Case(f"{shows}, {protocol}", f"analyse {protocol} set", re.compile(says), 0, {"set": set})
 
 
 def analysed(closer, plain):
@@ -82,6 +99,8 @@ SCHEDULES = [
         cert=HOME_CERTIFICATES["dpcp-c"], jobs=HOME_JOBS, rows=HOME_ROWS),
     run("and dflp-c", "audit dflp-c", "kept 5\nt1 4 6 1 2 0 1 0\nt2 4 5 0 1 0 0 0\n", 0, HOME,
         cert=HOME_CERTIFICATES["dflp-c"], jobs=HOME_JOBS, rows=IN_TURN),
+    *(audited(kind, closer, *schedule) for closer in PLAIN for kind, schedule in MET.items()),
+    audited("lower waits", "dpcp-c", *LOWER_WAITS),
 ]
 
 WORDS = [

@@ -1,7 +1,5 @@
 """The closer analysis of spin locks, in each command that takes a protocol."""
-import re
-
-from cases.closer import bounded
+from bounds import audited, bounded
 from setting import Case, runs_on
 from sets import FIVE, PAIR, certificate, old, resource, task, task_set, tied
 
@@ -37,16 +35,6 @@ FIVE_CERTIFICATE = certificate("spin-c", [7, 11, 7], [[2, 3, 0, 0, 0, 0], [3, 0,
 run = runs_on(LOWER)
 
 
-def with_header(set, lines):
-    """The rows of a set of two processors, with the names of its resources."""
-    return "ticks,P1,P2," + ",".join(re.findall(r'\{"name": "(\w)"\}', set)) + "\n" + lines
-
-
-def audited(kind, set, jobs, rows, says):
-    files = {"set": set, "jobs": "task,release,script\n" + jobs, "rows": with_header(set, rows)}
-    return Case(f"a schedule that meets {kind}", "audit spin-c set cert jobs rows", says, 0, files, before=(("analyse spin-c set", "cert"),))
-
-
 ANALYSES = [
     *(case for kind, (set, plain, closer, *_) in KINDS.items() for case in (bounded(kind, "spin", plain, set), bounded(kind, "spin-c", closer, set))),
     run("a set of one resource, as under spin locks", "analyse spin-c", FIVE_CERTIFICATE, 0, FIVE),
@@ -73,7 +61,7 @@ CERTIFICATES = [
 ]
 
 SCHEDULES = [
-    *(audited(kind, set, jobs, rows, says) for kind, (set, _, _, jobs, rows, says) in KINDS.items()),
+    *(audited(kind, "spin-c", set, jobs, rows, says) for kind, (set, _, _, jobs, rows, says) in KINDS.items()),
 ]
 
 WORDS = [

@@ -22,7 +22,7 @@ tool gives a task that isn't shown its period for a deadline, and asks again. Bo
 bounds of the set as it is. Where a task isn't shown even so, it lacks at least what is printed (<=), and it is left out to see the others.
 The figures of the others are then of a set without it, and too good; a line below the table says so.
 
-It proves nothing itself: each column rests on answers of `block analyse`.
+It proves nothing itself: each column rests on answers of `block analyse`, and where that is wide of `block settle`.
 
 Status 0 says that some word shows the set, and 1 that none does; else it is the status of the first word.
 """
@@ -62,6 +62,8 @@ def notes_of(one: Judged) -> Iterator[str]:
     """What has to be said of a word."""
     if one.answer.status != Status.DONE:
         yield one.line()
+    if one.answer.by == "settle":
+        yield "the analysis is wide, and block settle answered"
     if one.relaxed:
         yield f"to see all bounds the periods were taken for deadlines, of {', '.join(one.relaxed)}"
     if one.aside:
@@ -106,7 +108,7 @@ def as_json(path: str, found: Sequence[Judged]) -> str:
     for one in found:
         tasks = [{"task": task.task, "deadline": task.deadline, "bound": task.bound, "slack": task.slack, "at_most": task.is_most} for task in one.tasks]
         words.append({
-            "word": one.word, "rules": protocols.PROTOCOLS[one.word].rules, "backed_by": f"block analyse {one.word} {path}", "answer": one.line(),
+            "word": one.word, "rules": protocols.PROTOCOLS[one.word].rules, "backed_by": f"block {one.answer.by} {one.word} {path}", "answer": one.line(),
             "status": one.answer.status, "tasks": tasks, "relaxed": one.relaxed, "aside": one.aside, "analyses": one.analyses,
         })
     return json.dumps({"set": path, "words": words, "most_slack": [one.word for one in most_slack(found)]}, indent=1) + "\n"

@@ -16,7 +16,7 @@ from ..table import CSV, JSON, PICTURE, Command, Given, Kind, Option, Word
 
 RUN = """
 Draws task sets, and asks the program under each word which of them it shows. OUT gets a line for each set and word: the value of the axis,
-the number of the set, the word, and the status of `analyse`. `experiment show` makes curves of it.
+the number of the set, the word, and the status of `analyse`, or of `settle` where that is wide. `experiment show` makes curves of it.
 
 A run that was stopped goes on where it was: what OUT has is not asked again. Each set follows from the seed, its value and its number
 alone, and sets of one number are drawn alike at all values. So --part K/N does every N-th of them on this machine, others can do the others, and their files on end are one file:
@@ -36,7 +36,7 @@ Prints which share of the sets of an experiment is shown, for each value of its 
 have too many requests, don't count; sets of which it knows nothing count as not shown, and a line says how many they are. --csv and --json
 write all counts, and --picture draws the curves.
 
-It rests on the statuses of `block analyse` that OUT has.
+It rests on the statuses of `block analyse`, and of `block settle` where that is wide, that OUT has.
 """
 
 
@@ -156,7 +156,7 @@ def show(given: Given) -> int:
     points = points_of(lines)
     listed = counts(experiment, points)
     if given.json:
-        print(json.dumps({"asked": json.loads(head[2:]), "backed_by": "block analyse", "points": listed}, indent=1))
+        print(json.dumps({"asked": json.loads(head[2:]), "backed_by": "block analyse, and block settle where that is wide", "points": listed}, indent=1))
     elif given.csv:
         names = ("value", "word", "shown", "not_shown", "unknown", "refused")
         print("\n".join([",".join(names), *(",".join(str(one[name]) for name in names) for one in listed)]))

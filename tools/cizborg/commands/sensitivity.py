@@ -4,6 +4,7 @@ from __future__ import annotations
 import json
 import os
 import sys
+from pathlib import Path
 from typing import Any, Iterator, Optional, Sequence
 
 from .. import drawing
@@ -25,9 +26,10 @@ What no single change mends is printed too, with the furthest value that was ask
 
 It proves nothing itself. It looks by halving, and prints two neighbours for each number: a value at which `block analyse` answered that
 the set is schedulable, and the next one, with what it answered there: `not shown`, `wide` or `allowance`, after which nothing is known,
-or `limit`, where the next value is refused as an input. Of other values it says nothing.
+or `limit`, where the next value is refused as an input. Where `block analyse` is wide, `block settle` is asked. Of other values it says
+nothing.
 
-The status is that of `analyse` on the set.
+The status is that of `analyse` on the set, or of `settle` where that is wide.
 """
 
 HEADER = ("task", "number", "now", "edge", "by", "")
@@ -89,9 +91,11 @@ def notes(parts: Parts, edges: Sequence[Edge], printed: Sequence[Edge]) -> Itera
     yield from lowered_deadlines(parts, printed)
     if any(edge.number.name.endswith(" count") and edge.value == 0 for edge in printed):
         yield NOTES["count"]
-    unknown = sum(edge.unknown for edge in edges)
+    every, settled, unknown = (sum(getattr(edge, name) for edge in edges) for name in ("analyses", "settled", "unknown"))
+    if settled:
+        yield f"{settled} of the {every} analyses were wide, and block settle was asked."
     if unknown:
-        yield f"{unknown} of the {sum(edge.analyses for edge in edges)} analyses answered wide or allowance: nothing is known of those sets."
+        yield f"{unknown} of the {every} analyses answered wide or allowance: nothing is known of those sets."
 
 
 def cheapest_first(edges: Sequence[Edge]) -> list[Edge]:
@@ -140,7 +144,7 @@ def as_json(call: str, base: Answer, edges: Sequence[Edge]) -> str:
         listed.append({
             "task": number.task, "resource": resource or None, "number": name, "now": number.plain(number.now), "edge": value,
             "next": number.plain(edge.following), "answer": edge.answer.line() if edge.answer.status != Status.DONE else "schedulable",
-            "status": edge.answer.status, "analyses": edge.analyses, "unknown": edge.unknown,
+            "status": edge.answer.status, "analyses": edge.analyses, "settled": edge.settled, "unknown": edge.unknown,
         })
     answer = "schedulable" if base.status == Status.DONE else base.line()
     return json.dumps({"backed_by": call, "answer": answer, "status": base.status, "numbers": listed}, indent=1)
@@ -171,13 +175,15 @@ def draw(path: str, call: str, edges: Sequence[Edge]) -> None:
     drawing.save(figure, path)
 
 
-def analysed(block: Block, path: str, allowance: Sequence[str], call: str) -> tuple[Parts, Answer]:
+def analysed(block: Block, path: str, allowance: Sequence[str], words: str) -> tuple[Parts, Answer]:
     """The set of a file, and what the program answers to it."""
     base = block.answer("analyse", path, *allowance)
+    if base.status == Status.WIDE:
+        base = block.settled(set_of(path), Path(path), *allowance)
     if base.status == Status.REFUSED:
         raise Stop(base.line(), base.status)
     if base.status in UNKNOWN:
-        raise Stop(f"{call} answers {base.line()}: nothing is known of the set", base.status)
+        raise Stop(f"block {base.by} {words} answers {base.line()}: nothing is known of the set", base.status)
     return set_of(path), base
 
 
@@ -189,12 +195,13 @@ def way_of(number: Number, base: Answer) -> Optional[int]:
 def run(given: Given) -> int:
     """Looks for the edges, and prints them."""
     allowance = [] if given.allowance is None else [str(given.allowance)]
-    call = " ".join(["block analyse", given.protocol, given.set, *allowance])
+    words = " ".join([given.protocol, given.set, *allowance])
     if given.picture:
         drawing.want(given.picture)
     with folder_of_calls() as folder:
         block = Block(given.program, given.protocol, folder)
-        parts, base = analysed(block, given.set, allowance, call)
+        parts, base = analysed(block, given.set, allowance, words)
+        call = f"block {base.by} {words}"
         numbers = [number for number in numbers_of(parts) if way_of(number, base) is not None]
         edges = edges_of(block, parts, allowance, numbers, base, given.jobs)
     print(as_json(call, base, edges) if given.json else "\n".join(text(call, parts, base, edges)))

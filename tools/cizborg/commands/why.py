@@ -22,10 +22,11 @@ Where the set isn't shown the same is told of the task that passes its deadline,
 had come to there.
 
 It proves nothing itself. Bounds are those of `block analyse`. The points are those of `block refute`, of the set itself or of the set with
-the task's deadline one tick below its bound, and `block confirm` has confirmed each. Columns and interference are formed by this tool, and
+the task's deadline one tick below its bound, and `block confirm` has confirmed each. Where the one or the other is wide `block settle` is
+asked in its place. Its points may be rounded down. Columns and interference are formed by this tool, and
 it ends with status 70 where all together doesn't come to the bound.
 
-The status is that of `analyse` on the set.
+The status is that of `analyse` on the set, or of `settle` where that is wide.
 """
 
 
@@ -85,6 +86,17 @@ def place_of(asking: Asking, name: Optional[str]) -> Optional[int]:
     return names.index(name)
 
 
+def rests_on(asking: Asking, is_shown: bool) -> str:
+    """What the answer rests on."""
+    refused = " and ".join(f"block {word}" for word in sorted(asking.refused_by or {"refute"}))
+    if not is_shown:
+        return f"This rests on {refused} {asking.words}, which block confirm confirms."
+    return (
+        f"This rests on block {asking.shown_by} {asking.words}, and for each task on {refused} of the same set with its deadline one tick below its bound; "
+        "block confirm confirms these."
+    )
+
+
 def run(given: Given) -> int:
     """Says what bounds are made of."""
     allowance = [] if given.allowance is None else [str(given.allowance)]
@@ -98,12 +110,10 @@ def run(given: Given) -> int:
         bounds = bounds_of(asking)
         places = range(asking.s.n) if wanted is None else [wanted]
         reasons = all_shown(asking, places, bounds) if bounds else [asking.not_shown(wanted)]
-    backed_by = f"This rests on block {'analyse' if bounds else 'refute'} {asking.words}" + (
-        ", and for each task on block refute of the same set with its deadline one tick below its bound; block confirm confirms these." if bounds else ", which block confirm confirms.")
     if given.json:
         print(json.dumps({"protocol": given.protocol, "set": given.set, "is_shown": bounds is not None, "tasks": [as_parts(reason) for reason in reasons]}, indent=1))
     else:
-        print("\n".join(as_text(reasons, bounds is not None, backed_by)))
+        print("\n".join(as_text(reasons, bounds is not None, rests_on(asking, bounds is not None))))
     return Status.DONE if bounds else Status.NO
 
 

@@ -3,6 +3,7 @@ use Rattle.command_words.specs.declared.words.TiedWork.{TiedWork}
 use Rattle.command_words.specs.FormSeen.{tied_form}
 use Rattle.run_plans.specs.Commands.{analysis_of, check_of, full_table_of, with_certificate, confirming, upgrading, auditing, plan_of}
 use Rattle.run_plans.specs.Refuting.{refutation_of}
+use Rattle.run_plans.specs.Settling.{settlement_of}
 use Rattle.run_plans.specs.Replies.{AnswersPlan}
 use Rattle.run_plans.proofs.ReplyLaws.{replied_tied, replied_tied_work}
 use Rattle.block_top.proofs.commands.tied_reply.Goals as goal
@@ -24,6 +25,15 @@ returns-in-Refute-clause-reply g c =
     (λ digest tasks. refutation_of c.args.protocol digest tasks c.in-Refute.allowance)
     (c.in_ok-set.set, c.in_ok-set.digest) c.refutation.result c.get_tied_set.ensures.keeps c.in_ok-set.ensures.got
     c.refutation.ensures)
+
+pub returns-in-Settle-clause-reply : goal.returns-in-Settle-clause-reply
+returns-in-Settle-clause-reply g c =
+    subst (λ (w : TiedWork). AnswersPlan c.settlement.result (g.S.Shelf.seen c.args.shelf.now) (g.S.Shelf.seen c.get_tied_set.new.shelf)
+    (plan_of (tied_form c.args.protocol c.args.name.now w))) (sym c.in-Settle.is)
+    (replied_tied_work (g.S.Shelf.seen c.args.shelf.now) (g.S.Shelf.seen c.get_tied_set.new.shelf) c.args.protocol c.args.name.now
+    (λ digest tasks. settlement_of c.args.protocol digest tasks c.in-Settle.allowance)
+    (c.in_ok-set.set, c.in_ok-set.digest) c.settlement.result c.get_tied_set.ensures.keeps c.in_ok-set.ensures.got
+    c.settlement.ensures)
 
 pub returns-in-Check-clause-reply : goal.returns-in-Check-clause-reply
 returns-in-Check-clause-reply g c =

@@ -1,12 +1,13 @@
-use Rattle.std.proofs.Common.{◌≡◌, ◌*◌, ◌≤◌}
+use Rattle.std.proofs.Common.{◌≡◌, ◌+◌, ◌*◌, ◌≤◌, drop}
 use Rattle.std.specs.Prelude.{slice_index}
-use Rattle.number_laws.specs.Sums.{sum_below, only_if}
-use Rattle.blocking_columns.specs.Windows.{requests_in}
-use Rattle.closer_mpcp.specs.Holdings.{is_at}
+use Rattle.std.specs.List.{sum_by}
+use Rattle.sporadic_model.specs.declared.ids.TaskId.{TaskId}
+use Rattle.closer_mpcp.specs.Holdings.{higher_at}
 use Rattle.closer_mpcp.proofs.holdings.higher_requests.Given as goal
 
 abbrev pub invariant-loop-y : goal.invariant-loop-y
 invariant-loop-y l = record {
-  value : l.total ≡ sum_below l.y (λ y. only_if (is_at l.place l.set l.x.0 y) (requests_in l.set (slice_index l.bounds) l.i.0 y l.r.0));
-  most : l.total ≤ l.y * 2000000000000;
+  value : l.total + sum_by (λ (y : TaskId). higher_at l.place l.set (slice_index l.bounds) l.i.0 l.x.0 l.r.0 y.0) (drop l.y-index l.users)
+      ≡ sum_by (λ (y : TaskId). higher_at l.place l.set (slice_index l.bounds) l.i.0 l.x.0 l.r.0 y.0) l.users;
+  most : l.total ≤ l.y-index * 2000000000000;
 }

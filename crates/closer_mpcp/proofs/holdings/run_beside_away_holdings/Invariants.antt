@@ -1,11 +1,16 @@
-use Rattle.std.proofs.Common.{◌≡◌, ◌*◌, ◌≤◌}
+use Rattle.std.proofs.Common.{◌≡◌, ◌+◌, ◌*◌, ◌≤◌, drop}
 use Rattle.std.specs.Prelude.{slice_index}
-use Rattle.number_laws.specs.Sums.{sum_below, only_if}
-use Rattle.closer_mpcp.specs.Holdings.{waits_there, runs_there}
+use Rattle.std.specs.List.{sum_by}
+use Rattle.number_laws.specs.Sums.{only_if}
+use Rattle.sporadic_model.specs.declared.ids.ResourceId.{ResourceId}
+use Rattle.closer_laws.specs.CloserRows.{is_held_there}
+use Rattle.closer_mpcp.specs.Holdings.{runs_there}
 use Rattle.closer_mpcp.proofs.holdings.run_beside_away_holdings.Given as goal
 
 abbrev pub invariant-loop-r : goal.invariant-loop-r
 invariant-loop-r l = record {
-  value : l.total ≡ sum_below l.r (λ r. only_if (waits_there l.set l.i.0 l.x.0 r) (runs_there l.set (slice_index l.bounds) l.i.0 l.x.0 r));
-  most : l.total ≤ l.r * 128000000002000;
+  value : l.total + sum_by (λ (r : ResourceId). only_if (is_held_there l.set l.i.0 l.x.0 r.0) (runs_there l.set (slice_index l.bounds) l.i.0 l.x.0 r.0))
+      (drop l.r-index l.used)
+      ≡ sum_by (λ (r : ResourceId). only_if (is_held_there l.set l.i.0 l.x.0 r.0) (runs_there l.set (slice_index l.bounds) l.i.0 l.x.0 r.0)) l.used;
+  most : l.total ≤ l.r-index * 128000000002000;
 }

@@ -1,12 +1,15 @@
-use Rattle.std.proofs.Common.{◌≡◌, ◌*◌, ◌≤◌}
+use Rattle.std.proofs.Common.{◌≡◌, ◌+◌, ◌*◌, ◌≤◌, drop}
 use Rattle.std.specs.Prelude.{slice_index}
-use Rattle.number_laws.specs.Sums.{sum_below, only_if}
+use Rattle.std.specs.List.{sum_by}
+use Rattle.number_laws.specs.Sums.{only_if}
+use Rattle.sporadic_model.specs.declared.ids.ResourceId.{ResourceId}
 use Rattle.closer_mpcp.specs.Holdings.{counts, held_beside}
 use Rattle.closer_mpcp.proofs.holdings.shared_holdings.Given as goal
 
 abbrev pub invariant-loop-r : goal.invariant-loop-r
 invariant-loop-r l = record {
-  value : l.total
-      ≡ sum_below l.r (λ r. only_if (counts l.set l.i.0 l.x.0 l.q r) (held_beside l.set (slice_index l.bounds) l.i.0 l.x.0 r));
-  most : l.total ≤ l.r * 128000000001000;
+  value : l.total + sum_by (λ (r : ResourceId). only_if (counts l.set l.i.0 l.x.0 l.q r.0) (held_beside l.set (slice_index l.bounds) l.i.0 l.x.0 r.0))
+      (drop l.r-index l.used)
+      ≡ sum_by (λ (r : ResourceId). only_if (counts l.set l.i.0 l.x.0 l.q r.0) (held_beside l.set (slice_index l.bounds) l.i.0 l.x.0 r.0)) l.used;
+  most : l.total ≤ l.r-index * 128000000001000;
 }

@@ -1,0 +1,63 @@
+-- Sums over the users of a resource and over the resources of a task, which are lists.
+use Rattle.std.proofs.Common.{◌≡◌, ℕ, ◌+◌, ◌-◌, ◌*◌, ◌<◌, ◌≤◌, ◌&&◌, Bool, true, false, nat_lt, List, length, map}
+use Rattle.std.proofs.Common.{refl, ap, ◌∙◌, arith}
+use Rattle.std.specs.List.{sum_by}
+use Rattle.std.proofs.lemmas.Bool.{lt-ltb, le-ltb, ltb-false}
+use Rattle.number_laws.specs.Sums.{sum_below, only_if}
+use Rattle.number_laws.proofs.SumLaws.{sum_below-agree, sum_below-split, sum_below-zero}
+use Rattle.number_laws.proofs.OnlyIfLaws.{only_if-nothing}
+use Rattle.sporadic_model.specs.SetDef.{SetDef}
+use Rattle.sporadic_model.specs.Users.{count_of, is_user, users_of, used_by}
+use Rattle.sporadic_model.specs.declared.ids.TaskId.{TaskId}
+use Rattle.sporadic_model.specs.declared.ids.ResourceId.{ResourceId}
+use Rattle.blocking_columns.specs.Windows.{jobs_in, requests_in, requests_by_higher}
+use Rattle.blocking_columns.proofs.KeptNumbers.{sum_of_kept, sum_where_kept, kept_few}
+use Rattle.closer_mpcp.specs.declared.places.Place.{Place}
+use Rattle.closer_mpcp.specs.Holdings.{is_at, higher_at}
+
+-- Terms of tasks from i on are none.
+sum_of_higher : (i n : ℕ) (at : ℕ → Bool) (f : ℕ → ℕ) → i ≤ n
+    → sum_below n (λ y. only_if (nat_lt y i && at y) (f y)) ≡ sum_below i (λ y. only_if (at y) (f y))
+sum_of_higher i n at f within =
+    let g : ℕ → ℕ = λ y. only_if (nat_lt y i && at y) (f y) in
+    let whole : n ≡ i + (n - i) = omega (arith, within) in
+    let rest : sum_below (n - i) (λ k. g (i + k)) ≡ 0 =
+    sum_below-zero (n - i) (λ k. g (i + k)) (λ k l. rw (le-ltb (i + k) i (omega arith)) refl) in
+    let first : sum_below i g ≡ sum_below i (λ y. only_if (at y) (f y)) =
+    sum_below-agree i g (λ y. only_if (at y) (f y)) (λ y l. rw (lt-ltb y i l) refl) in
+    ap (λ m. sum_below m g) whole ∙ (sum_below-split i (n - i) g ∙ omega (arith, rest, first))
+
+none_unused : (set : SetDef) (bounds : ℕ → ℕ) (i y r : ℕ) → is_user set r y ≡ false → requests_in set bounds i y r ≡ 0
+none_unused set bounds i y r unused =
+    let none : count_of set y r ≡ 0 = omega (arith, ltb-false 0 (count_of set y r) unused) in
+    let nothing : 0 * jobs_in set bounds i y ≡ 0 = omega arith in
+    ap (λ n. n * jobs_in set bounds i y) none ∙ nothing
+
+-- What the higher users at a place of x make of r is what all higher tasks there make.
+pub higher_users : (p : Place) (set : SetDef) (bounds : ℕ → ℕ) (i x r : ℕ) (ys : List TaskId)
+    → map (λ (y : TaskId). y.0) ys ≡ users_of set r → i < length set.tasks
+    → sum_by (λ (y : TaskId). higher_at p set bounds i x r y.0) ys ≡ requests_by_higher set bounds i (is_at p set x) r
+higher_users p set bounds i x r ys same here =
+    sum_where_kept (λ (y : TaskId). y.0) ys (is_user set r) (higher_at p set bounds i x r) (length set.tasks) same
+    (λ y unused. ap (only_if (nat_lt y i && is_at p set x y)) (none_unused set bounds i y r unused)
+    ∙ only_if-nothing (nat_lt y i && is_at p set x y))
+    ∙ sum_of_higher i (length set.tasks) (is_at p set x) (λ y. requests_in set bounds i y r) (omega (arith, here))
+
+pub users_few : (set : SetDef) (r : ℕ) (ys : List TaskId) → map (λ (y : TaskId). y.0) ys ≡ users_of set r → length ys ≤ length set.tasks
+users_few set r ys same = kept_few (λ (y : TaskId). y.0) ys (is_user set r) (length set.tasks) same
+
+both : (a b : Bool) (n : ℕ) → only_if a (only_if b n) ≡ only_if (a && b) n
+both true b n = refl
+both false b n = refl
+
+-- A sum over the resources of a task is one over all resources that it uses.
+pub used_sum : (set : SetDef) (i : ℕ) (test : ℕ → Bool) (f : ℕ → ℕ) (rs : List ResourceId) → map (λ (r : ResourceId). r.0) rs ≡ used_by set i
+    → sum_by (λ (r : ResourceId). only_if (test r.0) (f r.0)) rs
+    ≡ sum_below (length set.resources) (λ r. only_if (is_user set r i && test r) (f r))
+used_sum set i test f rs same =
+    sum_of_kept (λ (r : ResourceId). r.0) rs (λ r. is_user set r i) (λ r. only_if (test r) (f r)) (length set.resources) same
+    ∙ sum_below-agree (length set.resources) (λ r. only_if (is_user set r i) (only_if (test r) (f r)))
+    (λ r. only_if (is_user set r i && test r) (f r)) (λ r l. both (is_user set r i) (test r) (f r))
+
+pub used_few : (set : SetDef) (i : ℕ) (rs : List ResourceId) → map (λ (r : ResourceId). r.0) rs ≡ used_by set i → length rs ≤ length set.resources
+used_few set i rs same = kept_few (λ (r : ResourceId). r.0) rs (λ r. is_user set r i) (length set.resources) same

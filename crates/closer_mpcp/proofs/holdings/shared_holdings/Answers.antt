@@ -1,0 +1,51 @@
+use Rattle.std.proofs.Common.{◌≡◌, ◌+◌, [], arith}
+use Rattle.std.specs.Prelude.{slice_index}
+use Rattle.std.specs.List.{sum_by}
+use Rattle.std.proofs.lemmas.List.{drop_all}
+use Rattle.number_laws.specs.Sums.{only_if}
+use Rattle.sporadic_model.specs.declared.ids.ResourceId.{ResourceId}
+use Rattle.closer_mpcp.specs.Holdings.{counts, held_beside}
+use Rattle.closer_mpcp.proofs.ListedSums.{used_sum, used_few}
+use Rattle.closer_mpcp.proofs.holdings.shared_holdings.Goals as goal
+
+pub overflow_add-total : goal.overflow_add-total
+overflow_add-total c =
+    let used = c.used_by-used.result.now in
+    let few = used_few c.args.set.now c.args.i.0 used c.used_by-used.ensures.value in
+    omega (
+      arith,
+      few,
+      c.loop-r-test.true,
+      c.resources-resources.ensures.value,
+      c.resources-resources.ensures.most,
+      c.loop-r.invariant.most,
+      c.counted_of-total.ensures.most,
+    )
+
+pub returns-clause-value : goal.returns-clause-value
+returns-clause-value c =
+    let set = c.args.set.now in
+    let i = c.args.i.0 in
+    let x = c.args.x.0 in
+    let q = c.args.q in
+    let used = c.used_by-used.result.now in
+    let whole : c.loop-r.total + sum_by (λ (r : ResourceId). only_if (counts set i x q r.0) (held_beside set (slice_index c.args.bounds.now) i x r.0)) []
+    ≡ sum_by (λ (r : ResourceId). only_if (counts set i x q r.0) (held_beside set (slice_index c.args.bounds.now) i x r.0)) used =
+    rw (drop_all c.loop-r.r-index used (omega (arith, c.loop-r-test.false))) at c.loop-r.invariant.value in
+    omega (
+      arith,
+      whole,
+      used_sum set i (counts set i x q) (held_beside set (slice_index c.args.bounds.now) i x) used c.used_by-used.ensures.value,
+    )
+
+pub returns-clause-most : goal.returns-clause-most
+returns-clause-most c =
+    let few = used_few c.args.set.now c.args.i.0 c.used_by-used.result.now c.used_by-used.ensures.value in
+    omega (
+      arith,
+      few,
+      c.loop-r.auto.r-index-end,
+      c.resources-resources.ensures.value,
+      c.resources-resources.ensures.most,
+      c.loop-r.invariant.most,
+    )

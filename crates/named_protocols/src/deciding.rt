@@ -1,0 +1,52 @@
+ghost use Rattle.std.specs.Prelude.{◌≡◌, ℕ, ◌↔◌, List, IfOk};
+ghost use Rattle.program_sources.specs.Fitting.{AreFitting};
+ghost use Rattle.response_fixpoint.specs.Rounds.{Ending, EndsIn};
+ghost use Rattle.response_fixpoint.specs.Runs.{rounds_of};
+ghost use Rattle.settling.specs.Answers.{Settles, Keeps, IsRight, IsSchedulable, NamesTask, RefusesBySmallSteps};
+ghost use Rattle.named_laws.specs.Named.{HasHomes, source_of};
+
+use closer_distributed::{CloserDflp, CloserDpcp};
+use closer_fmlp::CloserFmlpPlus;
+use closer_mpcp::CloserMpcp;
+use closer_spin::CloserSpin;
+use dflp_protocol::Dflp;
+use protocol_names::ProtocolName;
+use protocol_programs::Written;
+use request_windows::DpcpWindows;
+use settling::{Exchanges, SettleStop, Settled, settle_by, settle_with};
+use spin_protocol::Spin;
+use sporadic_model::TaskSet;
+use std::alloc::Global;
+use std::thread::Threads;
+
+/// The least bounds of the set under the protocol of this name, or steps that show that none fit, as `settle_with` of `settling` finds
+/// them.
+pub fn settle<R: Threads + Sync>(
+    rt: &R,
+    alloc: Global,
+    set: &TaskSet,
+    protocol: ProtocolName,
+    allowance: u64,
+) -> Result<Settled, SettleStop>
+    requires suits { HasHomes protocol set.now }
+    ensures settles { Settles result (source_of protocol set.now) allowance }
+    ensures keeps { (e : Ending) → EndsIn (rounds_of (source_of protocol set.now)) allowance e → Keeps result e }
+    ensures right { IfOk result (λ settled. IsRight settled (source_of protocol set.now)) }
+    ensures exactly { IfOk result (λ settled. IsSchedulable settled ↔ ((s : List ℕ) × AreFitting (source_of protocol set.now) s)) }
+    ensures names { NamesTask set.now result }
+    ensures small_steps { IfOk result (λ settled. RefusesBySmallSteps settled) }
+{
+    match protocol {
+        ProtocolName::Base(base) => {
+            settle_by(rt, alloc, set, &Written(base), &Exchanges, allowance)
+        }
+        ProtocolName::Dflp => settle_with(rt, alloc, set, &Dflp, allowance),
+        ProtocolName::Spin => settle_with(rt, alloc, set, &Spin, allowance),
+        ProtocolName::DpcpWindows => settle_with(rt, alloc, set, &DpcpWindows, allowance),
+        ProtocolName::FmlpPlusCloser => settle_with(rt, alloc, set, &CloserFmlpPlus, allowance),
+        ProtocolName::SpinCloser => settle_with(rt, alloc, set, &CloserSpin, allowance),
+        ProtocolName::DpcpCloser => settle_with(rt, alloc, set, &CloserDpcp, allowance),
+        ProtocolName::DflpCloser => settle_with(rt, alloc, set, &CloserDflp, allowance),
+        ProtocolName::MpcpCloser => settle_with(rt, alloc, set, &CloserMpcp, allowance),
+    }
+}
