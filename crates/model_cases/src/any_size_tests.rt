@@ -52,7 +52,13 @@ fn quotients_are_multiplied_back(rt: HostRuntime) -> Result<(), AllocError> {
     assert_eq!(rt; division.rest.as_u64(), Some(7));
     let mut tens = number.copy(alloc)?;
     assert_eq!(rt; tens.divide_by(10), 5);
-    assert!(rt; is(alloc, &tens, 34_028_236_692_093_846_346_337_460_743_176_821_145)?);
+    assert!(rt;
+        is(
+            alloc,
+            &tens,
+            34_028_236_692_093_846_346_337_460_743_176_821_145
+        )?
+    );
     let shifted = Whole::of(alloc, 3).shifted_left(alloc, 70)?;
     assert!(rt; is(alloc, &shifted, 192 * LIMB)?);
     assert_eq!(rt; shifted.shifted_right(alloc, 71)?.as_u64(), Some(1));
@@ -100,7 +106,10 @@ fn points_of_any_size_are_tested(rt: HostRuntime) -> Result<(), AllocError> {
 
 fn are(numbers: &[Whole], wanted: &[u64]) -> bool {
     numbers.len() == wanted.len()
-        && numbers.iter().zip(wanted.iter()).all(|(number, w)| number.as_u64() == Some(*w))
+        && numbers
+            .iter()
+            .zip(wanted.iter())
+            .all(|(number, w)| number.as_u64() == Some(*w))
 }
 
 // The solver's point and dual, each over one denominator. The point is worth less than a tick. Each exchange takes a unit, and so does the
@@ -114,12 +123,18 @@ fn searches_end_as_the_solver_answers(rt: HostRuntime) -> Result<(), Fail> {
     assert!(rt; are(&found.num, &[1048576, 1047552, 1047553]));
     assert!(rt; found.ticks == 0 && found.used == 4);
     assert_eq!(rt; found.dual.den, 1073741824);
-    assert_eq!(rt; found.dual.num.as_slice(), &[1047553, 1047552, 1048576]);
+    assert_eq!(rt;
+        found.dual.num.as_slice(),
+        [1047553, 1047552, 1048576].as_slice()
+    );
     let Some(point) = rounded_down(alloc, &found)? else {
         return Err("the point fits".into());
     };
     assert_eq!(rt; point.den, 1073741824);
-    assert_eq!(rt; point.num.as_slice(), &[1048576, 1047552, 1047553]);
+    assert_eq!(rt;
+        point.num.as_slice(),
+        [1048576, 1047552, 1047553].as_slice()
+    );
     Ok(())
 }
 
@@ -141,6 +156,6 @@ fn wide_points_are_rounded_down(rt: HostRuntime) -> Result<(), Fail> {
         return Err("the point fits".into());
     };
     assert_eq!(rt; point.den, 4611686018427387904);
-    assert_eq!(rt; point.num.as_slice(), &[2305843009213693951]);
+    assert_eq!(rt; point.num.as_slice(), [2305843009213693951].as_slice());
     Ok(())
 }

@@ -10,7 +10,8 @@ const MOST: u64 = 1_000_000;
 
 /// Three tasks, each on a processor of its own. The first has a deadline of 7 ticks. The first two request both resources, and the third
 /// the first one.
-pub(crate) const SHORT_THREE: &str = r#"{"processors":3,"resources":[{"name":"q"},{"name":"r"}],"tasks":[
+pub(crate) const SHORT_THREE: &str =
+    r#"{"processors":3,"resources":[{"name":"q"},{"name":"r"}],"tasks":[
 {"name":"t1","processor":1,"period":100,"deadline":7,"cost":4,"requests":[{"resource":"q","count":1,"length":1},{"resource":"r","count":1,"length":1}]},
 {"name":"t2","processor":2,"period":100,"cost":4,"requests":[{"resource":"q","count":1,"length":3},{"resource":"r","count":1,"length":2}]},
 {"name":"t3","processor":3,"period":100,"cost":3,"requests":[{"resource":"q","count":1,"length":2}]}]}

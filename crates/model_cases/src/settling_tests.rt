@@ -17,7 +17,8 @@ const WIDE: &str = r#"{"processors":3,"resources":[{"name":"map"},{"name":"log"}
 "#;
 
 /// The same, but the first task's deadline is a tick before its least bound.
-const WIDE_AND_SHORT: &str = r#"{"processors":3,"resources":[{"name":"map"},{"name":"log"}],"tasks":[
+const WIDE_AND_SHORT: &str =
+    r#"{"processors":3,"resources":[{"name":"map"},{"name":"log"}],"tasks":[
 {"name":"steer","processor":1,"period":50000000,"deadline":24617119,"cost":2000000,"requests":[{"resource":"map","count":1,"length":200000},{"resource":"log","count":2,"length":100000}]},
 {"name":"look","processor":2,"period":100000000,"cost":10521142,"requests":[{"resource":"map","count":1,"length":3643921},{"resource":"log","count":1,"length":7091939}]},
 {"name":"plan","processor":3,"period":200000000,"cost":15368452,"requests":[{"resource":"map","count":1,"length":7356521},{"resource":"log","count":2,"length":8328343}]}]}
@@ -43,13 +44,21 @@ fn is_dual(dual: &Dual, wanted: &Weights<'_>) -> bool {
 }
 
 /// Is this the certificate that is answered?
-fn has_certificate(answer: &Result<Settled, SettleStop>, bounds: &[u64], duals: &[Weights<'_>]) -> bool {
+fn has_certificate(
+    answer: &Result<Settled, SettleStop>,
+    bounds: &[u64],
+    duals: &[Weights<'_>],
+) -> bool {
     let Ok(Settled::Schedulable(certificate)) = answer else {
         return false;
     };
     certificate.bounds.as_slice() == bounds
         && certificate.duals.len() == duals.len()
-        && certificate.duals.iter().zip(duals.iter()).all(|(dual, wanted)| is_dual(dual, wanted))
+        && certificate
+            .duals
+            .iter()
+            .zip(duals.iter())
+            .all(|(dual, wanted)| is_dual(dual, wanted))
 }
 
 /// Are these the steps of the refusal that is answered?
@@ -67,18 +76,41 @@ fn has_steps(answer: &Result<Settled, SettleStop>, wanted: &[Step<'_>]) -> bool 
 #[test]
 fn settles_a_wide_set(rt: HostRuntime) -> Result<(), Fail> {
     let answer = answered(&rt, rt.alloc(), WIDE)?;
-    assert!(rt; has_certificate(&answer, &[24617120, 26689594, 26689594], &[
-        (7356521, &[0, 21824174231316, 0, 0, 0, 3712600, 26806581358841, 30347823952903]),
-        (1, &[200000, 100000, 0, 0, 0, 1, 0, 0]),
-        (1, &[200000, 100000, 0, 0, 0, 1]),
-    ]));
+    assert!(rt;
+        has_certificate(
+            &answer,
+            &[24617120, 26689594, 26689594],
+            &[
+                (
+                    7356521,
+                    &[
+                        0,
+                        21824174231316,
+                        0,
+                        0,
+                        0,
+                        3712600,
+                        26806581358841,
+                        30347823952903
+                    ]
+                ),
+                (1, &[200000, 100000, 0, 0, 0, 1, 0, 0]),
+                (1, &[200000, 100000, 0, 0, 0, 1]),
+            ]
+        )
+    );
     Ok(())
 }
 
 #[test]
 fn refuses_a_wide_set(rt: HostRuntime) -> Result<(), Fail> {
     let answer = answered(&rt, rt.alloc(), WIDE_AND_SHORT)?;
-    assert!(rt; has_steps(&answer, &[(1, 24617120, (7356521, &[316412, 7356521, 7040109, 7356521]))]));
+    assert!(rt;
+        has_steps(
+            &answer,
+            &[(1, 24617120, (7356521, &[316412, 7356521, 7040109, 7356521]))]
+        )
+    );
     Ok(())
 }
 
