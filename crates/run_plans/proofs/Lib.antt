@@ -34,3 +34,4 @@ pub mod KeptLaws
 pub mod Examples
 mod CloserGain
 mod OneOutcome
+mod SameAnswers

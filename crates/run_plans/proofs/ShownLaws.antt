@@ -32,12 +32,12 @@ use Rattle.run_plans.proofs.SetTextLaws.{is_text}
 use Rattle.run_plans.proofs.BoundLaws.{analysis_bounds}
 
 -- An analysis has status 0 only if its rounds end as schedulable.
-record IsSchedulableEnding (e : Ending) : Type 0 where
-  bounds : List ℕ
-  duals : List DualDef
-  is : e ≡ Schedulable bounds duals
+pub record IsSchedulableEnding (e : Ending) : Type 0 where
+  pub bounds : List ℕ
+  pub duals : List DualDef
+  pub is : e ≡ Schedulable bounds duals
 
-schedulable_ending : (protocol : ProtocolName) (digest : List ℕ) (set : SetDef) (e : Ending) (a : Answer) → a ≡ ending_answer protocol digest set e
+pub schedulable_ending : (protocol : ProtocolName) (digest : List ℕ) (set : SetDef) (e : Ending) (a : Answer) → a ≡ ending_answer protocol digest set e
     → a.status ≡ 0 → IsSchedulableEnding e
 schedulable_ending protocol digest set (Schedulable bounds duals) a is zero = record { bounds = bounds; duals = duals; is = refl }
 schedulable_ending protocol digest set (NotShown i value) a is zero = absurd (not_zero 0 is refl zero)
