@@ -163,7 +163,7 @@ def file_problems(copy: Copy) -> Iterator[str | None]:
         (4, ["report", "fmlp+", "tools"], "SET tools can't be read: it is a folder"),
         (4, ["check", "fmlp+", "set", "tools"], "CERT tools can't be read: it is a folder"),
         (3, ["simulate", "fmlp+", "set", "jobs", "8"],
-         "JOBS jobs, line 1: the first field is no task of the set; or, tried behind the next reason, the script requests what is no resource of it."
+         "JOBS jobs, line 1: the first field names no task of the set. Or the script names no resource of the set, which is tested after the next reason."
          " The fix: write the names as the set has them, without spaces around them"),
     ]
     for status, words, line in table:
