@@ -21,7 +21,7 @@ WORDS: list[tuple[list[str | bytes], list[str]]] = [
     (["report", "fmlp+", "set", "cert", "more"], ['"more" is a word too many', "the form is: block report PROTOCOL SET CERT"]),
     (["check", "FMLP", "set", "cert"], ['"FMLP" is no protocol; near to it is "fmlp+"', "the form is: block check PROTOCOL SET CERT"]),
     (["check", "edf", "set", "cert"], ['"edf" is no protocol: mpcp, fmlp+, dpcp, dflp, dpcp-w, spin, fmlp+-c, spin-c, dpcp-c, dflp-c and mpcp-c are there', "the form is: block check PROTOCOL SET CERT"]),
-    (["analyse", "set", "fmlp+"], ["the protocol stands right behind the command", "the form is: block analyse PROTOCOL SET"]),
+    (["analyse", "set", "fmlp+"], ["the protocol comes right after the command", "the form is: block analyse PROTOCOL SET"]),
     (["analyse", "here"], ['a protocol is missing in front of "here": one of mpcp, fmlp+, dpcp, dflp, dpcp-w, spin, fmlp+-c, spin-c, dpcp-c, dflp-c and mpcp-c', "the form is: block analyse PROTOCOL SET"]),
     (["analyse", "fmlp+", "set", "08"], ['ALLOWANCE is "08", and should be a number from 1 to 1,000,000,000, in digits alone and without a leading 0', "the form is: block analyse PROTOCOL SET ALLOWANCE"]),
     (["simulate", "fmlp+", "set", "jobs", "0"], ['TICKS is "0", and should be a number from 1 to 1,000,000,000, in digits alone and without a leading 0', "the form is: block simulate PROTOCOL SET JOBS TICKS"]),

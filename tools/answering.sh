@@ -66,7 +66,7 @@ run_tool() {
 show_tools() {
     [ -d "$tools/cizborg" ] && command -v python3 >/dev/null || return 0
     echo
-    echo "These are tools beside the program. They prove nothing, and say which of its answers they rest on. Each says more with --help:"
+    echo "These are further tools. They prove nothing, and say on which answers of the program they rest. Each says more with --help:"
     echo
     python3 -B "$tools/cizborg" --forms | sed "s/^    block /    $name /"
 }

@@ -18,7 +18,7 @@ FACTOR = "The factor is on all costs, local limits and lengths, each rounded up.
 PERIOD = "A deadline that the set doesn't give is the period, and changes with it; one that it gives stays, but is lowered to a shorter period."
 
 PAIR_TABLE = f"""block analyse fmlp+ examples/pair.json answers: schedulable.
-At each edge it answers the same, with all else as it is, and at the next value what stands behind it.
+At each edge the answer is the same, if nothing else changes. At the next value it is the one in the last column.
 
 task     number        now   edge      by              at the next value
 *        factor      1.000  2.000  +1.000    +100.0 %  2.001: not shown control 12 10
@@ -38,7 +38,7 @@ sense    bus length      2      3      +1     +50.0 %  4: limit (refused set len
 """
 
 SHORT_TABLE = f"""block analyse mpcp examples/pair-short.json answers: not shown control 5 4.
-After any one of these changes it answers: schedulable, and one step before what stands behind it. The cheapest come first.
+After any one of these changes the answer is: schedulable. One step before, it is the one in the last column. The cheapest come first.
 
 task     number        now   edge      by            one step before
 control  deadline        4      5      +1   +25.0 %  4: not shown control 5 4
@@ -60,7 +60,7 @@ A count of 0 is no request at all.
 # a task that takes all time of its processor
 FULL = task_set(1, [], task("t1", 1, 1, 1))
 FULL_TABLE = f"""block analyse dpcp SET answers: schedulable.
-At each edge it answers the same, with all else as it is, and at the next value what stands behind it.
+At each edge the answer is the same, if nothing else changes. At the next value it is the one in the last column.
 
 task  number    now   edge      by          at the next value
 *     factor  1.000  1.000  +0.000  +0.0 %  1.001: limit (refused set cost task 1)
@@ -92,7 +92,7 @@ print(lines[status])
 sys.exit(status)
 """
 UNSURE_TABLE = f"""block analyse mpcp SET answers: schedulable.
-At each edge it answers the same, with all else as it is, and at the next value what stands behind it.
+At each edge the answer is the same, if nothing else changes. At the next value it is the one in the last column.
 
 task  number    now   edge      by            at the next value
 *     factor  1.000  2.500  +1.500  +150.0 %  2.501: wide t, so unknown
@@ -116,7 +116,7 @@ print(lines[status])
 sys.exit(status)
 """
 SETTLED_TABLE = f"""block COMMAND mpcp SET answers: schedulable.
-At each edge it answers the same, with all else as it is, and at the next value what stands behind it.
+At each edge the answer is the same, if nothing else changes. At the next value it is the one in the last column.
 
 task  number    now   edge      by           at the next value
 *     factor  1.000  1.000  +0.000   +0.0 %  1.001: not shown t 11 10

@@ -169,7 +169,7 @@ class Evidence(Inputs):
         self.tasks = self.tasks_of()
 
     def reasons_of(self, block: Block) -> list[Reason]:
-        """What the least bounds are made of, down to who blocks; nothing where the program doesn't find them, or this tool knows no columns."""
+        """What the least bounds consist of, and which tasks block; nothing where the program doesn't find them, or this tool knows no columns."""
         if self.protocol not in KINDS:
             return []
         asking = Asking(block, self.set, self.inputs["set"].path, [])

@@ -1,4 +1,4 @@
-"""What a bound is made of, down to who blocks, from answers of the program.
+"""What a bound consists of, and which tasks block, from answers of the program.
 
 The program writes points of blocking programs only in refusals. So for a task of a schedulable set it is asked to refute the same set with
 the task's deadline one tick below its bound: the last step of that refusal is of this task and comes to the bound, and its point is worth

@@ -78,7 +78,7 @@ def wrong_protocol(words: list[str], form: tuple[str, ...], protocols: list[str]
     if form[1:2] != ("PROTOCOL",) or len(words) < 2 or words[1] in protocols:
         return None
     if any(word in protocols for word in words[2:]):
-        return Wrong("the protocol stands right behind the command", form)
+        return Wrong("the protocol comes right after the command", form)
     if os.path.isfile(words[1]):
         return Wrong(f"a protocol is missing in front of {quoted(words[1])}: one of {listed(protocols)}", form)
     like = near(words[1], protocols)

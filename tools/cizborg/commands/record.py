@@ -1,4 +1,4 @@
-"""Makes jobs and rows of what a machine noted."""
+"""Makes jobs and rows from what a machine recorded."""
 from __future__ import annotations
 
 import re
@@ -79,6 +79,6 @@ WRITTEN = tuple(Word(name, Kind.OUTPUT, f"the file of {said} that is written") f
 TIME = Option("--latency", f"how long behind the cause of a switch a job may still be seen; without it {LATENCY}", Word("TIME", Kind.TEXT, ""), LATENCY)
 NUMBERS = Option("--processors", "the numbers of Linux for the processors of the set; without it 0, 1, ..", Word("NUMBERS", Kind.TEXT, ""))
 COMMANDS = (
-    Command("record rows", (SET, EVENTS, TICK, *WRITTEN[:2]), "makes jobs and rows of what a machine noted", ROWS, run_rows, (TIME,)),
+    Command("record rows", (SET, EVENTS, TICK, *WRITTEN[:2]), "makes jobs and rows from what a machine recorded", ROWS, run_rows, (TIME,)),
     Command("record trace", (SET, Word("TRACE", Kind.FILE, "the text of ftrace"), WRITTEN[2]), "makes events of the text of Linux' ftrace", TRACE, run_trace, (NUMBERS,)),
 )

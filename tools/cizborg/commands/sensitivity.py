@@ -117,12 +117,12 @@ def text(call: str, parts: Parts, base: Answer, edges: Sequence[Edge]) -> Iterat
     found = [edge for edge in edges if edge.value is not None]
     if base.status == Status.DONE:
         yield f"{call} answers: schedulable."
-        yield "At each edge it answers the same, with all else as it is, and at the next value what stands behind it."
+        yield "At each edge the answer is the same, if nothing else changes. At the next value it is the one in the last column."
         yield ""
         yield from table(found, "at the next value")
     elif found:
         yield f"{call} answers: {base.line()}."
-        yield "After any one of these changes it answers: schedulable, and one step before what stands behind it. The cheapest come first."
+        yield "After any one of these changes the answer is: schedulable. One step before, it is the one in the last column. The cheapest come first."
         yield ""
         yield from table(cheapest_first(found), "one step before")
     else:

@@ -1,4 +1,4 @@
-"""Says what bounds are made of, down to who blocks."""
+"""Says what bounds consist of, and which tasks block."""
 from __future__ import annotations
 
 import json
@@ -10,7 +10,7 @@ from ..statuses import Status, Stop
 from ..table import ALLOWANCE, JSON, PROTOCOL, SET, Command, Given, Kind, Word
 
 ABOUT = """
-Says what a bound is made of, down to who blocks: of a task, or of each task, the cost, the blocking and the interference.
+Says what a bound consists of, and which tasks block: for one task, or for each task, the cost, the blocking and the interference.
 
 Blocking is told by the columns of the task's blocking program (docs/ANALYSIS.md): who requests what, in which way it blocks, how many
 requests and for how many ticks each. The ways are direct: the task waits for the request; indirect: it waits for something else whose
@@ -118,4 +118,4 @@ def run(given: Given) -> int:
 
 
 TASK = Word("TASK", Kind.TEXT, "the name of a task; without it each one is told of", is_needed=False)
-COMMANDS = (Command("why", (PROTOCOL, SET, TASK), "what bounds are made of, down to who blocks", ABOUT, run, (ALLOWANCE, JSON)),)
+COMMANDS = (Command("why", (PROTOCOL, SET, TASK), "what bounds consist of, and which tasks block", ABOUT, run, (ALLOWANCE, JSON)),)
