@@ -38,7 +38,7 @@ def memory_problem(folder, program):
 
 def forms_of(text):
     """The forms of words that the help shows, each as a list of its words: those of the program, and those of the tools."""
-    return [[line[1].split() for line in re.finditer(r"^ {4}block (\S.*?) {2,}\S.*$", part, re.M)] for part in text.split("These are tools")]
+    return [[line[1].split() for line in re.finditer(r"^ {4}block (\S.*?) {2,}\S.*$", part, re.M)] for part in text.split("These are further tools")]
 
 
 def guide_forms():
