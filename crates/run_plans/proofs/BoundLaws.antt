@@ -1,6 +1,6 @@
 -- A certificate that is written or found valid lists bounds that every lawful schedule keeps.
 use Rattle.std.proofs.Common.{◌≡◌, ℕ, ◌<◌, ◌≤◌, List, length, sym, ap, subst, arith}
-use Rattle.std.specs.Prelude.{codes, slice_index, slice_index_or}
+use Rattle.std.specs.Prelude.{[], ◌∷◌, codes, slice_index, slice_index_or}
 use Rattle.std.proofs.lemmas.List.{get_or_default}
 use Rattle.serde_json.specs.Data.{Data}
 use Rattle.program_form.specs.Certificate.{CertificateDef}
@@ -11,7 +11,7 @@ use Rattle.sporadic_model.specs.Accepted.{IsAccepted}
 use Rattle.sporadic_model.proofs.Laws.{numbers_of_accepted}
 use Rattle.protocol_names.specs.declared.ProtocolName.{ProtocolName}
 use Rattle.named_laws.specs.Named.{SoundUnder, source_of}
-use Rattle.response_fixpoint.specs.Answers.{IsBest, IsSmallDual as AreSmall}
+use Rattle.response_fixpoint.specs.Answers.{IsSmallDual as AreSmall}
 use Rattle.taskset_json.specs.Answers.{IsValue}
 use Rattle.taskset_json.specs.Members.{list_at}
 use Rattle.cert_json.specs.Ranges.{IsSmallDual, HasSmallDuals, IsWritable}
@@ -24,8 +24,12 @@ use Rattle.cert_json.proofs.DigestBytes.{is_digest}
 use Rattle.sha2.specs.Sha256.{sha256}
 use Rattle.protocol_names.specs.Names.{word_of}
 use Rattle.command_inputs.specs.Inputs.{IsFileText}
-use Rattle.run_plans.specs.Headline.{Call, ReadsSome, ReadsValid}
-use Rattle.run_plans.specs.Bounding.{AreKept, ListsBounds}
+use Rattle.std.specs.Io.KnownBytes.{Appends}
+use Rattle.outside_ports.specs.Past.{wholly}
+use Rattle.command_inputs.specs.Known.{Answer}
+use Rattle.run_plans.specs.Headline.{Call, Asks, ReadsSome, ReadsValid}
+use Rattle.run_plans.specs.Run.{Gives}
+use Rattle.run_plans.specs.Bounding.{AreKept, ListsBounds, WritesBounds}
 use Rattle.named_laws.proofs.EachName.{named_sound, named_word_is_text}
 use Rattle.named_laws.proofs.Values.{values_of, are_values}
 
@@ -92,13 +96,21 @@ lists_bounds call protocol name text set c value read valid is_value same =
       kept = subst (λ (b : List ℕ). AreKept protocol set b) bounds (kept protocol set c read.text.accepted valid);
     }
 
-abbrev pub analysis_bounds : (call : Call) (protocol : ProtocolName) (name bytes : List ℕ) (set : SetDef) (c : CertificateDef)
-    → ReadsSome call protocol name set → IsBest (source_of protocol set) c
-    → ListsBounds call protocol name (certificate_text (word_of protocol) (sha256 bytes) c)
-analysis_bounds call protocol name bytes set c read best =
-    let text = text_is_read protocol bytes c (writable protocol set c read.text.accepted best.valid best.small) in
-    lists_bounds call protocol name (certificate_text (word_of protocol) (sha256 bytes) c) set c text.0 read best.valid text.1
-    (ap (λ (f : FileDef). f.certificate) text.3)
+-- So a call that wrote the text of a valid certificate with small duals wrote such bounds.
+pub bounds_written : (call : Call) (protocol : ProtocolName) (name bytes : List ℕ) (set : SetDef) (c : CertificateDef) (a : Answer)
+    → (read : ReadsSome call protocol name set) → Asks call (wholly name read.bytes ∷ []) → IsValid (source_of protocol set) c
+    → ((i : ℕ) → i < length set.tasks → AreSmall (dual_at c.duals i)) → a.text ≡ certificate_text (word_of protocol) (sha256 bytes) c
+    → Gives call a → WritesBounds call protocol name
+bounds_written call protocol name bytes set c a read asked valid small same gives =
+    let text = text_is_read protocol bytes c (writable protocol set c read.text.accepted valid small) in (
+      certificate_text (word_of protocol) (sha256 bytes) c,
+      subst (λ (t : List ℕ). Appends call.sink_before.written call.sink_now.written t) same gives.1,
+      (
+        lists_bounds call protocol name (certificate_text (word_of protocol) (sha256 bytes) c) set c text.0 read valid text.1
+            (ap (λ (f : FileDef). f.certificate) text.3),
+        asked,
+      ),
+    )
 
 abbrev pub check_bounds : (call : Call) (protocol : ProtocolName) (name cert : List ℕ) (p : ReadsValid call protocol name cert)
     → ListsBounds call protocol name p.bytes

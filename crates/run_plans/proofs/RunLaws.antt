@@ -37,12 +37,12 @@ use Rattle.run_plans.proofs.WorkLaws.{told_wide}
 use Rattle.run_plans.proofs.SoundLaws.{sound_outcome}
 use Rattle.run_plans.proofs.ShownLaws.{best_writes, proved_analysis, bounded_analysis, proved_check}
 use Rattle.run_plans.proofs.BoundLaws.{check_bounds}
-use Rattle.run_plans.proofs.OnClocks.{analysis_on_clocks, check_on_clocks, not_on_clocks}
+use Rattle.run_plans.proofs.OnClocks.{analysis_on_clocks, settlement_on_clocks, check_on_clocks, not_on_clocks}
 use Rattle.run_plans.proofs.KeptLaws.{proved_audit}
 use Rattle.run_plans.proofs.RefusedLaws.{proved_refutation, proved_confirmation}
 use Rattle.run_plans.specs.Refused.{IsProvedRefutation, IsProvedConfirmation}
 use Rattle.run_plans.specs.Settled.{SettlesExactly, IsSettling, IsProvedSettlement}
-use Rattle.run_plans.proofs.SettledLaws.{proved_settlement, proved_settled_refusal, outcome_exactly}
+use Rattle.run_plans.proofs.SettledLaws.{proved_settlement, bounded_settlement, proved_settled_refusal, outcome_exactly}
 use Rattle.run_plans.proofs.UpgradedLaws.{proved_upgrade}
 use Rattle.run_plans.proofs.SetTextLaws.{told_reads}
 
@@ -285,6 +285,9 @@ gave_run call replies r gives =
         analysed = λ protocol name more words zero. (
             let form = analyse_has_form call.words protocol name more words (some_form zero) in
             bounded_analysis call protocol name form.0 a (r.shows (Analyse protocol name form.0) form.1 (inl (sym is ∙ zero))) gives zero);
+        settled = λ protocol name more words zero. (
+            let form = settle_has_form call.words protocol name more words (some_form zero) in
+            bounded_settlement call protocol name form.0 a (r.shows (Settle protocol name form.0) form.1 (inl (sym is ∙ zero))) gives zero);
         checked = λ protocol name cert words zero. (
             let c = checked protocol name cert words zero in
             let p = c.proved in (p.bytes, p.named, (check_bounds call protocol name cert p, c.asked)));
@@ -293,6 +296,9 @@ gave_run call replies r gives =
         analysed = λ protocol name more words zero. (
             let form = analyse_has_form call.words protocol name more words (some_form zero) in
             analysis_on_clocks call protocol name form.0 a (r.shows (Analyse protocol name form.0) form.1 (inl (sym is ∙ zero))) gives zero);
+        settled = λ protocol name more words zero. (
+            let form = settle_has_form call.words protocol name more words (some_form zero) in
+            settlement_on_clocks call protocol name form.0 a (r.shows (Settle protocol name form.0) form.1 (inl (sym is ∙ zero))) gives zero);
         checked = λ protocol name cert words zero. (
             let c = checked protocol name cert words zero in
             let p = c.proved in (p.bytes, p.named, (check_on_clocks call protocol name cert p, c.asked)));
@@ -394,6 +400,7 @@ cut_run call replies r fails =
       checked = λ protocol name cert words zero. absurd (omega (arith, four, zero));
       bounding = record {
         analysed = λ protocol name more words zero. absurd (omega (arith, four, zero));
+        settled = λ protocol name more words zero. absurd (omega (arith, four, zero));
         checked = λ protocol name cert words zero. absurd (omega (arith, four, zero));
       };
       on_clocks = not_on_clocks call (λ zero. absurd (omega (arith, four, zero)));
@@ -431,6 +438,7 @@ run_ran_out call ran =
       checked = λ protocol name cert words zero. absurd (omega (arith, seven, zero));
       bounding = record {
         analysed = λ protocol name more words zero. absurd (omega (arith, seven, zero));
+        settled = λ protocol name more words zero. absurd (omega (arith, seven, zero));
         checked = λ protocol name cert words zero. absurd (omega (arith, seven, zero));
       };
       on_clocks = not_on_clocks call (λ zero. absurd (omega (arith, seven, zero)));

@@ -33,7 +33,9 @@ use Rattle.run_plans.proofs.InputLaws.{set_reads_once}
 use Rattle.run_plans.proofs.CommandLaws.{of_form}
 use Rattle.run_plans.proofs.SoundLaws.{accepted_of}
 use Rattle.run_plans.proofs.SetTextLaws.{told_reads}
+use Rattle.run_plans.specs.Bounding.{WritesBounds}
 use Rattle.run_plans.proofs.ShownLaws.{some_read}
+use Rattle.run_plans.proofs.BoundLaws.{bounds_written}
 
 -- A settlement with status 0 is the text of a certificate with proved bounds.
 pub record SettledSo (p : ProtocolName) (digest : List ℕ) (set : SetDef) (a : Answer) : Type 0 where
@@ -152,6 +154,14 @@ proved_settlement call p name n a out gives zero =
       given = w.last;
       writes = least_written call p (sha256 w.bytes) w.set a (accepted_of p w.bytes w.set w.read.1) w.so gives zero;
     }
+
+-- And the bounds that it lists.
+pub bounded_settlement : (call : Call) (p : ProtocolName) (name : List ℕ) (n : ℕ) (a : Answer)
+    → IsOutcomeOf (shown_by (shelf_of call)) (plan_of (Settle p name n)) a → Gives call a → call.status ≡ 0 → WritesBounds call p name
+bounded_settlement call p name n a out gives zero =
+    let w = wrote_settled (shown_by (shelf_of call)) p name n a out (omega (arith, gives.0, zero)) in
+    bounds_written call p name w.bytes w.set w.so.certificate a (some_read call p name w.bytes w.set w.read) w.asked
+    w.so.proved.valid w.so.proved.small w.so.text gives
 
 pub proved_settled_refusal : (call : Call) (p : ProtocolName) (name : List ℕ) (n : ℕ) (a : Answer)
     → IsOutcomeOf (shown_by (shelf_of call)) (plan_of (Settle p name n)) a → Gives call a → call.status ≡ 1 → IsProvedRefutation call p name

@@ -22,14 +22,14 @@ use Rattle.run_plans.specs.Plans.{IsOutcomeOf}
 use Rattle.command_inputs.specs.Inputs.{set_input, cert_input}
 use Rattle.run_plans.specs.Commands.{ending_answer, checked_answer, IsCheck, plan_of}
 use Rattle.command_inputs.specs.Known.{shown_by}
-use Rattle.run_plans.specs.Headline.{Call, Asks, WritesSchedulable, ReadsSome, ReadsValid, IsProvedAnalysis, IsProvedCheck}
-use Rattle.run_plans.specs.Bounding.{ListsBounds}
+use Rattle.run_plans.specs.Headline.{Call, WritesSchedulable, ReadsSome, ReadsValid, IsProvedAnalysis, IsProvedCheck}
+use Rattle.run_plans.specs.Bounding.{WritesBounds}
 use Rattle.run_plans.specs.Run.{shelf_of, Gives}
 use Rattle.run_plans.proofs.PlanLaws.{stopped_not_zero, not_zero}
 use Rattle.run_plans.proofs.SoundLaws.{accepted_of, valid_at_zero}
 use Rattle.run_plans.proofs.WorkLaws.{tied_at_zero}
 use Rattle.run_plans.proofs.SetTextLaws.{is_text}
-use Rattle.run_plans.proofs.BoundLaws.{analysis_bounds}
+use Rattle.run_plans.proofs.BoundLaws.{bounds_written}
 
 -- An analysis has status 0 only if its rounds end as schedulable.
 pub record IsSchedulableEnding (e : Ending) : Type 0 where
@@ -144,15 +144,11 @@ proved_analysis call protocol name allowance a out gives zero =
 -- And the bounds that it lists.
 pub bounded_analysis : (call : Call) (protocol : ProtocolName) (name : List ℕ) (allowance : ℕ) (a : Answer)
     → IsOutcomeOf (shown_by (shelf_of call)) (plan_of (Analyse protocol name allowance)) a → Gives call a → call.status ≡ 0
-    → (text : List ℕ) × Appends call.sink_before.written call.sink_now.written text
-    × ((lists : ListsBounds call protocol name text) × Asks call (wholly name lists.read.bytes ∷ []))
+    → WritesBounds call protocol name
 bounded_analysis call protocol name allowance a out gives zero =
-    let zero' : a.status ≡ 0 = omega (arith, gives.0, zero) in
-    let w = wrote_best (shown_by (shelf_of call)) protocol name allowance a out zero' in (
-      certificate_text (word_of protocol) (sha256 w.bytes) w.certificate,
-      subst (λ (t : List ℕ). Appends call.sink_before.written call.sink_now.written t) w.text gives.1,
-      (analysis_bounds call protocol name w.bytes w.set w.certificate (some_read call protocol name w.bytes w.set w.read) w.best, w.asked),
-    )
+    let w = wrote_best (shown_by (shelf_of call)) protocol name allowance a out (omega (arith, gives.0, zero)) in
+    bounds_written call protocol name w.bytes w.set w.certificate a (some_read call protocol name w.bytes w.set w.read) w.asked
+    w.best.valid w.best.small w.text gives
 
 -- A set and a valid certificate of it that were read.
 abbrev pub reads_valid : (call : Call) (protocol : ProtocolName) (name cert bytes text : List ℕ) (set : SetDef) (c : CertificateDef)

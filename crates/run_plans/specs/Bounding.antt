@@ -12,7 +12,7 @@ use Rattle.schedule_model.specs.Phase.Phase.{Finished}
 use Rattle.soundness_laws.specs.Sound.{IsLawfulSchedule, due_tick}
 use Rattle.named_laws.specs.Named.{rules_of}
 use Rattle.program_sources.specs.Bounds.{AreWithinDeadlines}
-use Rattle.command_words.specs.Spelled.{analyse_words, check_words}
+use Rattle.command_words.specs.Spelled.{analyse_words, settle_words, check_words}
 use Rattle.taskset_json.specs.Answers.{IsValue}
 use Rattle.taskset_json.specs.Members.{list_at}
 use Rattle.cert_json.specs.Written.{numbers_written}
@@ -34,12 +34,18 @@ pub record ListsBounds (call : Call) (protocol : ProtocolName) (name : List ℕ)
   pub within : AreWithinDeadlines set (numbers_written (list_at (codes "bounds") value))
   pub kept : AreKept protocol set (numbers_written (list_at (codes "bounds") value))
 
--- With status 0, what `analyse` writes lists such bounds for the set whose bytes the shelf gave, and it gave no others. So does the
--- certificate that `check` read with status 0. The shelf gave its bytes after those of the set.
+-- The call writes a text that lists such bounds for the set whose bytes the shelf gave, and it gave no others.
+abbrev pub WritesBounds : Call → ProtocolName → List ℕ → Type 0
+WritesBounds call protocol name = (text : List ℕ) × Appends call.sink_before.written call.sink_now.written text
+    × ((lists : ListsBounds call protocol name text) × Asks call (wholly name lists.read.bytes ∷ []))
+
+-- With status 0, `analyse` and `settle` write such a text. The certificate that `check` read with status 0 lists such bounds too. The shelf
+-- gave its bytes after those of the set.
 pub record IsBounding (call : Call) : Type 0 where
   pub analysed : (protocol : ProtocolName) (name : List ℕ) (more : List (List ℕ)) → call.words ≡ analyse_words protocol name more
-      → call.status ≡ 0 → (text : List ℕ) × Appends call.sink_before.written call.sink_now.written text
-      × ((lists : ListsBounds call protocol name text) × Asks call (wholly name lists.read.bytes ∷ []))
+      → call.status ≡ 0 → WritesBounds call protocol name
+  pub settled : (protocol : ProtocolName) (name : List ℕ) (more : List (List ℕ)) → call.words ≡ settle_words protocol name more
+      → call.status ≡ 0 → WritesBounds call protocol name
   pub checked : (protocol : ProtocolName) (name cert : List ℕ) → call.words ≡ check_words protocol name cert
       → call.status ≡ 0 → (text : List ℕ) × IsNamed call.shelf_before.names cert text
       × ((lists : ListsBounds call protocol name text) × Asks call (wholly name lists.read.bytes ∷ wholly cert text ∷ []))

@@ -142,8 +142,8 @@ pub record IsRun (call : Call) : Type 0 where
   pub headline : (protocol : ProtocolName) (set : SetDef) → (a : Analyses call protocol set) → IsHeadline call protocol (sha256 a.read.bytes) set
   -- What `check` accepts is sound.
   pub sound : (protocol : ProtocolName) (set : SetDef) (c : CertificateDef) → Checks call protocol set c → IsSoundCheck call protocol set c
-  -- With status 0 both commands say what is proved of the set whose text the shelf gave. And `bounding` says the least that matters, of the
-  -- bounds alone.
+  -- With status 0 both commands say what is proved of the set whose text the shelf gave. And `bounding` says the least that matters of them
+  -- and of `settle`, of the bounds alone.
   pub analysed : (protocol : ProtocolName) (name : List ℕ) (more : List (List ℕ)) → call.words ≡ analyse_words protocol name more
       → call.status ≡ 0 → IsProvedAnalysis call protocol name
   pub checked : (protocol : ProtocolName) (name cert : List ℕ) → call.words ≡ check_words protocol name cert
