@@ -4,7 +4,7 @@
 //     node tools/second_check.js check PROTOCOL SET CERT
 //     node tools/second_check.js confirm PROTOCOL SET CERT
 //
-// It is written from docs/ANALYSIS.md and docs/FORMATS.md and shares no line with the program, so that a mistake would have to be made
+// It is written from docs/ANALYSIS.md, docs/ROWS.md and docs/FORMATS.md and shares no line with the program, so that a mistake would have to be made
 // twice. It proves nothing. It is plain JavaScript without a library: Node.js runs it, and so does any browser as a script of a page,
 // where `SecondCheck.judge(command, protocol, load)` gives the text and the status, and `load` the bytes of "set" and of "cert".
 "use strict";

@@ -1,4 +1,4 @@
-"""Blocking programs as docs/ANALYSIS.md words them, for the tools and for benchmarks.
+"""Blocking programs as docs/ANALYSIS.md and docs/ROWS.md word them, for the tools and for benchmarks.
 
 It shares nothing with the program that it is compared with. A blocking program is its columns' costs and its rows, each row a list of
 (column, coefficient) and a limit, in the order of that page.

@@ -22,7 +22,7 @@ ANY_OF_HUNDRED = re.compile(
 CASES = [
     Case("one set of each step", "study 1 1", STUDIED),
     Case("the greatest seed", "study 18446744073709551615 3", counted(7 * [(3, 3, 3)] + [(1, 1, 1)])),
-    Case("sets of which some aren't schedulable", "study 24 12", counted(6 * [(12, 12, 12)] + [(10, 11, 10), (7, 7, 6)])),
+    Case("some of these sets aren't schedulable", "study 24 12", counted(6 * [(12, 12, 12)] + [(10, 11, 10), (7, 7, 6)])),
     Case("the first seed", "study 0 1", ANY_OF_ONE),
     Case("a hundred sets of each step", "study 5 100", ANY_OF_HUNDRED),
     refused("no set", "study 1 0"),
