@@ -42,7 +42,7 @@ BEYOND = [
     "run_plans/Headline:IsHeadline,Analyses", "run_plans/Checked:ChecksWhatWasWritten,FindsValid,ChecksForAnotherSet,FindsOtherSet",
     "run_plans/Checked:ChecksWhatWasSettled,ChecksWhatWasUpgraded",
     "run_plans/Confirmed:ConfirmsWhatWasWritten,ConfirmsWhatWasSettled,FindsConfirmed,ChecksAndConfirms",
-    "run_plans/Compared:AnalyseOneSet,RaisesNoBound,SettlesWhatWasAnalysed,FindsText",
+    "run_plans/Compared:AnalyseOneSet,RaisesNoBound,SettlesAfter,SettlesWhatWasAnalysed,SettlesWhatWasRefuted,FindsText,FindsRefusal",
     "run_plans/Twice:AreSteady!,IsCompleteCall!",
 ]
 TIES = [

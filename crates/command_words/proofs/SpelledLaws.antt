@@ -101,6 +101,11 @@ pub analyse_is_form : (words : List (List ℕ)) (p : ProtocolName) (set : List �
 analyse_is_form words p set more n is allows =
     ap form_of is ∙ form_of_analyse p set more ∙ ap (option_map (λ m. Analyse p set m)) allows
 
+pub refute_is_form : (words : List (List ℕ)) (p : ProtocolName) (set : List ℕ) (more : List (List ℕ)) (n : ℕ)
+    → words ≡ refute_words p set more → allowance_of more ≡ Some n → form_of words ≡ Some (Refute p set n)
+refute_is_form words p set more n is allows =
+    ap form_of is ∙ form_of_refute p set more ∙ ap (option_map (λ m. Refute p set m)) allows
+
 pub settle_is_form : (words : List (List ℕ)) (p : ProtocolName) (set : List ℕ) (more : List (List ℕ)) (n : ℕ)
     → words ≡ settle_words p set more → allowance_of more ≡ Some n → form_of words ≡ Some (Settle p set n)
 settle_is_form words p set more n is allows =

@@ -19,17 +19,12 @@ use Rattle.run_plans.specs.Refused.{IsProvedRefutation, ReadsHolding, IsProvedCo
 use Rattle.run_plans.specs.Run.{shelf_of, Gives}
 use Rattle.run_plans.proofs.PlanLaws.{stopped_not_zero}
 use Rattle.run_plans.proofs.SoundLaws.{accepted_of}
-use Rattle.run_plans.proofs.ShownLaws.{some_read}
+use Rattle.run_plans.proofs.ShownLaws.{OneSet, some_read}
 use Rattle.run_plans.proofs.RefusalLaws.{RefusedSo, refused_at_zero, confirmed_at_zero}
 
 -- The outcome of `refute` with status 0 is the text of a refusal that holds.
-pub record WroteRefusal (known : Known) (protocol : ProtocolName) (name : List ℕ) (allowance : ℕ) (a : Answer) : Type 0 where
-  pub bytes : List ℕ
-  pub set : SetDef
-  pub read : IsRead known (set_input protocol) name bytes set
-  pub last : known.last bytes
-  pub asked : known.asked (wholly name bytes ∷ [])
-  pub so : RefusedSo protocol (sha256 bytes) set allowance a
+abbrev pub WroteRefusal : Known → ProtocolName → List ℕ → ℕ → Answer → Type 0
+WroteRefusal known protocol name allowance a = OneSet known protocol name (λ bytes set. RefusedSo protocol (sha256 bytes) set allowance a)
 
 pub wrote_refusal : (known : Known) (protocol : ProtocolName) (name : List ℕ) (allowance : ℕ) (a : Answer)
     → IsOutcomeOf known (plan_of (Refute protocol name allowance)) a → a.status ≡ 0 → WroteRefusal known protocol name allowance a

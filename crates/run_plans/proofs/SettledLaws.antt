@@ -1,7 +1,6 @@
 -- What the statuses 0 and 1 of `settle` say, whatever is known of the inputs.
-use Rattle.std.proofs.Common.{◌≡◌, ◌≢◌, ℕ, ◌≤◌, ◌↔◌, List, [], ◌∷◌, ◌∙◌, ap, subst, arith, inl, inr}
+use Rattle.std.proofs.Common.{◌≡◌, ◌≢◌, ℕ, ◌≤◌, ◌↔◌, List, ◌∙◌, ap, subst, arith, inl, inr}
 use Rattle.std.specs.Io.KnownBytes.{Appends}
-use Rattle.outside_ports.specs.Past.{wholly}
 use Rattle.sha2.specs.Sha256.{sha256}
 use Rattle.program_form.specs.Certificate.{CertificateDef}
 use Rattle.program_sources.specs.Fitting.{AreFitting}
@@ -18,7 +17,7 @@ use Rattle.named_laws.proofs.Refusals.{named_none_fits}
 use Rattle.settling.specs.Rising.{IsProvedLeast}
 use Rattle.command_words.specs.Words.{Settle}
 use Rattle.command_words.proofs.SpelledLaws.{settle_is_form}
-use Rattle.command_inputs.specs.Known.{Answer, Known, IsRead, shown_by}
+use Rattle.command_inputs.specs.Known.{Answer, Known, shown_by}
 use Rattle.command_inputs.specs.Inputs.{set_input}
 use Rattle.run_plans.specs.Plans.{Working, IsOutcomeOf}
 use Rattle.run_plans.specs.Commands.{plan_of}
@@ -34,7 +33,7 @@ use Rattle.run_plans.proofs.CommandLaws.{of_form}
 use Rattle.run_plans.proofs.SoundLaws.{accepted_of}
 use Rattle.run_plans.proofs.SetTextLaws.{told_reads}
 use Rattle.run_plans.specs.Bounding.{WritesBounds}
-use Rattle.run_plans.proofs.ShownLaws.{some_read}
+use Rattle.run_plans.proofs.ShownLaws.{OneSet, some_read}
 use Rattle.run_plans.proofs.BoundLaws.{bounds_written}
 
 -- A settlement with status 0 is the text of a certificate with proved bounds.
@@ -71,64 +70,32 @@ refused_at_one p digest set n a (inr (inr (inl (i, here, left, is)))) one =
 refused_at_one p digest set n a (inr (inr (inr (short, is)))) one =
     (let s : a.status ≡ 6 = ap (λ x. x.status) is in absurd (omega (arith, s, one)))
 
--- The set of an outcome of `settle`.
-pub record SettledSet (known : Known) (p : ProtocolName) (name : List ℕ) (n : ℕ) (a : Answer) : Type 0 where
-  pub bytes : List ℕ
-  pub set : SetDef
-  pub read : IsRead known (set_input p) name bytes set
-  pub last : known.last bytes
-  pub asked : known.asked (wholly name bytes ∷ [])
-  pub settles : IsSettlement p (sha256 bytes) set n a
+-- The outcomes of `settle` with status 0, and with status 1.
+abbrev pub WroteSettled : Known → ProtocolName → List ℕ → Answer → Type 0
+WroteSettled known p name a = OneSet known p name (λ bytes set. SettledSo p (sha256 bytes) set a)
 
-settled_set : (known : Known) (p : ProtocolName) (name : List ℕ) (n : ℕ) (a : Answer) → IsOutcomeOf known (plan_of (Settle p name n)) a
-    → a.status ≤ 1 → SettledSet known p name n a
-settled_set known p name n a (inl stopped) most = absurd (omega (arith, stopped_status known (set_input p) name a stopped, most))
-settled_set known p name n a (inr (bytes, set, read, last, (is, asked))) most =
-    record { bytes = bytes; set = set; read = read; last = last tt; asked = asked; settles = is }
+abbrev pub WroteRefused : Known → ProtocolName → List ℕ → ℕ → Answer → Type 0
+WroteRefused known p name n a = OneSet known p name (λ bytes set. RefusedWith p (sha256 bytes) set n a)
 
--- The outcome of `settle` with status 0.
-pub record WroteSettled (known : Known) (p : ProtocolName) (name : List ℕ) (a : Answer) : Type 0 where
-  pub bytes : List ℕ
-  pub set : SetDef
-  pub read : IsRead known (set_input p) name bytes set
-  pub last : known.last bytes
-  pub asked : known.asked (wholly name bytes ∷ [])
-  pub so : SettledSo p (sha256 bytes) set a
+-- What is true of an outcome with status 0 or 1 follows from what it settles.
+wrote : (known : Known) (p : ProtocolName) (name : List ℕ) (n : ℕ) (a : Answer) (IsSo : List ℕ → SetDef → Type 0)
+    → IsOutcomeOf known (plan_of (Settle p name n)) a → a.status ≤ 1
+    → ((bytes : List ℕ) (set : SetDef) → IsSettlement p (sha256 bytes) set n a → IsSo bytes set) → OneSet known p name IsSo
+wrote known p name n a IsSo (inl stopped) most follows = absurd (omega (arith, stopped_status known (set_input p) name a stopped, most))
+wrote known p name n a IsSo (inr (bytes, set, read, last, (is, asked))) most follows =
+    record { bytes = bytes; set = set; read = read; last = last tt; asked = asked; so = follows bytes set is }
 
 pub wrote_settled : (known : Known) (p : ProtocolName) (name : List ℕ) (n : ℕ) (a : Answer) → IsOutcomeOf known (plan_of (Settle p name n)) a
     → a.status ≡ 0 → WroteSettled known p name a
 wrote_settled known p name n a out zero =
-    let s = settled_set known p name n a out (omega (arith, zero)) in
-    record {
-      bytes = s.bytes;
-      set = s.set;
-      read = s.read;
-      last = s.last;
-      asked = s.asked;
-      so = settled_at_zero p (sha256 s.bytes) s.set n a s.settles zero;
-    }
-
--- The outcome of `settle` with status 1.
-pub record WroteRefused (known : Known) (p : ProtocolName) (name : List ℕ) (n : ℕ) (a : Answer) : Type 0 where
-  pub bytes : List ℕ
-  pub set : SetDef
-  pub read : IsRead known (set_input p) name bytes set
-  pub last : known.last bytes
-  pub asked : known.asked (wholly name bytes ∷ [])
-  pub so : RefusedWith p (sha256 bytes) set n a
+    wrote known p name n a (λ bytes set. SettledSo p (sha256 bytes) set a) out (omega (arith, zero))
+    (λ bytes set is. settled_at_zero p (sha256 bytes) set n a is zero)
 
 pub wrote_refused : (known : Known) (p : ProtocolName) (name : List ℕ) (n : ℕ) (a : Answer) → IsOutcomeOf known (plan_of (Settle p name n)) a
     → a.status ≡ 1 → WroteRefused known p name n a
 wrote_refused known p name n a out one =
-    let s = settled_set known p name n a out (omega (arith, one)) in
-    record {
-      bytes = s.bytes;
-      set = s.set;
-      read = s.read;
-      last = s.last;
-      asked = s.asked;
-      so = refused_at_one p (sha256 s.bytes) s.set n a s.settles one;
-    }
+    wrote known p name n a (λ bytes set. RefusedWith p (sha256 bytes) set n a) out (omega (arith, one))
+    (λ bytes set is. refused_at_one p (sha256 bytes) set n a is one)
 
 -- ---- what a call says
 

@@ -44,6 +44,15 @@ schedulable_ending protocol digest set (NotShown i value) a is zero = absurd (no
 schedulable_ending protocol digest set (Wide i) a is zero = absurd (not_zero 4 is refl zero)
 schedulable_ending protocol digest set Allowance a is zero = absurd (not_zero 5 is refl zero)
 
+-- The one set that a call's words name, as the call read it, and what is true of it.
+pub record OneSet (known : Known) (protocol : ProtocolName) (name : List ℕ) (IsSo : List ℕ → SetDef → Type 0) : Type 0 where
+  pub bytes : List ℕ
+  pub set : SetDef
+  pub read : IsRead known (set_input protocol) name bytes set
+  pub last : known.last bytes
+  pub asked : known.asked (wholly name bytes ∷ [])
+  pub so : IsSo bytes set
+
 -- The outcome of an analysis with status 0 is the text of the best certificate of the set.
 pub record WroteBest (known : Known) (protocol : ProtocolName) (name : List ℕ) (a : Answer) : Type 0 where
   pub bytes : List ℕ

@@ -1,4 +1,5 @@
--- Two calls that analyse one set, under a protocol and under a closer analysis of it. And two calls that analyse and settle one set.
+-- Two calls that analyse one set, under a protocol and under a closer analysis of it. And two calls that analyse or refute a set, and
+-- settle it.
 use Rattle.std.specs.Prelude.{◌≡◌, ℕ, List, length, Some, IsSome}
 use Rattle.std.specs.Io.KnownBytes.{Appends}
 use Rattle.outside_ports.specs.Names.{Inputs, bytes_of}
@@ -6,7 +7,7 @@ use Rattle.sporadic_model.specs.SetDef.{SetDef}
 use Rattle.protocol_names.specs.declared.ProtocolName.{ProtocolName}
 use Rattle.program_sources.specs.Bounds.{AtMost}
 use Rattle.sha2.specs.Sha256.{sha256}
-use Rattle.command_words.specs.Spelled.{analyse_words, settle_words, allowance_of}
+use Rattle.command_words.specs.Spelled.{analyse_words, refute_words, settle_words, allowance_of}
 use Rattle.run_plans.specs.Headline.{Call, HasInputs, Analyses, WritesSchedulable}
 use Rattle.run_plans.specs.Checked.{Finds}
 
@@ -23,20 +24,20 @@ pub record RaisesNoBound (plain closer : ProtocolName) (first second : Call) (se
   pub closer_written : WritesSchedulable second closer (sha256 two.closer_call.read.bytes) set
   pub no_greater : AtMost (length set.tasks) closer_written.certificate.bounds plain_written.certificate.bounds
 
--- Does the second call settle a set that the first one analysed? The first writes to a sink that tells its bytes, and ends with status 0. The
--- second has the words of `settle` for the same protocol and with the same allowance, where the set's name has the same bytes. Each call has
--- its inputs.
-pub record SettlesWhatWasAnalysed (first second : Call) : Type 0 where
+-- Does the second call settle a set that the first one worked on, with these words? The first writes to a sink that tells its bytes, and
+-- ends with status 0. The second has the words of `settle` for the same protocol and with the same allowance, where the set's name has the
+-- same bytes. Each call has its inputs.
+pub record SettlesAfter (words : ProtocolName → List ℕ → List (List ℕ) → List (List ℕ)) (first second : Call) : Type 0 where
   pub protocol : ProtocolName
   pub set : List ℕ
   pub more : List (List ℕ)
   pub allowance : ℕ
   pub inputs : Inputs
-  pub analyses : first.words ≡ analyse_words protocol set more
+  pub before : first.words ≡ words protocol set more
   pub allows : allowance_of more ≡ Some allowance
   pub has : HasInputs first inputs
   pub tells : IsSome first.sink_before.written
-  pub schedulable : first.status ≡ 0
+  pub done : first.status ≡ 0
   pub text : List ℕ
   pub wrote : Appends first.sink_before.written first.sink_now.written text
   pub same_set : List ℕ
@@ -45,6 +46,16 @@ pub record SettlesWhatWasAnalysed (first second : Call) : Type 0 where
   pub has_later : HasInputs second later
   pub set_again : bytes_of later same_set ≡ bytes_of inputs set
 
--- It gives this text, with status 0.
+-- The first call analysed the set, or refuted it.
+abbrev pub SettlesWhatWasAnalysed : Call → Call → Type 0
+SettlesWhatWasAnalysed = SettlesAfter analyse_words
+
+abbrev pub SettlesWhatWasRefuted : Call → Call → Type 0
+SettlesWhatWasRefuted = SettlesAfter refute_words
+
+-- It gives this text, as that of a certificate or as that of a refusal.
 abbrev pub FindsText : Call → List ℕ → Type 0
 FindsText call text = Finds call (record { status = 0; text = text })
+
+abbrev pub FindsRefusal : Call → List ℕ → Type 0
+FindsRefusal call text = Finds call (record { status = 1; text = text })

@@ -15,7 +15,8 @@ ghost use Rattle.run_plans.specs.Checked.{ChecksWhatWasWritten, ChecksWhatWasSet
 ghost use Rattle.run_plans.specs.Checked.{ChecksForAnotherSet, FindsValid, FindsOtherSet};
 ghost use Rattle.run_plans.specs.Confirmed.{ConfirmsWhatWasWritten, ConfirmsWhatWasSettled, FindsConfirmed, ChecksAndConfirms};
 ghost use Rattle.run_plans.specs.Twice.{AreSteady, IsCompleteCall};
-ghost use Rattle.run_plans.specs.Compared.{AnalyseOneSet, RaisesNoBound, SettlesWhatWasAnalysed, FindsText};
+ghost use Rattle.run_plans.specs.Compared.{AnalyseOneSet, RaisesNoBound};
+ghost use Rattle.run_plans.specs.Compared.{SettlesWhatWasAnalysed, FindsText, SettlesWhatWasRefuted, FindsRefusal};
 
 /// Let a first call analyse a set and write "schedulable", and a second one check the written bytes for the same bytes of the set. Then the
 /// second answers `valid`, or a count of faults rises, or memory runs out.
@@ -50,6 +51,12 @@ pub fn settled_then_confirmed()
 /// the second writes the same text with status 0, or a count of faults rises, or memory runs out.
 pub fn settled_as_analysed()
     ensures { (first second : Call) → IsRun first → IsRun second → (c : SettlesWhatWasAnalysed first second) → FindsText second c.text }
+{}
+
+/// Let a first call refute a set and write a refusal, and a second one settle the same bytes of the set with the same allowance. Then the
+/// second writes the same text with status 1, or a count of faults rises, or memory runs out.
+pub fn settled_as_refuted()
+    ensures { (first second : Call) → IsRun first → IsRun second → (c : SettlesWhatWasRefuted first second) → FindsRefusal second c.text }
 {}
 
 /// Let a first call upgrade a certificate of a set, with status 0, and a second one check the written bytes for the same bytes of the set.
