@@ -8,9 +8,9 @@ use Rattle.program_sources.specs.Recurrence.{SourceDef}
 use Rattle.exchange_runs.proofs.Finals.{one_answer}
 use Rattle.refusal_laws.specs.Steps.{StepDef}
 use Rattle.response_fixpoint.specs.Rounds.{Valued, TooWide, OutOfUnits, Ending, NotShown, Found, RoundsOf, Passes, Reaches}
-use Rattle.response_fixpoint.specs.Rounds.{ComesTo, EndsIn}
+use Rattle.response_fixpoint.specs.Rounds.{EndsIn}
 use Rattle.response_fixpoint.specs.Runs.{TaskRuns}
-use Rattle.response_fixpoint.proofs.OneEnd.{HaveOneEnd, Place, passes_once, reaches_once, passed_round, round_passes, one_end}
+use Rattle.response_fixpoint.proofs.OneEnd.{HaveOneEnd, place_of, passes_once, reaches_once, one_place, one_end}
 use Rattle.response_fixpoint.proofs.RunLaws.{have_one_end}
 use Rattle.refusal_cert.specs.Refuting.{IsWritten, IsUnwritable, GivesPoint, PointRuns, refuting}
 use Rattle.refusal_cert.specs.Steps.{step_of, round_steps, way_steps, refusal_of}
@@ -102,53 +102,24 @@ way_once o one a (suc k) (suc j) u v r s same (b, x, f, reached, passed, is, oth
     ∙ ap (λ (z : List ℕ). way_steps o a j c y reached' ++ round_steps z f o.tasks) both.1
     ∙ ap (λ (z : Found). way_steps o a j c y reached' ++ round_steps y z o.tasks) founds
 
--- If rounds come to a task that isn't shown, they end.
-abbrev at_late : (o : RoundsOf) (a i v : ℕ) (r : List ℕ) (left : ℕ) (f : Found) (u : ℕ) (d : DualDef) → i < o.tasks
-    → ComesTo o a r i left f → o.runs r i left (Valued u v d) → o.latest i < v → Place o a (NotShown i v)
-at_late o a i v r left f u d below comes run late = record {
-  rounds = comes.rounds;
-  spent = comes.spent;
-  vector = r;
-  task = i;
-  found = f;
-  reached = comes.reached;
-  passed = comes.passed;
-  ends = inl (record {
-    below = below;
-    run = Valued u v d;
-    runs = subst (λ (n : ℕ). o.runs r i n (Valued u v d)) comes.units run;
-    stops = (late, refl);
-  });
-}
-
 -- So they have one refusal.
 pub one_refusal : (o : RoundsOf) → HaveOneEnd o → (a i v : ℕ) (p q : EndsIn o a (NotShown i v))
     → refusal_of o a (NotShown i v) p ≡ refusal_of o a (NotShown i v) q
 one_refusal o one a i v (r, left, f, u, d, below, comes, run, late) (r', left', g, u', d', below', comes', run', late') =
-    let x = at_late o a i v r left f u d below comes run late in
-    let y = at_late o a i v r' left' g u' d' below' comes' run' late' in
-    let same : comes.rounds ≡ comes'.rounds = elim (cases_lt comes.rounds comes'.rounds) [
-      | inl less ↦ absurd (round_passes o one a (NotShown i v) x
-          (passed_round o a comes'.rounds comes'.spent r' comes'.reached comes.rounds less))
-      | inr more ↦ elim (cases_lt comes'.rounds comes.rounds) [
-        | inl less ↦ absurd (round_passes o one a (NotShown i v) y
-            (passed_round o a comes.rounds comes.spent r comes.reached comes'.rounds less))
-        | inr least ↦ omega (arith, more, least)
-      ]
-    ] in
-    let moved : Reaches o a comes'.rounds comes.spent r = subst (λ (n : ℕ). Reaches o a n comes.spent r) same comes.reached in
-    let both = reaches_once o one a comes'.rounds comes.spent comes'.spent r r' moved comes'.reached in
-    let there : Passes o r' (a - comes'.spent) i f = subst (λ (n : ℕ). Passes o r' (a - n) i f) both.0
-    (subst (λ (z : List ℕ). Passes o z (a - comes.spent) i f) both.1 comes.passed) in
-    let founds : f ≡ g = passes_once o one r' (a - comes'.spent) i f g there comes'.passed in
+    let x = place_of o a r i left f (NotShown i v) (Valued u v d) below comes run (late, refl) in
+    let y = place_of o a r' i left' g (NotShown i v) (Valued u' v d') below' comes' run' (late', refl) in
+    let same = one_place o one a (NotShown i v) (NotShown i v) x y in
+    let spents : comes.spent ≡ comes'.spent = same.spent in
+    let vectors : r ≡ r' = same.vector in
+    let founds : f ≡ g = same.found in
     let used : f.used ≡ g.used = ap (λ (z : Found). z.used) founds in
-    let lefts : left ≡ left' = omega (arith, comes.units, comes'.units, both.0, used) in
+    let lefts : left ≡ left' = omega (arith, comes.units, comes'.units, spents, used) in
     let run_there : o.runs r' i left' (Valued u v d) = subst (λ (n : ℕ). o.runs r' i n (Valued u v d)) lefts
-    (subst (λ (z : List ℕ). o.runs z i left (Valued u v d)) both.1 run) in
+    (subst (λ (z : List ℕ). o.runs z i left (Valued u v d)) vectors run) in
     let ends : Valued u v d ≡ Valued u' v d' = one r' i left' (Valued u v d) (Valued u' v d') run_there run' in
     let ds : d ≡ d' = cc in
-    let way = way_once o one a comes.rounds comes'.rounds comes.spent comes'.spent r r' same comes.reached comes'.reached in
+    let way = way_once o one a comes.rounds comes'.rounds comes.spent comes'.spent r r' same.rounds comes.reached comes'.reached in
     ap (λ (z : List StepDef). z ++ round_steps r f i ++ step_of i v d ∷ []) way
-    ∙ ap (λ (z : List ℕ). way_steps o a comes'.rounds comes'.spent r' comes'.reached ++ round_steps z f i ++ step_of i v d ∷ []) both.1
+    ∙ ap (λ (z : List ℕ). way_steps o a comes'.rounds comes'.spent r' comes'.reached ++ round_steps z f i ++ step_of i v d ∷ []) vectors
     ∙ ap (λ (z : Found). way_steps o a comes'.rounds comes'.spent r' comes'.reached ++ round_steps r' z i ++ step_of i v d ∷ []) founds
     ∙ ap (λ (z : DualDef). way_steps o a comes'.rounds comes'.spent r' comes'.reached ++ round_steps r' g i ++ step_of i v z ∷ []) ds

@@ -1,6 +1,7 @@
 -- What the run of a task's program gives, from the answers of solving it and of writing its best point.
-use Rattle.std.proofs.Common.{◌≡◌, ℕ, ◌<◌, List, pos, ◌≤ℤ◌, refl, sym, subst, arith, inl, inr, Ok, Err, Some}
-use Rattle.std.specs.Prelude.{All, Option, None, slice_index}
+use Rattle.std.proofs.Common.{◌≡◌, ℕ, ◌<◌, ◌≤◌, List, [], ◌∷◌, ◌++◌, pos, ◌≤ℤ◌, refl, sym, ◌∙◌, ap, subst, arith, inl, inr, Ok, Err}
+use Rattle.std.proofs.lemmas.List.{append-nil}
+use Rattle.std.specs.Prelude.{All, slice_index}
 use Rattle.fraction128.specs.Fraction.{Fraction}
 use Rattle.fraction128.specs.Scales.{Scales}
 use Rattle.fraction128.specs.declared.scaling.Scaled.{Scaled}
@@ -12,6 +13,8 @@ use Rattle.exchange_runs.proofs.Finals.{one_answer}
 use Rattle.simplex.specs.declared.SolveStop.{SolveStop}
 use Rattle.simplex.specs.declared.SolveStop.TheVariants as solve_stop
 use Rattle.program_sources.specs.Recurrence.{SourceDef}
+use Rattle.program_sources.specs.Valid.{no_dual}
+use Rattle.refusal_laws.specs.Steps.{StepDef}
 use Rattle.response_fixpoint.specs.Rounds.{Valued}
 use Rattle.response_fixpoint.specs.Runs.{TaskRuns}
 use Rattle.response_fixpoint.specs.Solutions.{IsSolution}
@@ -19,10 +22,9 @@ use Rattle.response_fixpoint.specs.Answers.{GivesRun}
 use Rattle.response_fixpoint.specs.declared.task_run.Solution.{Solution}
 use Rattle.response_fixpoint.specs.declared.task_run.TaskRun.{TaskRun}
 use Rattle.response_fixpoint.proofs.AnswerLaws.{run_units}
-use Rattle.refusal_cert.specs.Refuting.{IsUnwritable, GivesPoint, PointRuns}
-use Rattle.refusal_cert.specs.Steps.{steps_over}
-use Rattle.refusal_cert.specs.Answers.{GivesPointRun, WritesPoint, WritesStep, point_seen, steps_given}
-use Rattle.refusal_cert.specs.declared.task_run.PointRun.{PointRun}
+use Rattle.refusal_cert.specs.Refuting.{IsWritten, IsUnwritable, GivesPoint}
+use Rattle.refusal_cert.specs.Steps.{step_of, steps_over}
+use Rattle.refusal_cert.specs.Answers.{GivesPointRun, WritesPoint, WritesStep}
 use Rattle.refusal_cert.proofs.PointLaws.{best_not_below}
 use Rattle.refusal_cert.proofs.RoundSteps.{step_above, no_step_below}
 
@@ -51,42 +53,45 @@ scaled_point best s point (least, scaled, small, each) den num = rw (den, num) (
 pub unscaled_point : (best : List Fraction) → Scales (Err scaling.Wide) best → IsUnwritable best
 unscaled_point best (common, least, wide) = record { common = common; least = least; wide = wide }
 
+-- A task whose value isn't above the bound has no step.
+pub none_written : (bound i value : ℕ) (best : List Fraction) (before : List StepDef) → value ≤ bound
+    → WritesStep (Ok tt) before before bound i value best
+none_written bound i value best before most =
+    let none : before ++ steps_over bound i value no_dual ≡ before =
+    ap (λ (xs : List StepDef). before ++ xs) (no_step_below bound i value no_dual most) ∙ append-nil before in
+    (no_dual, record { above = λ past. absurd (omega (arith, past, most)); none = λ _. refl }, sym none)
+
 -- If the value is above the bound, the point is that of a step.
-pub step_stopped : (bound value : ℕ) (e : SolveStop) (best : List Fraction) → bound < value → WritesPoint (Err e) best
-    → WritesStep (Err e) bound value best
-step_stopped bound value solve_stop.Wide best above given = (above, given)
-step_stopped bound value solve_stop.Units best above given = given
-step_stopped bound value solve_stop.Memory best above given = tt
+pub step_written : (bound i value : ℕ) (best : List Fraction) (point : DualDef) (before now : List StepDef) → bound < value
+    → IsWritten best point → now ≡ before ++ step_of i value point ∷ [] → WritesStep (Ok tt) before now bound i value best
+step_written bound i value best point before now past written is = (
+  point,
+  record { above = λ _. written; none = λ most. absurd (omega (arith, past, most)) },
+  is ∙ ap (λ (xs : List StepDef). before ++ xs) (sym (step_above bound i value point past)),
+)
 
--- A task that has the point of its step.
-point_given : (bound value : ℕ) (best : List Fraction) (point : Option Dual) → WritesStep (Ok point) bound value best
-    → GivesPoint bound value best (point_seen point)
-point_given bound value best None most = record { above = λ past. absurd (omega (arith, past, most)); none = λ _. refl }
-point_given bound value best (Some point) (past, written) =
-    record { above = λ _. written; none = λ most. absurd (omega (arith, past, most)) }
+pub step_stopped : (bound i value : ℕ) (e : SolveStop) (best : List Fraction) (before now : List StepDef) → bound < value
+    → WritesPoint (Err e) best → WritesStep (Err e) before now bound i value best
+step_stopped bound i value solve_stop.Wide best before now above given = (above, given)
+step_stopped bound i value solve_stop.Units best before now above given = given
+step_stopped bound i value solve_stop.Memory best before now above given = tt
 
-given_steps : (i bound value : ℕ) (best : List Fraction) (point : Option Dual) → WritesStep (Ok point) bound value best
-    → steps_given i value point ≡ steps_over bound i value (point_seen point)
-given_steps i bound value best None most = sym (no_step_below bound i value (point_seen None) most)
-given_steps i bound value best (Some point) (past, written) = sym (step_above bound i value (dual_seen point) past)
-
-pub point_run : (f : SourceDef) (r : List ℕ) (i left : ℕ) (s : TaskRun) (point : Option Dual) (run : PointRun)
-    → GivesRun (Ok s) f r i left → WritesStep (Ok point) (slice_index r i) s.value s.solution.best.items
-    → run.solution ≡ s.solution → run.value ≡ s.value → run.point ≡ point → GivesPointRun (Ok run) f r i left
-point_run f r i left s point run (solved, is) step solution value given =
-    let bound : ℕ = slice_index r i in
+-- A run that ends in a value, with its step written.
+pub point_run : (f : SourceDef) (r : List ℕ) (i left : ℕ) (s : TaskRun) (before now : List StepDef) → GivesRun (Ok s) f r i left
+    → WritesStep (Ok tt) before now (slice_index r i) i s.value s.solution.best.items → GivesPointRun (Ok s) f r i left before now
+point_run f r i left s before now (run, is) (point, gives, steps) =
     let dual : DualDef = dual_seen s.solution.dual in
-    let there : WritesStep (Ok point) bound s.value solved.ends.best =
-    subst (λ (xs : List Fraction). WritesStep (Ok point) bound s.value xs) (sym (solved_best f r i left s.value s.solution solved is)) step in
-    let units = run_units f r i left s.solution.used s.value dual solved in
-    let runs : PointRuns f r i left (Valued s.solution.used s.value (point_seen point)) =
-    (dual, solved, point_given bound s.value solved.ends.best point there) in
-    rw (solution, value, given) (runs, given_steps i bound s.value s.solution.best.items point step, units.0, units.1, is)
+    let there : GivesPoint (slice_index r i) s.value run.ends.best point =
+    subst (λ (xs : List Fraction). GivesPoint (slice_index r i) s.value xs point)
+    (sym (solved_best f r i left s.value s.solution run is)) gives in
+    let units = run_units f r i left s.solution.used s.value dual run in
+    (point, (dual, run, there), steps, units.0, units.1, is)
 
 -- A task whose step has a point that can't be written, or whose run stops before.
-pub point_stopped : (f : SourceDef) (r : List ℕ) (i left : ℕ) (s : TaskRun) (e : SolveStop) → GivesRun (Ok s) f r i left
-    → WritesStep (Err e) (slice_index r i) s.value s.solution.best.items → GivesPointRun (Err e) f r i left
-point_stopped f r i left s solve_stop.Wide (run, is) (above, wide) =
+pub point_stopped : (f : SourceDef) (r : List ℕ) (i left : ℕ) (s : TaskRun) (e : SolveStop) (before now : List StepDef)
+    → GivesRun (Ok s) f r i left → WritesStep (Err e) before now (slice_index r i) i s.value s.solution.best.items
+    → GivesPointRun (Err e) f r i left before now
+point_stopped f r i left s solve_stop.Wide before now (run, is) (above, wide) =
     inr (
       s.solution.used,
       s.value,
@@ -95,11 +100,11 @@ point_stopped f r i left s solve_stop.Wide (run, is) (above, wide) =
       above,
       subst (λ (xs : List Fraction). IsUnwritable xs) (sym (solved_best f r i left s.value s.solution run is)) wide,
     )
-point_stopped f r i left s solve_stop.Units (run, is) step = absurd step
-point_stopped f r i left s solve_stop.Memory (run, is) step = tt
+point_stopped f r i left s solve_stop.Units before now (run, is) step = absurd step
+point_stopped f r i left s solve_stop.Memory before now (run, is) step = tt
 
-pub run_stopped : (f : SourceDef) (r : List ℕ) (i left : ℕ) (e : SolveStop) → GivesRun (Err e) f r i left
-    → GivesPointRun (Err e) f r i left
-run_stopped f r i left solve_stop.Wide run = inl run
-run_stopped f r i left solve_stop.Units run = run
-run_stopped f r i left solve_stop.Memory run = tt
+pub run_stopped : (f : SourceDef) (r : List ℕ) (i left : ℕ) (e : SolveStop) (before now : List StepDef) → GivesRun (Err e) f r i left
+    → GivesPointRun (Err e) f r i left before now
+run_stopped f r i left solve_stop.Wide before now run = inl run
+run_stopped f r i left solve_stop.Units before now run = run
+run_stopped f r i left solve_stop.Memory before now run = tt

@@ -1,30 +1,31 @@
 -- What the answers of a refutation mean.
-use Rattle.std.specs.Prelude.{◌≡◌, ℕ, ◌+◌, ◌-◌, ◌<◌, ◌≤◌, List, [], ◌∷◌, ◌++◌, map, slice_index, Result, Ok, Err, Option, None, Some}
+use Rattle.std.specs.Prelude.{◌≡◌, ℕ, ◌<◌, ◌≤◌, List, [], ◌∷◌, ◌++◌, slice_index, Result, Ok, Err, Vec}
+use Rattle.std.specs.Global.{Global}
 use Rattle.fraction128.specs.Fraction.{Fraction}
 use Rattle.program_form.specs.Certificate.{DualDef, dual_seen}
-use Rattle.program_form.specs.Program.{ProgramDef}
 use Rattle.program_form.specs.declared.certificate.Dual.{Dual}
 use Rattle.program_sources.specs.Recurrence.{SourceDef}
 use Rattle.program_sources.specs.Fitting.{AreFitting, tasks_of, latest_of}
-use Rattle.program_sources.specs.Valid.{no_dual}
 use Rattle.simplex.specs.declared.SolveStop.{SolveStop}
 use Rattle.simplex.specs.declared.SolveStop.TheVariants as solve_stop
 use Rattle.refusal_laws.specs.Steps.{StepDef, Holds}
-use Rattle.refusal_laws.specs.Seen.{step_seen, steps_seen}
-use Rattle.response_fixpoint.specs.Rounds.{RunEnd, Valued, TooWide, OutOfUnits, Ending, Schedulable, NotShown, Wide, Allowance}
+use Rattle.refusal_laws.specs.Seen.{steps_seen}
+use Rattle.refusal_laws.specs.declared.refusal.RefusalStep.{RefusalStep}
+use Rattle.response_fixpoint.specs.Rounds.{Valued, TooWide, OutOfUnits, Ending, Schedulable, NotShown, Wide, Allowance}
 use Rattle.response_fixpoint.specs.Rounds.{Found, Passes, EndsIn}
 use Rattle.response_fixpoint.specs.Runs.{rounds_of}
 use Rattle.response_fixpoint.specs.Solutions.{IsSolution, AreKept}
-use Rattle.refusal_cert.specs.Refuting.{IsWritten, IsUnwritable, PointRuns, refuting, AreWritable}
+use Rattle.response_fixpoint.specs.Answers.{Halts}
+use Rattle.response_fixpoint.specs.declared.task_run.TaskRun.{TaskRun}
+use Rattle.response_fixpoint.specs.declared.rounds.Round.{Round}
+use Rattle.response_fixpoint.specs.declared.rounds.RoundStop.{RoundStop}
+use Rattle.response_fixpoint.specs.declared.rounds.RoundStop.TheVariants as round_stop
+use Rattle.refusal_cert.specs.Refuting.{IsWritten, IsUnwritable, GivesPoint, PointRuns, refuting, AreWritable}
 use Rattle.refusal_cert.specs.Steps.{step_of, steps_over, round_steps, refusal_of}
 use Rattle.refusal_cert.specs.declared.answer.Answer.{Answer}
 use Rattle.refusal_cert.specs.declared.answer.Answer.TheVariants as answer
 use Rattle.refusal_cert.specs.declared.answer.RefuteStop.{RefuteStop}
 use Rattle.refusal_cert.specs.declared.answer.RefuteStop.TheVariants as stop
-use Rattle.refusal_cert.specs.declared.task_run.PointRun.{PointRun}
-use Rattle.refusal_cert.specs.declared.rounds.Round.{Round}
-use Rattle.refusal_cert.specs.declared.rounds.RoundEnd.{RoundEnd}
-use Rattle.refusal_cert.specs.declared.rounds.RoundEnd.TheVariants as round_end
 
 -- Is this how the rounds of refusals end with this allowance, and does a refusal have the steps of these rounds? Running out of memory
 -- says nothing.
@@ -76,81 +77,53 @@ WritesPoint (Err solve_stop.Wide) best = IsUnwritable best
 WritesPoint (Err solve_stop.Units) best = ⊥
 WritesPoint (Err solve_stop.Memory) best = Unit {0}
 
--- What writing the point of a step gives: none where there is no step.
-abbrev pub WritesStep : Result (Option Dual) SolveStop → ℕ → ℕ → List Fraction → Type 0
-WritesStep (Ok None) bound value best = value ≤ bound
-WritesStep (Ok (Some point)) bound value best = (bound < value) × IsWritten best (dual_seen point)
-WritesStep (Err solve_stop.Wide) bound value best = (bound < value) × IsUnwritable best
-WritesStep (Err solve_stop.Units) bound value best = ⊥
-WritesStep (Err solve_stop.Memory) bound value best = Unit {0}
+-- What writing the step of a task gives: the point, and these steps. There is no step where the value isn't above the bound.
+abbrev pub WritesStep : Result (Unit {0}) SolveStop → List StepDef → List StepDef → ℕ → ℕ → ℕ → List Fraction → Type 0
+WritesStep (Ok done) before now bound i value best =
+    (point : DualDef) × (GivesPoint bound value best point) × (now ≡ before ++ steps_over bound i value point)
+WritesStep (Err solve_stop.Wide) before now bound i value best = (bound < value) × IsUnwritable best
+WritesStep (Err solve_stop.Units) before now bound i value best = ⊥
+WritesStep (Err solve_stop.Memory) before now bound i value best = Unit {0}
 
--- The point of a run, as the definition of the rounds has it.
-abbrev pub point_seen : Option Dual → DualDef
-point_seen None = no_dual
-point_seen (Some point) = dual_seen point
-
--- The step that goes with it.
-abbrev pub steps_given : ℕ → ℕ → Option Dual → List StepDef
-steps_given i value None = []
-steps_given i value (Some point) = step_of i value (dual_seen point) ∷ []
-
--- Is this how task i's run ends where `left` units are left, and is its solution this one? Running out of memory says nothing.
-abbrev pub GivesPointRun : Result PointRun SolveStop → SourceDef → List ℕ → ℕ → ℕ → Type 0
-GivesPointRun (Ok run) f r i left = (PointRuns f r i left (Valued run.solution.used run.value (point_seen run.point)))
-    × (steps_given i run.value run.point ≡ steps_over (slice_index r i) i run.value (point_seen run.point))
+-- Is this how task i's run ends where `left` units are left, is its solution this one, and are these the steps then? Running out of
+-- memory says nothing.
+abbrev pub GivesPointRun : Result TaskRun SolveStop → SourceDef → List ℕ → ℕ → ℕ → List StepDef → List StepDef → Type 0
+GivesPointRun (Ok run) f r i left before now =
+    (point : DualDef) × (PointRuns f r i left (Valued run.solution.used run.value point))
+    × (now ≡ before ++ steps_over (slice_index r i) i run.value point)
     × (1 ≤ run.solution.used) × (run.solution.used ≤ left) × IsSolution (f.program i r) run.solution
-GivesPointRun (Err solve_stop.Wide) f r i left = PointRuns f r i left TooWide
-GivesPointRun (Err solve_stop.Units) f r i left = PointRuns f r i left OutOfUnits
-GivesPointRun (Err solve_stop.Memory) f r i left = Unit {0}
+GivesPointRun (Err solve_stop.Wide) f r i left before now = PointRuns f r i left TooWide
+GivesPointRun (Err solve_stop.Units) f r i left before now = PointRuns f r i left OutOfUnits
+GivesPointRun (Err solve_stop.Memory) f r i left before now = Unit {0}
 
--- What a task's run does to a round. The task passes if its value is at most its latest bound. If not, it gives the last step.
-abbrev pub TakesRun : Result Round RoundEnd → Round → ProgramDef → PointRun → ℕ → ℕ → Type 0
-TakesRun (Ok now) before program run i latest = (run.value ≤ latest) × (now.used ≡ before.used + run.solution.used)
-    × (now.values.items ≡ before.values.items ++ run.value ∷ [])
-    × (map step_seen now.steps.items ≡ map step_seen before.steps.items ++ steps_given i run.value run.point)
-    × (now.kept.items ≡ before.kept.items ++ record { program = program; solution = run.solution } ∷ [])
-TakesRun (Err (round_end.Refused refusal)) before program run i latest = (latest < run.value)
-    × (steps_seen refusal ≡ map step_seen before.steps.items ++ steps_given i run.value run.point)
-TakesRun (Err (round_end.Wide task)) before program run i latest = ⊥
-TakesRun (Err round_end.Allowance) before program run i latest = ⊥
-TakesRun (Err round_end.Memory) before program run i latest = Unit {0}
-
--- Has a round at r, which began with `left` units and these steps, passed its first i tasks and found this?
-pub record HasFound (f : SourceDef) (r : List ℕ) (left i : ℕ) (earlier : List StepDef) (round : Round) : Type 0 where
+-- Has a round at r, which began with `left` units and the earlier steps, passed its first i tasks and found this? And are these the
+-- steps then?
+pub record HasFound (f : SourceDef) (r : List ℕ) (left i : ℕ) (earlier steps : List StepDef) (round : Round) : Type 0 where
   pub found : Found
   pub passed : Passes (refuting f) r left i found
   pub used : found.used ≡ round.used
   pub values : found.values ≡ round.values.items
-  pub steps : map step_seen round.steps.items ≡ earlier ++ round_steps r found i
+  pub steps_are : steps ≡ earlier ++ round_steps r found i
 
--- Such a round comes to a task at which the rounds end.
-pub record Halts (f : SourceDef) (r : List ℕ) (left i : ℕ) (e : RunEnd) : Type 0 where
-  pub found : Found
-  pub below : i < tasks_of f
-  pub passed : Passes (refuting f) r left i found
-  pub run : PointRuns f r i (left - found.used) e
+-- Such a round comes to task i, whose value passes its latest bound. The last of these steps is that task's.
+abbrev pub HaltsLate : SourceDef → List ℕ → ℕ → List StepDef → List StepDef → ℕ → ℕ → Type 0
+HaltsLate f r left earlier steps i value =
+    (used : ℕ) × (point : DualDef) × (latest_of f i < value) × (h : Halts (refuting f) r left i (Valued used value point))
+    × (steps ≡ earlier ++ round_steps r h.found i ++ step_of i value point ∷ [])
 
 -- What such a round gives: what it has found of all tasks, or the task at which the rounds end.
-abbrev pub GivesRound : Result Round RoundEnd → SourceDef → List ℕ → ℕ → List StepDef → Type 0
-GivesRound (Ok round) f r left earlier =
-    (HasFound f r left (tasks_of f) earlier round) × (round.used ≤ left) × (tasks_of f ≤ round.used)
+abbrev pub GivesRound : Result Round RoundStop → SourceDef → List ℕ → ℕ → List StepDef → List StepDef → Type 0
+GivesRound (Ok round) f r left earlier steps =
+    (HasFound f r left (tasks_of f) earlier steps round) × (round.used ≤ left) × (tasks_of f ≤ round.used)
     × AreKept f r (tasks_of f) round.kept.items
-GivesRound (Err (round_end.Refused refusal)) f r left earlier =
-    (i : ℕ) × (used : ℕ) × (value : ℕ) × (point : DualDef) × (latest_of f i < value) × (h : Halts f r left i (Valued used value point))
-    × (steps_seen refusal ≡ earlier ++ round_steps r h.found i ++ step_of i value point ∷ [])
-GivesRound (Err (round_end.Wide task)) f r left earlier = Halts f r left task.0 TooWide
-GivesRound (Err round_end.Allowance) f r left earlier = (i : ℕ) × Halts f r left i OutOfUnits
-GivesRound (Err round_end.Memory) f r left earlier = Unit {0}
+GivesRound (Err (round_stop.NotShown task bound)) f r left earlier steps = HaltsLate f r left earlier steps task.0 bound
+GivesRound (Err (round_stop.Wide task)) f r left earlier steps = Halts (refuting f) r left task.0 TooWide
+GivesRound (Err round_stop.Allowance) f r left earlier steps = (i : ℕ) × Halts (refuting f) r left i OutOfUnits
+GivesRound (Err round_stop.Memory) f r left earlier steps = Unit {0}
 
--- The end of a round for this end of a run.
-abbrev pub end_at : SolveStop → ℕ → RoundEnd
-end_at solve_stop.Wide i = round_end.Wide (record { 0 = i })
-end_at solve_stop.Units i = round_end.Allowance
-end_at solve_stop.Memory i = round_end.Memory
-
--- What is answered for this end of a round.
-abbrev pub answer_at : RoundEnd → Result Answer RefuteStop
-answer_at (round_end.Refused refusal) = Ok (answer.Refused refusal)
-answer_at (round_end.Wide task) = Err (stop.Wide task)
-answer_at round_end.Allowance = Err stop.Allowance
-answer_at round_end.Memory = Err stop.Memory
+-- What is answered for this end of a round, with the steps up to there.
+abbrev pub answer_at : RoundStop → Vec RefusalStep Global → Result Answer RefuteStop
+answer_at (round_stop.NotShown task bound) steps = Ok (answer.Refused (record { steps = steps }))
+answer_at (round_stop.Wide task) steps = Err (stop.Wide task)
+answer_at round_stop.Allowance steps = Err stop.Allowance
+answer_at round_stop.Memory steps = Err stop.Memory

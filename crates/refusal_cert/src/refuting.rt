@@ -6,21 +6,22 @@ ghost use Rattle.refusal_cert.specs.Answers.{Refutes, IsAnswerOf, FollowsAnalysi
 ghost use Rattle.refusal_cert.specs.Steps.{refusal_of};
 
 use crate::answer::{Answer, RefuteStop};
-use crate::rounds::{Round, RoundEnd, take_round};
+use crate::rounds::take_round;
 use program_sources::{ProgramSource, recurrence_is_monotone};
-use response_fixpoint::{costs, next_plan};
+use refusal_laws::{Refusal, RefusalStep};
+use response_fixpoint::{Round, RoundStop, costs, next_plan};
 use sporadic_model::TaskSet;
 use std::alloc::Global;
 
-/// What is answered for this end of a round.
-fn ended(end: RoundEnd) -> Result<Answer, RefuteStop>
-    ensures { result ≡ answer_at end }
+/// What is answered for this end of a round, with the steps up to there.
+fn ended(stop: RoundStop, steps: Vec<RefusalStep>) -> Result<Answer, RefuteStop>
+    ensures { result ≡ answer_at stop steps }
 {
-    match end {
-        RoundEnd::Refused(refusal) => Ok(Answer::Refused(refusal)),
-        RoundEnd::Wide(task) => Err(RefuteStop::Wide(task)),
-        RoundEnd::Allowance => Err(RefuteStop::Allowance),
-        RoundEnd::Memory => Err(RefuteStop::Memory),
+    match stop {
+        RoundStop::NotShown { .. } => Ok(Answer::Refused(Refusal { steps })),
+        RoundStop::Wide(task) => Err(RefuteStop::Wide(task)),
+        RoundStop::Allowance => Err(RefuteStop::Allowance),
+        RoundStop::Memory => Err(RefuteStop::Memory),
     }
 }
 
@@ -43,22 +44,16 @@ fn take_rounds<P: ProgramSource>(
     let mut spent = 0;
     loop {
         let left = allowance - spent;
-        let next = match take_round(alloc, set, protocol, &bounds, left, plan, steps) {
+        let next = match take_round(alloc, set, protocol, &bounds, left, plan, &mut steps) {
             Ok(next) => next,
-            Err(end) => return ended(end),
+            Err(stop) => return ended(stop, steps),
         };
-        let Round {
-            used,
-            values,
-            kept,
-            steps: more,
-        } = next;
+        let Round { used, values, kept } = next;
         if values == bounds {
             return Ok(Answer::Schedulable);
         }
         plan = next_plan(alloc, set, protocol, &bounds, &values, kept)?;
         bounds = values;
-        steps = more;
         spent += used;
     }
 }

@@ -11,7 +11,7 @@ use Rattle.sporadic_model.specs.SetDef.{SetDef}
 use Rattle.simplex.specs.declared.SolveStop.{SolveStop}
 use Rattle.simplex.specs.declared.SolveStop.TheVariants as solve_stop
 use Rattle.response_fixpoint.specs.Rounds.{RunEnd, Valued, TooWide, OutOfUnits, Ending, Schedulable, NotShown, Wide}
-use Rattle.response_fixpoint.specs.Rounds.{Allowance, Found, with_task, Passes, Reaches, ComesTo, EndsIn}
+use Rattle.response_fixpoint.specs.Rounds.{Allowance, Found, with_task, RoundsOf, Passes, Reaches, ComesTo, EndsIn}
 use Rattle.response_fixpoint.specs.Runs.{TaskRuns, rounds_of, HasNoColumns, slack_of}
 use Rattle.response_fixpoint.specs.Answers.{Answers, IsAnswerOf, IsRight, IsSchedulable, GivesRun, TakesRun, Halts}
 use Rattle.response_fixpoint.specs.Answers.{GivesRound, IsSettled, found_of, answer_at, stop_at}
@@ -108,7 +108,7 @@ pub value_halts : (f : SourceDef) (r : List ℕ) (left i latest : ℕ) (before n
     → TaskRuns f r i (left - before.used) (Valued run.solution.used run.value (dual_seen run.solution.dual))
     → TakesRun (Err e) before now program run i latest → GivesRound (Err e) f r left
 value_halts f r left i latest before now program run (round_stop.NotShown task bound) here is passed runs (same, value, past) =
-    let halts : Halts f r left i (Valued run.solution.used bound (dual_seen run.solution.dual)) = record {
+    let halts : Halts (rounds_of f) r left i (Valued run.solution.used bound (dual_seen run.solution.dual)) = record {
       found = found_of before;
       below = here;
       passed = passed;
@@ -118,15 +118,16 @@ value_halts f r left i latest before now program run (round_stop.NotShown task b
     } in
     let late : latest_of f i < bound = omega (arith, is, value, past) in
     subst
-    (λ (k : ℕ). (latest_of f k < bound) × (used : ℕ) × (dual : DualDef) × Halts f r left k (Valued used bound dual))
+    (λ (k : ℕ). (latest_of f k < bound) × (used : ℕ) × (dual : DualDef) × Halts (rounds_of f) r left k (Valued used bound dual))
     (sym same) (late, run.solution.used, dual_seen run.solution.dual, halts)
 value_halts f r left i latest before now program run (round_stop.Wide task) here is passed runs given = absurd given
 value_halts f r left i latest before now program run round_stop.Allowance here is passed runs given = absurd given
 value_halts f r left i latest before now program run round_stop.Memory here is passed runs given = tt
 
-comes_there : (f : SourceDef) (allowance k spent : ℕ) (r : List ℕ) (i : ℕ) (e : RunEnd) → Reaches (rounds_of f) allowance k spent r
-    → (h : Halts f r (allowance - spent) i e) → ComesTo (rounds_of f) allowance r i (allowance - spent - h.found.used) h.found
-comes_there f allowance k spent r i e reached h = record { rounds = k; spent = spent; reached = reached; passed = h.passed; units = refl }
+-- The rounds come to the task at which a round halts.
+abbrev pub comes_there : (o : RoundsOf) (allowance k spent : ℕ) (r : List ℕ) (i : ℕ) (e : RunEnd) → Reaches o allowance k spent r
+    → (h : Halts o r (allowance - spent) i e) → ComesTo o allowance r i (allowance - spent - h.found.used) h.found
+comes_there o allowance k spent r i e reached h = record { rounds = k; spent = spent; reached = reached; passed = h.passed; units = refl }
 
 -- A round that ends the rounds gives their end.
 pub ended_answers : (f : SourceDef) (allowance k spent : ℕ) (r : List ℕ) (e : RoundStop) → Reaches (rounds_of f) allowance k spent r
@@ -138,14 +139,14 @@ ended_answers f allowance k spent r (round_stop.NotShown task bound) reached (la
   used,
   dual,
   h.below,
-  comes_there f allowance k spent r task.0 (Valued used bound dual) reached h,
+  comes_there (rounds_of f) allowance k spent r task.0 (Valued used bound dual) reached h,
   h.run,
   late,
 )
 ended_answers f allowance k spent r (round_stop.Wide task) reached h =
-    (r, allowance - spent - h.found.used, h.found, h.below, comes_there f allowance k spent r task.0 TooWide reached h, h.run)
+    (r, allowance - spent - h.found.used, h.found, h.below, comes_there (rounds_of f) allowance k spent r task.0 TooWide reached h, h.run)
 ended_answers f allowance k spent r round_stop.Allowance reached (i, h) =
-    (r, i, allowance - spent - h.found.used, h.found, h.below, comes_there f allowance k spent r i OutOfUnits reached h, h.run)
+    (r, i, allowance - spent - h.found.used, h.found, h.below, comes_there (rounds_of f) allowance k spent r i OutOfUnits reached h, h.run)
 ended_answers f allowance k spent r round_stop.Memory reached given = tt
 
 -- What is answered if a round gives the vector that it began with, from how the rounds end.
@@ -161,14 +162,13 @@ settled_answers f allowance (Err stop.Allowance) bounds duals ends given = absur
 settled_answers f allowance (Err stop.Memory) bounds duals ends given = tt
 
 -- A round that gives the vector that it began with ends them too.
-pub settled_ends : (f : SourceDef) (allowance k spent : ℕ) (r : List ℕ) (found : Found) → Reaches (rounds_of f) allowance k spent r
-    → Passes (rounds_of f) r (allowance - spent) (tasks_of f) found → found.values ≡ r
-    → EndsIn (rounds_of f) allowance (Schedulable found.values found.duals)
-settled_ends f allowance k spent r found reached passed same =
-    let comes : ComesTo (rounds_of f) allowance r (tasks_of f) (allowance - spent - found.used) found =
+pub settled_ends : (o : RoundsOf) (allowance k spent : ℕ) (r : List ℕ) (found : Found) → Reaches o allowance k spent r
+    → Passes o r (allowance - spent) o.tasks found → found.values ≡ r → EndsIn o allowance (Schedulable found.values found.duals)
+settled_ends o allowance k spent r found reached passed same =
+    let comes : ComesTo o allowance r o.tasks (allowance - spent - found.used) found =
     record { rounds = k; spent = spent; reached = reached; passed = passed; units = refl } in
-    let moved : ComesTo (rounds_of f) allowance found.values (tasks_of f) (allowance - spent - found.used) found =
-    subst (λ (v : List ℕ). ComesTo (rounds_of f) allowance v (tasks_of f) (allowance - spent - found.used) found) (sym same) comes in
+    let moved : ComesTo o allowance found.values o.tasks (allowance - spent - found.used) found =
+    subst (λ (v : List ℕ). ComesTo o allowance v o.tasks (allowance - spent - found.used) found) (sym same) comes in
     (allowance - spent - found.used, found, moved, refl, refl)
 
 -- The next vector of a round is in range again.

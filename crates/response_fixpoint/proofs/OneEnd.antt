@@ -84,7 +84,8 @@ pub record Place (o : RoundsOf) (a : ℕ) (e : Ending) : Type 0 where
   pub passed : Passes o vector (a - spent) task found
   pub ends : AtTask o vector task (a - spent - found.used) e ⊎ AtEnd o vector task found e
 
-place_of : (o : RoundsOf) (a : ℕ) (r : List ℕ) (i left : ℕ) (found : Found) (e : Ending) (run : RunEnd) → i < o.tasks
+-- A task at which the rounds end is such a place.
+abbrev pub place_of : (o : RoundsOf) (a : ℕ) (r : List ℕ) (i left : ℕ) (found : Found) (e : Ending) (run : RunEnd) → i < o.tasks
     → ComesTo o a r i left found → o.runs r i left run → Stops i (o.latest i) run e → Place o a e
 place_of o a r i left found e run below comes runs stops =
     let moved : o.runs r i (a - comes.spent - found.used) run = subst (λ (x : ℕ). o.runs r i x run) comes.units runs in
@@ -183,7 +184,16 @@ earlier_task : (o : RoundsOf) → HaveOneEnd o → (a : ℕ) (e f : Ending) (spe
 earlier_task o one a e f spent r i j g h p (inl x) q most below = task_passes o one r (a - spent) i j g h e p q below x
 earlier_task o one a e f spent r i j g h p (inr x) q most below = let b = x.last in absurd (omega arith)
 
-same_round : (o : RoundsOf) → HaveOneEnd o → (a : ℕ) (e f : Ending) (p : Place o a e) (q : Place o a f) → p.rounds ≡ q.rounds → e ≡ f
+-- Two places at which the rounds end are one place.
+pub record SamePlace (o : RoundsOf) (a : ℕ) (e f : Ending) (p : Place o a e) (q : Place o a f) : Type 0 where
+  pub rounds : p.rounds ≡ q.rounds
+  pub spent : p.spent ≡ q.spent
+  pub vector : p.vector ≡ q.vector
+  pub task : p.task ≡ q.task
+  pub found : p.found ≡ q.found
+
+same_round : (o : RoundsOf) → HaveOneEnd o → (a : ℕ) (e f : Ending) (p : Place o a e) (q : Place o a f) → p.rounds ≡ q.rounds
+    → SamePlace o a e f p q
 same_round o one a e f p q same =
     let moved : Reaches o a q.rounds p.spent p.vector = subst (λ (x : ℕ). Reaches o a x p.spent p.vector) same p.reached in
     let both = reaches_once o one a q.rounds p.spent q.spent p.vector q.vector moved q.reached in
@@ -204,10 +214,17 @@ same_round o one a e f p q same =
             let there : Passes o q.vector (a - q.spent) q.task p.found =
             subst (λ (x : ℕ). Passes o q.vector (a - q.spent) x p.found) tasks passed in
             let founds : p.found ≡ q.found = passes_once o one q.vector (a - q.spent) q.task p.found q.found there q.passed in
-            let end_there : AtTask o q.vector q.task (a - q.spent - q.found.used) e ⊎ AtEnd o q.vector q.task q.found e =
-            subst (λ (x : Found). AtTask o q.vector q.task (a - q.spent - x.used) e ⊎ AtEnd o q.vector q.task x e) founds
-            (subst (λ (x : ℕ). AtTask o q.vector x (a - q.spent - p.found.used) e ⊎ AtEnd o q.vector x p.found e) tasks ends) in
-            ends_once o one q.vector q.task (a - q.spent - q.found.used) q.found e f end_there q.ends
+            record { rounds = same; spent = both.0; vector = both.1; task = tasks; found = founds }
+      ]
+    ]
+
+pub one_place : (o : RoundsOf) → HaveOneEnd o → (a : ℕ) (e f : Ending) (p : Place o a e) (q : Place o a f) → SamePlace o a e f p q
+one_place o one a e f p q =
+    elim (cases_lt p.rounds q.rounds) [
+      | inl less ↦ absurd (round_passes o one a e p (passed_round o a q.rounds q.spent q.vector q.reached p.rounds less))
+      | inr more ↦ elim (cases_lt q.rounds p.rounds) [
+        | inl less ↦ absurd (round_passes o one a f q (passed_round o a p.rounds p.spent p.vector p.reached q.rounds less))
+        | inr least ↦ same_round o one a e f p q (omega (arith, more, least))
       ]
     ]
 
@@ -216,10 +233,11 @@ pub one_end : (o : RoundsOf) → HaveOneEnd o → (a : ℕ) (e f : Ending) → E
 one_end o one a e f p q =
     let x = place o a e p in
     let y = place o a f q in
-    elim (cases_lt x.rounds y.rounds) [
-      | inl less ↦ absurd (round_passes o one a e x (passed_round o a y.rounds y.spent y.vector y.reached x.rounds less))
-      | inr more ↦ elim (cases_lt y.rounds x.rounds) [
-        | inl less ↦ absurd (round_passes o one a f y (passed_round o a x.rounds x.spent x.vector x.reached y.rounds less))
-        | inr least ↦ (let same : x.rounds ≡ y.rounds = omega arith in same_round o one a e f x y same)
-      ]
-    ]
+    let s = one_place o one a e f x y in
+    let there : AtTask o y.vector x.task (a - y.spent - x.found.used) e ⊎ AtEnd o y.vector x.task x.found e =
+    subst (λ (n : ℕ). AtTask o y.vector x.task (a - n - x.found.used) e ⊎ AtEnd o y.vector x.task x.found e) s.spent
+    (subst (λ (r : List ℕ). AtTask o r x.task (a - x.spent - x.found.used) e ⊎ AtEnd o r x.task x.found e) s.vector x.ends) in
+    let ends : AtTask o y.vector y.task (a - y.spent - y.found.used) e ⊎ AtEnd o y.vector y.task y.found e =
+    subst (λ (g : Found). AtTask o y.vector y.task (a - y.spent - g.used) e ⊎ AtEnd o y.vector y.task g e) s.found
+    (subst (λ (i : ℕ). AtTask o y.vector i (a - y.spent - x.found.used) e ⊎ AtEnd o y.vector i x.found e) s.task there) in
+    ends_once o one y.vector y.task (a - y.spent - y.found.used) y.found e f ends y.ends

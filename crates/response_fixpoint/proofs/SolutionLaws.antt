@@ -1,6 +1,6 @@
 -- Laws of solutions: what they mean with other units than they were found with, and for programs with the same limits.
-use Rattle.std.proofs.Common.{◌≡◌, ℕ, ◌+◌, ◌-◌, ◌/◌, ◌^◌, ◌<◌, ◌≤◌, List, [], unsigned_abs}
-use Rattle.std.proofs.Common.{sym, ◌∙◌, ap, subst, arith, inl, inr, Some, Ok, Err}
+use Rattle.std.proofs.Common.{◌≡◌, ℕ, ◌+◌, ◌-◌, ◌/◌, ◌^◌, ◌<◌, ◌≤◌, List, [], ◌∷◌, ◌++◌, length, unsigned_abs}
+use Rattle.std.proofs.Common.{length-append, sym, ◌∙◌, ap, subst, arith, inl, inr, Some, Ok, Err}
 use Rattle.std.specs.Prelude.{Option, None, Result, IfOk, IfSome}
 use Rattle.std.specs.Option.{option_or}
 use Rattle.fraction128.specs.Fraction.{Fraction}
@@ -22,11 +22,12 @@ use Rattle.program_sources.specs.Recurrence.{SourceDef, response_with}
 use Rattle.program_sources.specs.Fitting.{tasks_of}
 use Rattle.response_fixpoint.specs.Rounds.{Valued, OutOfUnits}
 use Rattle.response_fixpoint.specs.Runs.{TaskRuns}
-use Rattle.response_fixpoint.specs.Solutions.{IsSolution, GivesSolution, IsAhead, IsOutcome, IsPlanned, IsKept}
+use Rattle.response_fixpoint.specs.Solutions.{IsSolution, GivesSolution, IsAhead, IsOutcome, IsPlanned, IsKept, AreKept}
 use Rattle.response_fixpoint.specs.Answers.{GivesRun}
 use Rattle.response_fixpoint.specs.declared.task_run.Solution.{Solution}
 use Rattle.response_fixpoint.specs.declared.plan.Kept.{Kept}
 use Rattle.response_fixpoint.specs.declared.plan.Planned.{Planned}
+use Rattle.response_fixpoint.proofs.PlaceLaws.{each_more}
 
 -- A run that ends within some units ends within any number of units that is above its exchanges.
 ends_within : (p : ProgramDef) (units others k : ℕ) (value : Fraction) (primal : List Fraction) (d : DualDef)
@@ -205,3 +206,13 @@ pub stopped_run : (f : SourceDef) (r : List ℕ) (i left : ℕ) (e : SolveStop) 
 stopped_run f r i left solve_stop.Wide (is, wide) = record { is_program = is; ends = wide }
 stopped_run f r i left solve_stop.Units (is, more) = record { is_program = is; ends = more }
 stopped_run f r i left solve_stop.Memory given = tt
+
+-- One more program may be kept behind the others.
+pub kept_more : (f : SourceDef) (r : List ℕ) (n : ℕ) (before now : List Kept) (k : Kept) → AreKept f r n before → IsKept f r n k
+    → now ≡ before ++ k ∷ [] → AreKept f r (n + 1) now
+kept_more f r n before now k old new same =
+    let place : n ≡ 0 + length before = omega (arith, old.one_each) in
+    rw same (record {
+      one_each = length-append before (k ∷ []) ∙ omega (arith, old.one_each);
+      each = each_more (IsKept f r) 0 before k old.each (subst (λ (j : ℕ). IsKept f r j k) place new);
+    })

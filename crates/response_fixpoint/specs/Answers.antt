@@ -7,7 +7,7 @@ use Rattle.program_sources.specs.Recurrence.{SourceDef}
 use Rattle.program_sources.specs.Fitting.{AreFitting, AreLeastFitting, tasks_of, latest_of}
 use Rattle.program_sources.specs.Valid.{AreOptimalDuals, IsValid, dual_at}
 use Rattle.response_fixpoint.specs.Rounds.{RunEnd, Valued, TooWide, OutOfUnits, Ending, Schedulable, NotShown, Wide}
-use Rattle.response_fixpoint.specs.Rounds.{Allowance, Found, with_task, Passes, EndsIn}
+use Rattle.response_fixpoint.specs.Rounds.{Allowance, Found, with_task, RoundsOf, Passes, EndsIn}
 use Rattle.response_fixpoint.specs.Runs.{TaskRuns, rounds_of}
 use Rattle.response_fixpoint.specs.Solutions.{IsSolution, AreKept}
 use Rattle.simplex.specs.declared.SolveStop.{SolveStop}
@@ -84,11 +84,11 @@ TakesRun (Err round_stop.Allowance) before now program run i latest = ⊥
 TakesRun (Err round_stop.Memory) before now program run i latest = Unit {0}
 
 -- A round at r that begins with `left` units comes to a task at which the rounds end.
-pub record Halts (f : SourceDef) (r : List ℕ) (left i : ℕ) (e : RunEnd) : Type 0 where
+pub record Halts (o : RoundsOf) (r : List ℕ) (left i : ℕ) (e : RunEnd) : Type 0 where
   pub found : Found
-  pub below : i < tasks_of f
-  pub passed : Passes (rounds_of f) r left i found
-  pub run : TaskRuns f r i (left - found.used) e
+  pub below : i < o.tasks
+  pub passed : Passes o r left i found
+  pub run : o.runs r i (left - found.used) e
 
 -- What such a round gives: what it has found of all tasks, or the task at which the rounds end.
 abbrev pub GivesRound : Result Round RoundStop → SourceDef → List ℕ → ℕ → Type 0
@@ -96,9 +96,9 @@ GivesRound (Ok round) f r left =
     (Passes (rounds_of f) r left (tasks_of f) (found_of round)) × (round.used ≤ left) × (tasks_of f ≤ round.used)
     × AreKept f r (tasks_of f) round.kept.items
 GivesRound (Err (round_stop.NotShown task bound)) f r left =
-    (latest_of f task.0 < bound) × (used : ℕ) × (dual : DualDef) × Halts f r left task.0 (Valued used bound dual)
-GivesRound (Err (round_stop.Wide task)) f r left = Halts f r left task.0 TooWide
-GivesRound (Err round_stop.Allowance) f r left = (i : ℕ) × Halts f r left i OutOfUnits
+    (latest_of f task.0 < bound) × (used : ℕ) × (dual : DualDef) × Halts (rounds_of f) r left task.0 (Valued used bound dual)
+GivesRound (Err (round_stop.Wide task)) f r left = Halts (rounds_of f) r left task.0 TooWide
+GivesRound (Err round_stop.Allowance) f r left = (i : ℕ) × Halts (rounds_of f) r left i OutOfUnits
 GivesRound (Err round_stop.Memory) f r left = Unit {0}
 
 -- Are these bounds, with these duals, the certificate that is answered? The only other answer is that memory ran out.

@@ -23,5 +23,6 @@ pub use laws::{
     no_requests_no_columns, the_rounds_have_one_ending, three_tasks_take_four_rounds,
 };
 pub use plan::{Kept, Planned, next_plan};
+pub use rounds::{Round, RoundStop, stopped, take_run};
 pub use task_run::{Solution, TaskRun, run_task};
 pub use verdict::{Stop, Verdict};

@@ -54,7 +54,7 @@ impl<T: Drop> From<AllocFailed<T>> for RoundStop {
 }
 
 /// The end of a round for this end of a task's run.
-fn stopped(stop: SolveStop, task: TaskId) -> RoundStop
+pub fn stopped(stop: SolveStop, task: TaskId) -> RoundStop
     ensures { result ≡ stop_at stop task.0 }
 {
     match stop {
@@ -65,7 +65,7 @@ fn stopped(stop: SolveStop, task: TaskId) -> RoundStop
 }
 
 /// Takes the run of a task's program into the round, if its value is at most the latest bound.
-fn take_run(
+pub fn take_run(
     round: &mut Round,
     program: SparseProgram,
     run: TaskRun,

@@ -2,6 +2,7 @@ use Rattle.std.proofs.Common.{◌≡◌, ℕ, ◌+◌, ◌-◌, List, sym, refl,
 use Rattle.program_sources.specs.Bounds.{IsInRange}
 use Rattle.program_sources.specs.Recurrence.{SourceDef, source_at}
 use Rattle.program_sources.specs.Fitting.{tasks_of}
+use Rattle.response_fixpoint.specs.Runs.{rounds_of}
 use Rattle.response_fixpoint.specs.Solutions.{IsPlan, AreKept}
 use Rattle.response_fixpoint.specs.Answers.{GivesRound, found_of}
 use Rattle.response_fixpoint.proofs.AnswerLaws.{settled_ends, settled_answers, next_in_range, reaches_more}
@@ -49,7 +50,7 @@ returns-then-eq g c =
     let next = c.in-Ok.next in
     let given : GivesRound (Ok next) f c.loop-next.bounds.items (c.args.allowance - c.loop-next.spent) =
     rw (c.in-Ok.is, c.deref-in-loop-next.ensures.value) at c.take_round.ensures in
-    let ends = settled_ends f c.args.allowance way.0 c.loop-next.spent c.loop-next.bounds.items (found_of next) way.1
+    let ends = settled_ends (rounds_of f) c.args.allowance way.0 c.loop-next.spent c.loop-next.bounds.items (found_of next) way.1
     given.0 (same_vectors next.values.items c.loop-next.bounds.items c.if-eq.ensures) in
     settled_answers f c.args.allowance c.settled.result (found_of next).values (found_of next).duals ends c.settled.ensures
 

@@ -5,12 +5,12 @@ use Rattle.program_sources.specs.Recurrence.{SourceDef, source_at}
 use Rattle.program_sources.specs.Fitting.{latest_of}
 use Rattle.response_fixpoint.specs.Rounds.{Valued, Found, Passes}
 use Rattle.response_fixpoint.specs.Runs.{TaskRuns, rounds_of}
-use Rattle.response_fixpoint.specs.Solutions.{IsOutcome, IsPlanned, IsKept}
+use Rattle.response_fixpoint.specs.Solutions.{IsSolution, IsOutcome, IsPlanned, IsKept}
 use Rattle.response_fixpoint.specs.Answers.{found_of}
 use Rattle.response_fixpoint.specs.declared.plan.Kept.{Kept}
 use Rattle.response_fixpoint.specs.declared.plan.Planned.{Planned}
-use Rattle.response_fixpoint.proofs.PlaceLaws.{each_none, each_first, each_rest, each_more, found_first, found_rest}
-use Rattle.response_fixpoint.proofs.SolutionLaws.{either_ahead}
+use Rattle.response_fixpoint.proofs.PlaceLaws.{each_none, each_first, each_rest, found_first, found_rest}
+use Rattle.response_fixpoint.proofs.SolutionLaws.{either_ahead, kept_more}
 use Rattle.response_fixpoint.proofs.AnswerLaws.{passes_more, run_units}
 use Rattle.response_fixpoint.proofs.rounds.take_round.Goals as goal
 
@@ -71,11 +71,10 @@ loop-planned-preserved g c =
     subst (λ (k : ℕ). TaskRuns f c.args.bounds.now k (c.args.left - c.loop-planned.round.used)
     (Valued solution.used run.value (dual_seen solution.dual))) back c.in-Ok.ensures.0 in
     let new : Kept = record { program = c.in-Some.planned.program; solution = solution } in
-    let kept : IsKept f c.args.bounds.now c.len.result new = record {
-      program = (subst (λ (k : ℕ). IsPlanned f c.args.bounds.now c.args.left k c.in-Some.planned) (sym back) first).program;
-      solution = c.in-Ok.ensures.1;
+    let kept : IsKept f c.args.bounds.now n new = record {
+      program = first.program;
+      solution = subst (λ (k : ℕ). IsSolution (f.program k c.args.bounds.now) solution) back c.in-Ok.ensures.1;
     } in
-    let place : c.len.result ≡ 0 + n = omega (arith, back) in
     let taken = c.in-Ok-take_run.ensures in
     let within : run.value ≤ latest_of f n =
     subst (λ (k : ℕ). run.value ≤ latest_of f k) back (omega (arith, taken.0, c.latest_bound.ensures.value)) in
@@ -93,11 +92,8 @@ loop-planned-preserved g c =
           (subst (λ (x : Found). Passes (rounds_of f) c.args.bounds.now c.args.left (n + 1) x) (sym taken.1) passed);
       within = omega (arith, sum, units.1, c.loop-planned.invariant.within);
       least = omega (arith, grown, sum, units.0, c.loop-planned.invariant.least);
-      kept = record {
-        one_each = refl;
-        each = rw taken.2 (each_more (IsKept f c.args.bounds.now) 0 c.loop-planned.round.kept.items new c.loop-planned.invariant.kept.each
-            (subst (λ (k : ℕ). IsKept f c.args.bounds.now k new) place kept));
-      };
+      kept = rw grown (kept_more f c.args.bounds.now n c.loop-planned.round.kept.items c.take_run.new.round.kept.items new
+          c.loop-planned.invariant.kept kept taken.2);
       planned = rw grown (each_rest (IsPlanned f c.args.bounds.now c.args.left) n c.loop-planned.planned-iterator.rest.items rest
           c.in-Some.planned split c.loop-planned.invariant.planned);
       ahead = rw grown (found_rest (IsOutcome f c.args.bounds.now c.args.left) n c.loop-planned.outcomes.rest.len
