@@ -1,4 +1,4 @@
-ghost use Rattle.std.specs.Prelude.{◌≡◌, ◌<◌, pos, ◌≤ℤ◌, length, map, All, IfSome};
+ghost use Rattle.std.specs.Prelude.{◌≡◌, ◌<◌, nat_lt, pos, ◌≤ℤ◌, length, map, All, IfSome};
 ghost use Rattle.program_sources.specs.Bounds.{IsInRange};
 ghost use Rattle.program_sources.specs.Recurrence.{source_at};
 ghost use Rattle.response_fixpoint.specs.Solutions.{IsAhead};
@@ -26,6 +26,13 @@ fn written(alloc: Global, best: &[Frac]) -> Result<Dual, SolveStop>
     }
 }
 
+/// Does a task give a step? It does if its value is above the bound that it had.
+fn gives_step(bound: u64, value: u64) -> bool
+    ensures { result ≡ nat_lt bound value }
+{
+    value > bound
+}
+
 /// Writes the step of a task behind these steps, if the task's value is above the bound that it had.
 fn write_step(
     alloc: Global,
@@ -38,7 +45,7 @@ fn write_step(
     requires { All (λ f. pos 0 ≤ℤ f.num) best.now }
     ensures { WritesStep result (map step_seen steps.old.items) (map step_seen steps.new.items) bound task.0 value best.now }
 {
-    if value <= bound {
+    if !gives_step(bound, value) {
         return Ok(());
     }
     let point = match written(alloc, best) {

@@ -1,4 +1,5 @@
-use Rattle.std.proofs.Common.{◌<◌, ◌+◌, [], ◌∷◌, map, arith}
+use Rattle.std.proofs.Common.{◌<◌, ◌+◌, [], ◌∷◌, map, sym, ◌∙◌}
+use Rattle.std.proofs.lemmas.Bool.{ltb-true, ltb-false}
 use Rattle.std.proofs.lemmas.List.{map-append}
 use Rattle.program_form.specs.Certificate.{dual_seen}
 use Rattle.refusal_laws.specs.Seen.{step_seen}
@@ -7,13 +8,15 @@ use Rattle.refusal_cert.proofs.RunLaws.{none_written, step_written}
 use Rattle.refusal_cert.proofs.task_run.write_step.Goals as goal
 use Rattle.refusal_cert.proofs.task_run.write_step.Goals.{in-Ok-push, in-Err-push}
 
-pub returns-then-value-bound : goal.returns-then-value-bound
-returns-then-value-bound c = none_written c.args.bound c.args.task.0 c.args.value c.args.best.now
-    (map step_seen c.args.steps.now.items) c.if-value-bound.true
+pub returns-then-not-gives_step : goal.returns-then-not-gives_step
+returns-then-not-gives_step c = none_written c.args.bound c.args.task.0 c.args.value c.args.best.now
+    (map step_seen c.args.steps.now.items)
+    (ltb-false c.args.bound c.args.value (sym c.gives_step.ensures ∙ c.if-not-gives_step.true))
 
 pub returns : goal.returns
 returns c =
-    let past : c.args.bound < c.args.value = omega (arith, c.if-value-bound.false) in
+    let past : c.args.bound < c.args.value =
+    ltb-true c.args.bound c.args.value (sym c.gives_step.ensures ∙ c.if-not-gives_step.false) in
     let step : RefusalStep = record { task = c.args.task.0 + 1; value = c.args.value; point = c.in-Ok.point } in
     elim c.match-push.branch [
       | in-Ok-push w ↦ rw w.result-is (step_written c.args.bound c.args.task.0 c.args.value c.args.best.now (dual_seen c.in-Ok.point)
