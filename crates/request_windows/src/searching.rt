@@ -7,7 +7,8 @@ ghost use Rattle.sporadic_model.specs.Users.{is_user};
 ghost use Rattle.program_sources.specs.Bounds.{AreWithinDeadlines};
 ghost use Rattle.window_laws.specs.Windows.{window_of};
 
-use crate::ticks::ticks_there;
+use crate::ticks::{own_and_lower, ticks_there, times_of_higher};
+use fragments::home;
 use sporadic_model::{ResourceId, TaskId, TaskSet};
 
 // The least number of ticks that is enough, from below. If a number isn't, no number is that is less than what can run in that many ticks.
@@ -19,9 +20,11 @@ fn search(set: &TaskSet, i: TaskId, q: ResourceId, bounds: &[u64]) -> Option<u64
     ensures within { IfSome result (λ w. (1 ≤ w) × (w ≤ (task_at set.now i.0).deadline)) }
 {
     let deadline = set.deadline(i);
+    let own = own_and_lower(set, i, q);
+    let times = times_of_higher(set, i, home(set, q));
     let mut span = 1u64;
     while span <= deadline {
-        let there = ticks_there(set, i, q, bounds, span);
+        let there = ticks_there(set, i, q, bounds, own, &times, span);
         if there <= u128::from(span) {
             return Some(span);
         }

@@ -2,13 +2,26 @@
 
 ghost use Rattle.std.specs.Prelude.{◌≡◌, ◌<◌, ◌≤◌, ◌*◌, ◌+◌, length, slice_index};
 ghost use Rattle.number_laws.specs.Sums.{only_if, sum_below};
-ghost use Rattle.sporadic_model.specs.Users.{length_of};
+ghost use Rattle.sporadic_model.specs.Users.{count_of, length_of};
+ghost use Rattle.sporadic_model.specs.Homes.{home_in};
 ghost use Rattle.schedule_model.specs.Measures.{greatest_below};
 ghost use Rattle.program_sources.specs.Bounds.{AreWithinDeadlines};
+ghost use Rattle.blocking_columns.specs.Windows.{jobs_during};
 ghost use Rattle.window_laws.specs.Windows.{time_at, may_hold_up, longest_lower, ticks_by, ticks_there};
+ghost use Rattle.request_windows.specs.Times.{AreTimes};
 
 use fragments::{ceiling_place, home, uses};
 use sporadic_model::{ResourceId, TaskId, TaskSet, jobs_in};
+
+// How many ticks may all requests of the resource by one job of the task run?
+fn time_of(set: &TaskSet, x: TaskId, q: ResourceId) -> u64
+    requires task { x.0 < length set.now.tasks }
+    requires resource { q.0 < length set.now.resources }
+    ensures value { result ≡ count_of set.now x.0 q.0 * length_of set.now x.0 q.0 }
+    ensures most { result ≤ 1000000000000 }
+{
+    set.count(x, q) * set.length(x, q)
+}
 
 // How many ticks may all requests of one job of task `x` run on processor `k`?
 fn time_at(set: &TaskSet, x: TaskId, k: u32) -> u64
@@ -16,14 +29,30 @@ fn time_at(set: &TaskSet, x: TaskId, k: u32) -> u64
     ensures value { result ≡ time_at set.now x.0 k }
     ensures most { result ≤ 32000000000000 }
 {
+    // a task uses no more resources than the set has, and that has few
+    let _resources = set.resources();
+    let used = set.used_by(x);
     let mut total = 0;
-    for q in 0..set.resources() {
-        let resource = ResourceId(q);
-        if home(set, resource) == k {
-            total += set.count(x, resource) * set.length(x, resource);
+    for q in used {
+        if home(set, *q) == k {
+            total += time_of(set, x, *q);
         }
     }
     total
+}
+
+/// The same for each task higher than `i`. These don't depend on the span.
+pub(crate) fn times_of_higher(set: &TaskSet, i: TaskId, k: u32) -> [u64; 64]
+    requires { i.0 < length set.now.tasks }
+    ensures { AreTimes set.now i.0 k result }
+{
+    // a set has at most 64 tasks
+    let _tasks = set.tasks();
+    let mut times = [0u64; 64];
+    for x in 0..i.0 {
+        times[x as usize] = time_at(set, TaskId(x), k);
+    }
+    times
 }
 
 // May a request of `q` by `x`, which is lower than `i`, hold up a request of `i` on processor `k`?
@@ -42,10 +71,11 @@ fn longest_by(set: &TaskSet, i: TaskId, k: u32, x: TaskId) -> u64
         (λ q. only_if (may_hold_up set.now i.0 k x.0 q) (length_of set.now x.0 q)) }
     ensures most { result ≤ 1000000000 }
 {
+    let used = set.used_by(x);
     let mut longest = 0;
-    for q in 0..set.resources() {
-        if holds_up(set, i, k, x, ResourceId(q)) {
-            longest = set.length(x, ResourceId(q)).max(longest);
+    for q in used {
+        if holds_up(set, i, k, x, *q) {
+            longest = set.length(x, *q).max(longest);
         }
     }
     longest
@@ -63,32 +93,55 @@ fn longest_lower(set: &TaskSet, i: TaskId, k: u32) -> u64
     longest
 }
 
-// How many ticks may requests of jobs of `x` run on processor `k` in a span of ticks?
-fn ticks_by(set: &TaskSet, bounds: &[u64], k: u32, span: u64, x: TaskId) -> u128
+/// How many ticks may a request of `q` by `i` last, and the longest lower request that may hold it up? This doesn't depend on the span.
+pub(crate) fn own_and_lower(set: &TaskSet, i: TaskId, q: ResourceId) -> u64
+    requires task { i.0 < length set.now.tasks }
+    requires resource { q.0 < length set.now.resources }
+    ensures value { result ≡ length_of set.now i.0 q.0 + longest_lower set.now i.0 (home_in set.now q.0) }
+    ensures most { result ≤ 2000000000 }
+{
+    set.length(i, q) + longest_lower(set, i, home(set, q))
+}
+
+// How many ticks may requests of jobs of `x` run in a span of ticks, if those of one job run for `time`?
+fn ticks_by(set: &TaskSet, bounds: &[u64], span: u64, x: TaskId, time: u64) -> u128
     requires task { x.0 < length set.now.tasks }
     requires within { AreWithinDeadlines set.now bounds.now }
     requires span { span ≤ 1000000000 }
-    ensures value { result ≡ ticks_by set.now (slice_index bounds.now) k span x.0 }
+    requires time { time ≤ 32000000000000 }
+    ensures value { result ≡ jobs_during set.now (slice_index bounds.now) span x.0 * time }
     ensures most { result ≤ 64000000000000000000000 }
 {
+    // most tasks run nothing there
+    if time == 0 {
+        return 0;
+    }
     // no bound and jitter together are above the deadline of their task, which is within the limits of every set
     let _tasks = set.tasks();
     let bound = bounds[x.0 as usize] + set.jitter(x);
     let jobs = jobs_in(span, bound, set.period(x));
-    u128::from(jobs) * u128::from(time_at(set, x, k))
+    u128::from(jobs) * u128::from(time)
 }
 
-// The same for all tasks higher than `i`.
-fn ticks_by_higher(set: &TaskSet, i: TaskId, bounds: &[u64], k: u32, span: u64) -> u128
+// The same for all tasks higher than `i`, on processor `k`.
+fn ticks_by_higher(
+    set: &TaskSet,
+    i: TaskId,
+    bounds: &[u64],
+    k: u32,
+    times: &[u64],
+    span: u64,
+) -> u128
     requires task { i.0 < length set.now.tasks }
     requires within { AreWithinDeadlines set.now bounds.now }
+    requires times { AreTimes set.now i.0 k times.now }
     requires span { span ≤ 1000000000 }
     ensures value { result ≡ sum_below i.0 (ticks_by set.now (slice_index bounds.now) k span) }
     ensures most { result ≤ i.0 * 64000000000000000000000 }
 {
     let mut total = 0u128;
     for x in 0..i.0 {
-        total += ticks_by(set, bounds, k, span, TaskId(x));
+        total += ticks_by(set, bounds, span, TaskId(x), times[x as usize]);
     }
     total
 }
@@ -99,17 +152,19 @@ pub(crate) fn ticks_there(
     i: TaskId,
     q: ResourceId,
     bounds: &[u64],
+    own: u64,
+    times: &[u64],
     span: u64,
 ) -> u128
     requires task { i.0 < length set.now.tasks }
     requires resource { q.0 < length set.now.resources }
     requires within { AreWithinDeadlines set.now bounds.now }
+    requires own { own ≡ length_of set.now i.0 q.0 + longest_lower set.now i.0 (home_in set.now q.0) }
+    requires times { AreTimes set.now i.0 (home_in set.now q.0) times.now }
     requires span { span ≤ 1000000000 }
     ensures { result ≡ ticks_there set.now (slice_index bounds.now) i.0 q.0 span }
 {
     // a set has at most 64 tasks, so the sum fits
     let _tasks = set.tasks();
-    let k = home(set, q);
-    let own = set.length(i, q) + longest_lower(set, i, k);
-    u128::from(own) + ticks_by_higher(set, i, bounds, k, span)
+    u128::from(own) + ticks_by_higher(set, i, bounds, home(set, q), times, span)
 }
