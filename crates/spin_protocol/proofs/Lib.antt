@@ -3,4 +3,5 @@ mod SpinChosen
 mod SpinNow
 pub mod SpinNextRow
 mod UsersBeside
+pub mod NoneFrom
 pub mod FewRows

@@ -4,3 +4,4 @@ pub mod SpinClaims
 pub mod SpinChargeNow
 pub mod NextRow
 pub mod Used
+pub mod Origins

@@ -9,10 +9,12 @@ mod choosing;
 mod instances;
 mod judging;
 mod laws;
+mod origins;
 mod programs;
 mod rows;
 
 pub use laws::{each_lawful_schedule_has_a_next_row, programs_are_small};
+pub use origins::{is_origin, origins_of};
 pub use programs::{add_lower_requests, add_own_spinning, spin_fragments};
 pub use rows::{higher_requests, is_from, is_used_below, spinning_requests};
 

@@ -14,6 +14,7 @@ ghost use Rattle.spin_protocol.specs.SpinRows.{row_of_kind};
 ghost use Rattle.spin_protocol.specs.Used.{AreUsedBeside};
 
 use crate::Spin;
+use crate::origins::origins_of;
 use crate::rows::{LowerRequestRow, Spinning, SpinningRows};
 use direct_constraints::add_common;
 use fragments::{
@@ -116,7 +117,11 @@ fn add_spinning_rows<T: RowTaker>(
         taker.new) }
 {
     let processors = set.processors();
-    let rows = SpinningRows(spinning);
+    let origins = origins_of(alloc, set, columns)?;
+    let rows = SpinningRows {
+        spinning,
+        origins: &origins,
+    };
     add_per_number(alloc, taker, &rows, set, processors, i, bounds, columns)
 }
 

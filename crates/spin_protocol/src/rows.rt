@@ -1,18 +1,19 @@
 //! The code of the rows that only spin locks have.
 
-ghost use Rattle.std.specs.Prelude.{◌≡◌, ℕ, ◌<◌, ◌≤◌, ◌*◌, ◌&&◌, ◌+◌, [], ◌∷◌, length, slice_index};
+ghost use Rattle.std.specs.Prelude.{◌≡◌, ℕ, ◌<◌, ◌≤◌, ◌*◌, ◌+◌, [], ◌∷◌, length, slice_index};
 ghost use Rattle.number_laws.specs.Sums.{flag};
-ghost use Rattle.sporadic_model.specs.Users.{count_of, is_user};
+ghost use Rattle.sporadic_model.specs.Users.{count_of};
 ghost use Rattle.program_sources.specs.Bounds.{AreWithinDeadlines};
 ghost use Rattle.blocking_columns.specs.ColumnDef.{column_seen};
-ghost use Rattle.blocking_columns.specs.Columns.{is_lower_local};
 ghost use Rattle.fragments.specs.Constraints.{per};
 ghost use Rattle.spin_charging.specs.SpinPrograms.{lower_request_row, is_from, is_used_below, higher_requests};
 ghost use Rattle.spin_protocol.specs.SpinRows.{row_of_kind};
+ghost use Rattle.spin_protocol.specs.Origins.{AreOrigins};
 
+use crate::origins::is_origin;
 use fragments::{
     Constraint, Fragment, PerNumber, RowKind, RowTaker, add_per_number, add_row, cnt, lower_local,
-    share_processor, uses,
+    share_processor,
 };
 use sporadic_model::{ResourceId, TaskId, TaskSet};
 use std::alloc::{AllocError, Global};
@@ -51,24 +52,15 @@ pub fn is_from(set: &TaskSet, processor: u32, resource: ResourceId, column: Frag
     column.resource == resource && set.processor(column.task) == processor
 }
 
-/// Is `x` a lower task of `i`'s processor that uses the resource?
-fn is_lower_user(set: &TaskSet, i: TaskId, q: ResourceId, x: TaskId) -> bool
-    requires task { i.0 < length set.now.tasks }
-    requires resource { q.0 < length set.now.resources }
-    requires other { x.0 < length set.now.tasks }
-    ensures { result ≡ (is_lower_local set.now i.0 x.0 && is_user set.now q.0 x.0) }
-{
-    lower_local(set, i, x) && uses(set, x, q)
-}
-
 /// Does a lower task of `i`'s processor use the resource?
 pub fn is_used_below(set: &TaskSet, i: TaskId, q: ResourceId) -> bool
     requires task { i.0 < length set.now.tasks }
     requires resource { q.0 < length set.now.resources }
     ensures { result ≡ is_used_below set.now i.0 q.0 }
 {
-    for x in 0..set.tasks() {
-        if is_lower_user(set, i, q, TaskId(x)) {
+    let users = set.users(q);
+    for x in users {
+        if lower_local(set, i, *x) {
             return true;
         }
     }
@@ -158,17 +150,18 @@ impl Constraint for SpinningRow {
     }
 }
 
-/// The rows of a processor, counted from 1, one for each resource.
+/// The rows of a processor, counted from 1, one for each resource. They have the table of where the columns come from.
 #[derive(Drop)]
-struct SpinningFrom {
+struct SpinningFrom<'a> {
     spinning: Spinning,
     processor: u32,
+    origins: &'a [bool],
 }
 
-impl PerNumber for SpinningFrom {
+impl<'a> PerNumber for SpinningFrom<'a> {
     ghost rows_of = { λ k set i q. row_of_kind k.spinning set i k.processor q ∷ [] };
 
-    ghost fits = { λ k set i columns q. q < length set.resources };
+    ghost fits = { λ k set i columns q. (q < length set.resources) × AreOrigins set columns k.origins.now };
 
     fn add<T: RowTaker>(
         &self,
@@ -180,10 +173,15 @@ impl PerNumber for SpinningFrom {
         bounds: &[u64],
         columns: &[Fragment],
     ) -> Result<(), AllocError> {
+        // the tasks of most processors use few of the resources
+        let resource = ResourceId(number);
+        if !is_origin(self.origins, self.processor, resource) {
+            return Ok(());
+        }
         let row = SpinningRow {
             spinning: self.spinning,
             processor: self.processor,
-            resource: ResourceId(number),
+            resource,
         };
         add_row(alloc, taker, &row, set, i, bounds, columns)
     }
@@ -191,12 +189,15 @@ impl PerNumber for SpinningFrom {
 
 /// The rows of each processor.
 #[derive(Drop)]
-pub(crate) struct SpinningRows(pub(crate) Spinning);
+pub(crate) struct SpinningRows<'a> {
+    pub(crate) spinning: Spinning,
+    pub(crate) origins: &'a [bool],
+}
 
-impl PerNumber for SpinningRows {
-    ghost rows_of = { λ k set i n. per (length set.resources) (row_of_kind k.0 set i (n + 1)) };
+impl<'a> PerNumber for SpinningRows<'a> {
+    ghost rows_of = { λ k set i n. per (length set.resources) (row_of_kind k.spinning set i (n + 1)) };
 
-    ghost fits = { λ k set i columns n. n < set.processors };
+    ghost fits = { λ k set i columns n. (n < set.processors) × AreOrigins set columns k.origins.now };
 
     fn add<T: RowTaker>(
         &self,
@@ -211,8 +212,9 @@ impl PerNumber for SpinningRows {
         // a set has few processors
         let _processors = set.processors();
         let rows = SpinningFrom {
-            spinning: self.0,
+            spinning: self.spinning,
             processor: number + 1,
+            origins: self.origins,
         };
         let resources = set.resources();
         add_per_number(alloc, taker, &rows, set, resources, i, bounds, columns)
