@@ -5,16 +5,18 @@ ghost use Rattle.schedule_model.specs.Protocols.{EachSetSuits};
 ghost use Rattle.program_sources.specs.Bounds.{AreWithinDeadlines};
 ghost use Rattle.blocking_columns.specs.ColumnDef.{column_seen, AreKnown};
 ghost use Rattle.blocking_columns.specs.Stretches.{AreInOrder};
-ghost use Rattle.spin_charging.specs.SpinPrograms.{spin_columns};
+ghost use Rattle.spin_charging.specs.SpinPrograms.{is_used_below, spin_columns};
 ghost use Rattle.closer_spin_laws.specs.CloserSpinRows.{closer_spinning_rows, own_spinning_rows, together_rows, spin_closer_rows};
 ghost use Rattle.closer_spin_laws.proofs.Programs.{spin_closer_is_program};
+ghost use Rattle.closer_spin.specs.Tables.{Tells};
 
 use crate::protocol::CloserSpin;
 use crate::rows::{CloserSpinningRows, LowerSpinningRows, OtherLowerSpinningRows};
+use crate::tables::used_below;
 use direct_constraints::add_common;
 use fragments::{Fragment, RowTaker, add_per_number};
 use protocol_programs::ProgramParts;
-use spin_protocol::{add_lower_requests, add_own_spinning, spin_fragments};
+use spin_protocol::{add_lower_requests, add_own_spinning, origins_of, spin_fragments};
 use sporadic_model::{TaskId, TaskSet};
 use std::alloc::{AllocError, Global};
 
@@ -26,17 +28,19 @@ fn add_together_rows<T: RowTaker>(
     i: TaskId,
     bounds: &[u64],
     columns: &[Fragment],
+    below: &[bool],
 ) -> Result<(), AllocError>
     requires task { i.0 < length set.now.tasks }
     requires within { AreWithinDeadlines set.now bounds.now }
     requires known { AreKnown (length set.now.tasks) (length set.now.resources) columns.now }
+    requires below { Tells (length set.now.resources) (is_used_below set.now i.0) below.now }
     ensures { OnOk result (T.takes taker.old (map column_seen columns.now) (together_rows set.now i.0) bounds.now taker.new) }
 {
     let processors = set.processors();
     add_per_number(
         alloc,
         taker,
-        &LowerSpinningRows,
+        &LowerSpinningRows { below },
         set,
         processors,
         i,
@@ -46,7 +50,7 @@ fn add_together_rows<T: RowTaker>(
     add_per_number(
         alloc,
         taker,
-        &OtherLowerSpinningRows,
+        &OtherLowerSpinningRows { below },
         set,
         processors,
         i,
@@ -72,10 +76,15 @@ fn add_all_spinning<T: RowTaker>(
         (closer_spinning_rows set.now i.0 ++ (own_spinning_rows set.now i.0 ++ together_rows set.now i.0)) bounds.now taker.new) }
 {
     let processors = set.processors();
+    let below = used_below(alloc, set, i)?;
+    let origins = origins_of(alloc, set, columns)?;
     add_per_number(
         alloc,
         taker,
-        &CloserSpinningRows,
+        &CloserSpinningRows {
+            below: &below,
+            origins: &origins,
+        },
         set,
         processors,
         i,
@@ -83,7 +92,7 @@ fn add_all_spinning<T: RowTaker>(
         columns,
     )?;
     add_own_spinning(alloc, taker, set, i, bounds, columns)?;
-    add_together_rows(alloc, taker, set, i, bounds, columns)?;
+    add_together_rows(alloc, taker, set, i, bounds, columns, &below)?;
     Ok(())
 }
 

@@ -5,9 +5,10 @@ ghost use Rattle.number_laws.specs.Sums.{flag};
 ghost use Rattle.program_sources.specs.Bounds.{AreWithinDeadlines};
 ghost use Rattle.blocking_columns.specs.ColumnDef.{column_seen, AreKnown};
 ghost use Rattle.fragments.specs.Constraints.{per, per_pair};
-ghost use Rattle.spin_charging.specs.SpinPrograms.{spinning_row};
+ghost use Rattle.spin_charging.specs.SpinPrograms.{is_used_below, spinning_row};
 ghost use Rattle.closer_spin_laws.specs.CloserSpinRows.{is_spun_below, closer_spinning_row, together_row};
 ghost use Rattle.closer_spin_laws.specs.CloserSpinRows.{lower_spinning_row, other_lower_spinning_row};
+ghost use Rattle.spin_protocol.specs.Origins.{AreOrigins};
 ghost use Rattle.closer_spin.specs.Tables.{Tells};
 ghost use Rattle.closer_spin.specs.Together.{taken_together, AreTold};
 
@@ -15,7 +16,7 @@ use crate::tables::{are_several, spun_below, spun_beside, upper_requests};
 use fragments::{
     Constraint, Fragment, PerNumber, RowKind, RowTaker, add_per_number, add_row, add_row_limited,
 };
-use spin_protocol::{is_from, spinning_requests};
+use spin_protocol::{is_from, is_origin, spinning_requests};
 use sporadic_model::{ResourceId, TaskId, TaskSet};
 use std::alloc::{AllocError, Global};
 
@@ -60,18 +61,20 @@ impl Constraint for CloserSpinningRow {
     }
 }
 
-/// The rows of a processor for each resource, with the resources for which lower tasks may spin there.
+/// The rows of a processor for each resource, with the resources for which lower tasks may spin there, and the table of where the columns
+/// come from.
 #[derive(Drop)]
-struct CloserSpinningFrom {
+struct CloserSpinningFrom<'a> {
     processor: u32,
     spun: Vec<bool>,
+    origins: &'a [bool],
 }
 
-impl PerNumber for CloserSpinningFrom {
+impl<'a> PerNumber for CloserSpinningFrom<'a> {
     ghost rows_of = { λ k set i q. closer_spinning_row set i k.processor q ∷ [] };
 
     ghost fits = { λ k set i columns q. (q < length set.resources)
-        × Tells (length set.resources) (is_spun_below set i k.processor) k.spun.items };
+        × (Tells (length set.resources) (is_spun_below set i k.processor) k.spun.items × AreOrigins set columns k.origins.now) };
 
     fn add<T: RowTaker>(
         &self,
@@ -83,23 +86,33 @@ impl PerNumber for CloserSpinningFrom {
         bounds: &[u64],
         columns: &[Fragment],
     ) -> Result<(), AllocError> {
+        // the tasks of most processors use few of the resources
+        let resource = ResourceId(number);
+        let is_spun_below = self.spun[number as usize];
+        if !is_spun_below && !is_origin(self.origins, self.processor, resource) {
+            return Ok(());
+        }
         let row = CloserSpinningRow {
             processor: self.processor,
-            resource: ResourceId(number),
-            is_spun_below: self.spun[number as usize],
+            resource,
+            is_spun_below,
         };
         add_row(alloc, taker, &row, set, i, bounds, columns)
     }
 }
 
-/// The rows of each processor.
+/// The rows of each processor, with the resources that lower tasks use.
 #[derive(Drop)]
-pub(crate) struct CloserSpinningRows;
+pub(crate) struct CloserSpinningRows<'a> {
+    pub(crate) below: &'a [bool],
+    pub(crate) origins: &'a [bool],
+}
 
-impl PerNumber for CloserSpinningRows {
+impl<'a> PerNumber for CloserSpinningRows<'a> {
     ghost rows_of = { λ k set i n. per (length set.resources) (closer_spinning_row set i (n + 1)) };
 
-    ghost fits = { λ k set i columns n. n < set.processors };
+    ghost fits = { λ k set i columns n. (n < set.processors)
+        × (Tells (length set.resources) (is_used_below set i) k.below.now × AreOrigins set columns k.origins.now) };
 
     fn add<T: RowTaker>(
         &self,
@@ -116,7 +129,8 @@ impl PerNumber for CloserSpinningRows {
         let processor = number + 1;
         let rows = CloserSpinningFrom {
             processor,
-            spun: spun_below(alloc, set, i, processor)?,
+            spun: spun_below(alloc, set, i, processor, self.below)?,
+            origins: self.origins,
         };
         let resources = set.resources();
         add_per_number(alloc, taker, &rows, set, resources, i, bounds, columns)
@@ -179,12 +193,14 @@ fn add_together<T: RowTaker>(
 
 /// The row of each processor of all resources for which lower tasks may spin there.
 #[derive(Drop)]
-pub(crate) struct LowerSpinningRows;
+pub(crate) struct LowerSpinningRows<'a> {
+    pub(crate) below: &'a [bool],
+}
 
-impl PerNumber for LowerSpinningRows {
+impl<'a> PerNumber for LowerSpinningRows<'a> {
     ghost rows_of = { λ k set i n. lower_spinning_row set i (n + 1) ∷ [] };
 
-    ghost fits = { λ k set i columns n. n < set.processors };
+    ghost fits = { λ k set i columns n. (n < set.processors) × Tells (length set.resources) (is_used_below set i) k.below.now };
 
     fn add<T: RowTaker>(
         &self,
@@ -202,7 +218,7 @@ impl PerNumber for LowerSpinningRows {
         let row = TogetherRow {
             processor,
             without: None,
-            table: spun_below(alloc, set, i, processor)?,
+            table: spun_below(alloc, set, i, processor, self.below)?,
         };
         add_together(alloc, taker, set, i, bounds, columns, &row)
     }
@@ -231,6 +247,10 @@ impl PerNumber for OtherLowerSpinningFrom {
         bounds: &[u64],
         columns: &[Fragment],
     ) -> Result<(), AllocError> {
+        // lower tasks spin for few resources
+        if !self.spun[number as usize] {
+            return Ok(());
+        }
         let without = ResourceId(number);
         let row = TogetherRow {
             processor: self.processor,
@@ -243,12 +263,14 @@ impl PerNumber for OtherLowerSpinningFrom {
 
 /// The rows of each processor.
 #[derive(Drop)]
-pub(crate) struct OtherLowerSpinningRows;
+pub(crate) struct OtherLowerSpinningRows<'a> {
+    pub(crate) below: &'a [bool],
+}
 
-impl PerNumber for OtherLowerSpinningRows {
+impl<'a> PerNumber for OtherLowerSpinningRows<'a> {
     ghost rows_of = { λ k set i n. per (length set.resources) (other_lower_spinning_row set i (n + 1)) };
 
-    ghost fits = { λ k set i columns n. n < set.processors };
+    ghost fits = { λ k set i columns n. (n < set.processors) × Tells (length set.resources) (is_used_below set i) k.below.now };
 
     fn add<T: RowTaker>(
         &self,
@@ -265,7 +287,7 @@ impl PerNumber for OtherLowerSpinningRows {
         let processor = number + 1;
         let rows = OtherLowerSpinningFrom {
             processor,
-            spun: spun_below(alloc, set, i, processor)?,
+            spun: spun_below(alloc, set, i, processor, self.below)?,
         };
         let resources = set.resources();
         add_per_number(alloc, taker, &rows, set, resources, i, bounds, columns)

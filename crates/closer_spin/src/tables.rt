@@ -3,7 +3,7 @@
 ghost use Rattle.std.specs.Prelude.{◌≡◌, ℕ, ◌<◌, ◌≤◌, false, nat_lt, length, slice_index, slice_index_or, IfOk};
 ghost use Rattle.number_laws.specs.Tests.{count_below};
 ghost use Rattle.program_sources.specs.Bounds.{AreWithinDeadlines};
-ghost use Rattle.spin_charging.specs.SpinPrograms.{upper_requests};
+ghost use Rattle.spin_charging.specs.SpinPrograms.{is_used_below, upper_requests};
 ghost use Rattle.closer_spin_laws.specs.CloserSpinRows.{is_used_on, is_spun_below, is_spun_beside};
 ghost use Rattle.closer_spin.specs.Tables.{Tells};
 
@@ -25,14 +25,28 @@ fn is_used_on(set: &TaskSet, processor: u32, q: ResourceId) -> bool
     false
 }
 
-/// May a lower task of `i`'s processor spin for a request of the resource by a task of the processor?
-fn is_spun_below(set: &TaskSet, i: TaskId, processor: u32, q: ResourceId) -> bool
+/// By resource, whether a lower task of `i`'s processor uses it.
+pub(crate) fn used_below(alloc: Global, set: &TaskSet, i: TaskId) -> Result<Vec<bool>, AllocError>
+    requires { i.0 < length set.now.tasks }
+    ensures { IfOk result (λ v. Tells (length set.now.resources) (is_used_below set.now i.0) v.items) }
+{
+    let mut used = Vec::with_capacity(alloc, set.resources() as usize)?;
+    for q in 0..set.resources() {
+        used.push(is_used_below(set, i, ResourceId(q)))?;
+    }
+    Ok(used)
+}
+
+/// May a lower task of `i`'s processor spin for a request of the resource by a task of the processor? The table tells which resources
+/// lower tasks use.
+fn is_spun_below(set: &TaskSet, i: TaskId, processor: u32, q: ResourceId, below: &[bool]) -> bool
     requires task { i.0 < length set.now.tasks }
     requires resource { q.0 < length set.now.resources }
+    requires below { Tells (length set.now.resources) (is_used_below set.now i.0) below.now }
     ensures { result ≡ is_spun_below set.now i.0 processor q.0 }
 {
-    // few processors use a resource, so this asks for lower users last
-    processor != set.processor(i) && is_used_on(set, processor, q) && is_used_below(set, i, q)
+    // lower tasks use few resources, so this looks for users on the processor last
+    below[q.0 as usize] && processor != set.processor(i) && is_used_on(set, processor, q)
 }
 
 /// By resource, whether a lower task of `i`'s processor may spin for a request of it by a task of the processor.
@@ -41,13 +55,15 @@ pub(crate) fn spun_below(
     set: &TaskSet,
     i: TaskId,
     processor: u32,
+    below: &[bool],
 ) -> Result<Vec<bool>, AllocError>
-    requires { i.0 < length set.now.tasks }
+    requires task { i.0 < length set.now.tasks }
+    requires below { Tells (length set.now.resources) (is_used_below set.now i.0) below.now }
     ensures { IfOk result (λ v. Tells (length set.now.resources) (is_spun_below set.now i.0 processor) v.items) }
 {
     let mut spun = Vec::with_capacity(alloc, set.resources() as usize)?;
     for q in 0..set.resources() {
-        spun.push(is_spun_below(set, i, processor, ResourceId(q)))?;
+        spun.push(is_spun_below(set, i, processor, ResourceId(q), below))?;
     }
     Ok(spun)
 }
