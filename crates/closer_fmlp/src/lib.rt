@@ -7,5 +7,5 @@ mod protocol;
 mod rows;
 
 pub use laws::programs_are_small;
-pub use programs::program;
-pub use protocol::CloserFmlpPlus;
+pub use programs::{CloserFmlpPlusRows, program};
+pub use protocol::{CLOSER_FMLP_PLUS, CloserFmlpPlus};

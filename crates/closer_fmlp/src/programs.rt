@@ -9,7 +9,6 @@ ghost use Rattle.blocking_columns.specs.Columns.{columns_of};
 ghost use Rattle.closer_laws.specs.CloserRows.{fmlp_closer_rows, fmlp_closer_program};
 ghost use Rattle.closer_laws.proofs.Programs.{fmlp_closer_is_program};
 
-use crate::protocol::CloserFmlpPlus;
 use crate::rows::add_closer_rows;
 use fragments::{Fragment, RowTaker, columns_stand_in_order, fragments};
 use program_form::Program;
@@ -45,7 +44,11 @@ fn add_rows<T: RowTaker>(
     Ok(())
 }
 
-impl ProgramParts for CloserFmlpPlus {
+/// The columns of FMLP+, and its rows with the closer rows behind them.
+#[derive(Clone, Copy, Debug, PartialEq, Eq)]
+pub struct CloserFmlpPlusRows;
+
+impl ProgramParts for CloserFmlpPlusRows {
     ghost serves = { λ p. EachSetSuits };
 
     ghost columns = { λ p. columns_of protocol.FmlpPlus };
@@ -81,5 +84,5 @@ pub fn program(
     requires within { AreWithinDeadlines set.now bounds.now }
     ensures { IfOk result (λ p. p ≡ fmlp_closer_program set.now i.0 bounds.now) }
 {
-    program_with(alloc, &CloserFmlpPlus, set, i, bounds)
+    program_with(alloc, &CloserFmlpPlusRows, set, i, bounds)
 }

@@ -10,5 +10,5 @@ mod protocol;
 mod rows;
 
 pub use laws::programs_are_small;
-pub use programs::program;
-pub use protocol::CloserMpcp;
+pub use programs::{CloserMpcpRows, program};
+pub use protocol::{CLOSER_MPCP, CloserMpcp};

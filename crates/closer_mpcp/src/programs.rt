@@ -9,7 +9,6 @@ ghost use Rattle.blocking_columns.specs.Columns.{columns_of};
 ghost use Rattle.closer_mpcp_laws.specs.CloserMpcpRows.{mpcp_closer_rows, mpcp_closer_program};
 ghost use Rattle.closer_mpcp_laws.proofs.Programs.{mpcp_closer_is_program};
 
-use crate::protocol::CloserMpcp;
 use crate::rows::add_further_rows;
 use fragments::{Fragment, RowTaker, columns_stand_in_order, fragments};
 use program_form::Program;
@@ -45,7 +44,11 @@ fn add_rows<T: RowTaker>(
     Ok(())
 }
 
-impl ProgramParts for CloserMpcp {
+/// The columns of MPCP, and its rows with the closer rows behind them.
+#[derive(Clone, Copy, Debug, PartialEq, Eq)]
+pub struct CloserMpcpRows;
+
+impl ProgramParts for CloserMpcpRows {
     ghost serves = { λ p. EachSetSuits };
 
     ghost columns = { λ p. columns_of protocol.Mpcp };
@@ -81,5 +84,5 @@ pub fn program(
     requires within { AreWithinDeadlines set.now bounds.now }
     ensures { IfOk result (λ p. p ≡ mpcp_closer_program set.now i.0 bounds.now) }
 {
-    program_with(alloc, &CloserMpcp, set, i, bounds)
+    program_with(alloc, &CloserMpcpRows, set, i, bounds)
 }

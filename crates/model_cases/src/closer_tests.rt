@@ -1,6 +1,6 @@
 use crate::protocol_tests::are_within;
-use closer_fmlp::{CloserFmlpPlus, program};
-use closer_mpcp::CloserMpcp;
+use closer_fmlp::{CLOSER_FMLP_PLUS, program};
+use closer_mpcp::CLOSER_MPCP;
 use program_form::Certificate;
 use response_fixpoint::{Verdict, analyse, analyse_with};
 use sporadic_model::{Protocol, TaskId};
@@ -63,7 +63,7 @@ fn bounds_fall_with_the_closer_analysis(rt: HostRuntime) -> Result<(), Fail> {
         return Err("not shown under FMLP+".into());
     };
     assert!(rt; bounds_are(&plain, &[9, 13]));
-    let Ok(Verdict::Schedulable(found)) = analyse_with(&rt, alloc, &set, &CloserFmlpPlus, MOST)
+    let Ok(Verdict::Schedulable(found)) = analyse_with(&rt, alloc, &set, &CLOSER_FMLP_PLUS, MOST)
     else {
         return Err("not shown by the closer analysis".into());
     };
@@ -119,7 +119,7 @@ fn bounds_fall_with_the_closer_analysis_of_mpcp(rt: HostRuntime) -> Result<(), F
         return Err("not shown under MPCP".into());
     };
     assert!(rt; bounds_are(&plain, &[19, 16]));
-    let Ok(Verdict::Schedulable(found)) = analyse_with(&rt, alloc, &set, &CloserMpcp, MOST) else {
+    let Ok(Verdict::Schedulable(found)) = analyse_with(&rt, alloc, &set, &CLOSER_MPCP, MOST) else {
         return Err("not shown by the closer analysis".into());
     };
     assert!(rt; bounds_are(&found, &[19, 11]));

@@ -4,8 +4,8 @@ ghost use Rattle.program_sources.specs.Bounds.{AreWithinDeadlines};
 use crate::protocol_rows::{CASES, Case, LOCAL, PATHS};
 use crate::threads::may_cross_threads;
 use blocking_columns::{Class, Fragment, TaskPlace, cnt, columns_stand_in_order, task_places};
-use closer_fmlp::CloserFmlpPlus;
-use closer_mpcp::CloserMpcp;
+use closer_fmlp::CLOSER_FMLP_PLUS;
+use closer_mpcp::CLOSER_MPCP;
 use closer_spin::CloserSpin;
 use program_form::{Coefficient, Program, RowBlock, SparseProgram};
 use protocol_programs::{ProgramSource, Written};
@@ -272,8 +272,8 @@ fn counts_the_requests_in_a_window(rt: HostRuntime) -> Result<(), Fail> {
 fn sources_may_cross_threads() {
     may_cross_threads(&Written(Protocol::Mpcp));
     may_cross_threads(&DpcpWindows);
-    may_cross_threads(&CloserFmlpPlus);
+    may_cross_threads(&CLOSER_FMLP_PLUS);
     may_cross_threads(&CloserSpin);
-    may_cross_threads(&CloserMpcp);
+    may_cross_threads(&CLOSER_MPCP);
     may_cross_threads(&(Class::Direct, TaskId(0)));
 }

@@ -17,8 +17,8 @@ ghost use Rattle.named_laws.specs.Named.{HasHomes, rules_of, choice_of, interfer
 
 use audit_figures::{AuditStop, TaskFigures, audit_rows_with};
 use closer_distributed::{CloserDflp, CloserDpcp};
-use closer_fmlp::CloserFmlpPlus;
-use closer_mpcp::CloserMpcp;
+use closer_fmlp::CLOSER_FMLP_PLUS;
+use closer_mpcp::CLOSER_MPCP;
 use closer_spin::CloserSpin;
 use dflp_protocol::Dflp;
 use dual_check::{Invalid, Valid, check_with};
@@ -54,11 +54,11 @@ pub fn analyse<R: Threads + Sync>(
         ProtocolName::Dflp => analyse_with(rt, alloc, set, &Dflp, allowance),
         ProtocolName::Spin => analyse_with(rt, alloc, set, &Spin, allowance),
         ProtocolName::DpcpWindows => analyse_with(rt, alloc, set, &DpcpWindows, allowance),
-        ProtocolName::FmlpPlusCloser => analyse_with(rt, alloc, set, &CloserFmlpPlus, allowance),
+        ProtocolName::FmlpPlusCloser => analyse_with(rt, alloc, set, &CLOSER_FMLP_PLUS, allowance),
         ProtocolName::SpinCloser => analyse_with(rt, alloc, set, &CloserSpin, allowance),
         ProtocolName::DpcpCloser => analyse_with(rt, alloc, set, &CloserDpcp, allowance),
         ProtocolName::DflpCloser => analyse_with(rt, alloc, set, &CloserDflp, allowance),
-        ProtocolName::MpcpCloser => analyse_with(rt, alloc, set, &CloserMpcp, allowance),
+        ProtocolName::MpcpCloser => analyse_with(rt, alloc, set, &CLOSER_MPCP, allowance),
     }
 }
 
@@ -80,11 +80,11 @@ pub fn check(
         ProtocolName::Dflp => check_with(alloc, &Dflp, set, certificate),
         ProtocolName::Spin => check_with(alloc, &Spin, set, certificate),
         ProtocolName::DpcpWindows => check_with(alloc, &DpcpWindows, set, certificate),
-        ProtocolName::FmlpPlusCloser => check_with(alloc, &CloserFmlpPlus, set, certificate),
+        ProtocolName::FmlpPlusCloser => check_with(alloc, &CLOSER_FMLP_PLUS, set, certificate),
         ProtocolName::SpinCloser => check_with(alloc, &CloserSpin, set, certificate),
         ProtocolName::DpcpCloser => check_with(alloc, &CloserDpcp, set, certificate),
         ProtocolName::DflpCloser => check_with(alloc, &CloserDflp, set, certificate),
-        ProtocolName::MpcpCloser => check_with(alloc, &CloserMpcp, set, certificate),
+        ProtocolName::MpcpCloser => check_with(alloc, &CLOSER_MPCP, set, certificate),
     }
 }
 
@@ -106,11 +106,11 @@ pub fn conform_rows<R: RowReader>(
         ProtocolName::Dflp => conform_rows_with(alloc, &Dflp, jobs, rows),
         ProtocolName::Spin => conform_rows_with(alloc, &Spin, jobs, rows),
         ProtocolName::DpcpWindows => conform_rows_with(alloc, &DpcpWindows, jobs, rows),
-        ProtocolName::FmlpPlusCloser => conform_rows_with(alloc, &CloserFmlpPlus, jobs, rows),
+        ProtocolName::FmlpPlusCloser => conform_rows_with(alloc, &CLOSER_FMLP_PLUS, jobs, rows),
         ProtocolName::SpinCloser => conform_rows_with(alloc, &CloserSpin, jobs, rows),
         ProtocolName::DpcpCloser => conform_rows_with(alloc, &CloserDpcp, jobs, rows),
         ProtocolName::DflpCloser => conform_rows_with(alloc, &CloserDflp, jobs, rows),
-        ProtocolName::MpcpCloser => conform_rows_with(alloc, &CloserMpcp, jobs, rows),
+        ProtocolName::MpcpCloser => conform_rows_with(alloc, &CLOSER_MPCP, jobs, rows),
     }
 }
 
@@ -133,11 +133,11 @@ pub fn simulate(
         ProtocolName::Dflp => simulate_with(alloc, &Dflp, jobs, ticks),
         ProtocolName::Spin => simulate_with(alloc, &Spin, jobs, ticks),
         ProtocolName::DpcpWindows => simulate_with(alloc, &DpcpWindows, jobs, ticks),
-        ProtocolName::FmlpPlusCloser => simulate_with(alloc, &CloserFmlpPlus, jobs, ticks),
+        ProtocolName::FmlpPlusCloser => simulate_with(alloc, &CLOSER_FMLP_PLUS, jobs, ticks),
         ProtocolName::SpinCloser => simulate_with(alloc, &CloserSpin, jobs, ticks),
         ProtocolName::DpcpCloser => simulate_with(alloc, &CloserDpcp, jobs, ticks),
         ProtocolName::DflpCloser => simulate_with(alloc, &CloserDflp, jobs, ticks),
-        ProtocolName::MpcpCloser => simulate_with(alloc, &CloserMpcp, jobs, ticks),
+        ProtocolName::MpcpCloser => simulate_with(alloc, &CLOSER_MPCP, jobs, ticks),
     }
 }
 
@@ -163,11 +163,11 @@ pub fn audit_rows<R: RowReader>(
         ProtocolName::Spin => audit_rows_with(alloc, &Spin, certificate, jobs, rows),
         ProtocolName::DpcpWindows => audit_rows_with(alloc, &DpcpWindows, certificate, jobs, rows),
         ProtocolName::FmlpPlusCloser => {
-            audit_rows_with(alloc, &CloserFmlpPlus, certificate, jobs, rows)
+            audit_rows_with(alloc, &CLOSER_FMLP_PLUS, certificate, jobs, rows)
         }
         ProtocolName::SpinCloser => audit_rows_with(alloc, &CloserSpin, certificate, jobs, rows),
         ProtocolName::DpcpCloser => audit_rows_with(alloc, &CloserDpcp, certificate, jobs, rows),
         ProtocolName::DflpCloser => audit_rows_with(alloc, &CloserDflp, certificate, jobs, rows),
-        ProtocolName::MpcpCloser => audit_rows_with(alloc, &CloserMpcp, certificate, jobs, rows),
+        ProtocolName::MpcpCloser => audit_rows_with(alloc, &CLOSER_MPCP, certificate, jobs, rows),
     }
 }

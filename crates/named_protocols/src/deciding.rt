@@ -6,8 +6,8 @@ ghost use Rattle.settling.specs.Answers.{Settles, Keeps, IsRight, IsSchedulable,
 ghost use Rattle.named_laws.specs.Named.{HasHomes, source_of};
 
 use closer_distributed::{CloserDflp, CloserDpcp};
-use closer_fmlp::CloserFmlpPlus;
-use closer_mpcp::CloserMpcp;
+use closer_fmlp::CLOSER_FMLP_PLUS;
+use closer_mpcp::CLOSER_MPCP;
 use closer_spin::CloserSpin;
 use dflp_protocol::Dflp;
 use protocol_names::ProtocolName;
@@ -43,10 +43,10 @@ pub fn settle<R: Threads + Sync>(
         ProtocolName::Dflp => settle_with(rt, alloc, set, &Dflp, allowance),
         ProtocolName::Spin => settle_with(rt, alloc, set, &Spin, allowance),
         ProtocolName::DpcpWindows => settle_with(rt, alloc, set, &DpcpWindows, allowance),
-        ProtocolName::FmlpPlusCloser => settle_with(rt, alloc, set, &CloserFmlpPlus, allowance),
+        ProtocolName::FmlpPlusCloser => settle_with(rt, alloc, set, &CLOSER_FMLP_PLUS, allowance),
         ProtocolName::SpinCloser => settle_with(rt, alloc, set, &CloserSpin, allowance),
         ProtocolName::DpcpCloser => settle_with(rt, alloc, set, &CloserDpcp, allowance),
         ProtocolName::DflpCloser => settle_with(rt, alloc, set, &CloserDflp, allowance),
-        ProtocolName::MpcpCloser => settle_with(rt, alloc, set, &CloserMpcp, allowance),
+        ProtocolName::MpcpCloser => settle_with(rt, alloc, set, &CLOSER_MPCP, allowance),
     }
 }

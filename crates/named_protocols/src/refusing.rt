@@ -10,8 +10,8 @@ ghost use Rattle.refusal_cert.specs.Answers.{Refutes, IsAnswerOf, FollowsAnalysi
 ghost use Rattle.named_laws.specs.Named.{HasHomes, source_of};
 
 use closer_distributed::{CloserDflp, CloserDpcp};
-use closer_fmlp::CloserFmlpPlus;
-use closer_mpcp::CloserMpcp;
+use closer_fmlp::CLOSER_FMLP_PLUS;
+use closer_mpcp::CLOSER_MPCP;
 use closer_spin::CloserSpin;
 use dflp_protocol::Dflp;
 use protocol_names::ProtocolName;
@@ -47,13 +47,13 @@ pub fn refute(
         ProtocolName::FmlpPlusCloser => refusal_cert::refute(
             alloc,
             set,
-            &CloserFmlpPlus,
+            &CLOSER_FMLP_PLUS,
             allowance,
         ),
         ProtocolName::SpinCloser => refusal_cert::refute(alloc, set, &CloserSpin, allowance),
         ProtocolName::DpcpCloser => refusal_cert::refute(alloc, set, &CloserDpcp, allowance),
         ProtocolName::DflpCloser => refusal_cert::refute(alloc, set, &CloserDflp, allowance),
-        ProtocolName::MpcpCloser => refusal_cert::refute(alloc, set, &CloserMpcp, allowance),
+        ProtocolName::MpcpCloser => refusal_cert::refute(alloc, set, &CLOSER_MPCP, allowance),
     }
 }
 
@@ -93,12 +93,12 @@ pub fn confirm<R: Threads + Sync>(
             rt,
             alloc,
             set,
-            &CloserFmlpPlus,
+            &CLOSER_FMLP_PLUS,
             refusal,
         ),
         ProtocolName::SpinCloser => refusal_confirm::confirm(rt, alloc, set, &CloserSpin, refusal),
         ProtocolName::DpcpCloser => refusal_confirm::confirm(rt, alloc, set, &CloserDpcp, refusal),
         ProtocolName::DflpCloser => refusal_confirm::confirm(rt, alloc, set, &CloserDflp, refusal),
-        ProtocolName::MpcpCloser => refusal_confirm::confirm(rt, alloc, set, &CloserMpcp, refusal),
+        ProtocolName::MpcpCloser => refusal_confirm::confirm(rt, alloc, set, &CLOSER_MPCP, refusal),
     }
 }

@@ -1,5 +1,5 @@
 use Rattle.closer_laws.proofs.Programs.{fmlp_closer_follows}
-use Rattle.closer_fmlp.proofs.protocol.CloserFmlpPlusProgramSource.keeps_limits.Goals as goal
+use Rattle.closer_fmlp.proofs.protocol.CloserFmlpPlusRowsFurtherRowsFmlpPlus.keeps_limits.Goals as goal
 
 pub returns : goal.returns
 returns c = λ yes. fmlp_closer_follows c.args.set.now c.args.i.0 c.args.earlier.now c.args.bounds.now c.requires.task
