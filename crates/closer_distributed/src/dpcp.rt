@@ -2,87 +2,23 @@
 
 ghost use Rattle.std.specs.Prelude.{◌≡◌, ◌<◌, ◌++◌, [], ◌∷◌, map, length, refl, OnOk};
 ghost use Rattle.sporadic_model.specs.Homes.{EachHasHome};
-ghost use Rattle.sporadic_model.proofs.Laws.{formed_of_accepted};
 ghost use Rattle.sporadic_model.specs.declared.ids.Protocol.TheVariants as protocol;
-ghost use Rattle.schedule_model.specs.Protocols.{dpcp_rule};
-ghost use Rattle.schedule_model.specs.Chosen.{IsDpcpChoice};
-ghost use Rattle.schedule_model.specs.BlockedTicks.{is_dpcp_interference};
-ghost use Rattle.schedule_laws.proofs.DpcpLaws.{dpcp_one_of_three, dpcp_sound_row, dpcp_chosen_keeps};
-ghost use Rattle.schedule_laws.proofs.DpcpAgreement.{dpcp_rules_read, dpcp_choice_reads};
-ghost use Rattle.schedule_laws.proofs.TickAgreement.{dpcp_interference_agree};
-ghost use Rattle.schedule_laws.proofs.DpcpStretches.{dpcp_stays_lawful};
 ghost use Rattle.program_sources.specs.Bounds.{AreWithinDeadlines};
 ghost use Rattle.blocking_columns.specs.ColumnDef.{column_seen, AreKnown};
 ghost use Rattle.blocking_columns.specs.Columns.{columns_of as written_columns};
 ghost use Rattle.blocking_columns.specs.Stretches.{AreInOrder};
-ghost use Rattle.program_laws.proofs.WrittenPrograms.{interfering_least, interfering_most};
-ghost use Rattle.charge_laws.specs.Charges.{dpcp_charge};
-ghost use Rattle.charge_laws.proofs.DpcpCharging.{dpcp_charge_blocked};
-ghost use Rattle.charge_laws.proofs.Stretches.{dpcp_stays_charged};
-ghost use Rattle.row_laws.proofs.ChargedTicks.{dpcp_is_charged};
-ghost use Rattle.row_laws.proofs.InterferingCosts.{dpcp_interferes_within};
 ghost use Rattle.closer_distributed_laws.specs.CloserRows.{lower_wait_row, home_rows, dpcp_closer_rows, dpcp_closer_source};
 ghost use Rattle.closer_distributed_laws.proofs.Points.{dpcp_closer_point};
 ghost use Rattle.closer_distributed_laws.proofs.Programs.{dpcp_closer_covered, dpcp_closer_rises, dpcp_closer_is_program};
 
 use crate::rows::add_home_rows;
-use charged_protocols::ChargedProtocol;
-use fragments::{
-    Class, Constraint, Fragment, RowKind, RowTaker, add_row, columns_stand_in_order, home,
-};
-use phase_machine::{Judge, Machine};
-use program_form::{Program, SparseProgram};
-use program_sources::ProgramSource;
-use protocol_programs::{
-    ProgramParts, interference, limits_with, program_with, sparse_program_with,
-};
-use request_windows::DpcpWindows;
-use schedule_model::{BlockingProtocol, JobId, Row, Rule};
+use dpcp_rules::Dpcp;
+use fragments::{Constraint, Fragment, RowKind, RowTaker, add_row, columns_stand_in_order, home};
+use further_rows::{Closer, FurtherRows};
+use protocol_programs::ProgramParts;
+use request_windows::DpcpWindowRows;
 use sporadic_model::{Protocol, TaskId, TaskSet};
 use std::alloc::{AllocError, Global};
-
-/// The distributed priority ceiling protocol, with its closer analysis: with windows of requests, and the closer rows. It suits task sets in
-/// which each resource has a home.
-#[derive(Clone, Copy, Debug, PartialEq, Eq)]
-pub struct CloserDpcp;
-
-impl BlockingProtocol for CloserDpcp {
-    ghost suits = { λ p. EachHasHome };
-
-    ghost keeps = { λ p. dpcp_rule };
-
-    ghost chooses = { λ p. IsDpcpChoice };
-
-    ghost interferes = { λ p. is_dpcp_interference };
-
-    ghost one_of_three = { λ p w t j suits. dpcp_one_of_three w t j };
-
-    ghost sound_row = { λ p w t suits keeps. dpcp_sound_row w t keeps };
-
-    ghost chosen_keeps = { λ p w t suits chosen. dpcp_chosen_keeps w t chosen };
-}
-
-impl Judge for CloserDpcp {
-    fn judge(&self, machine: &Machine, row: &Row) -> Result<(), Rule> {
-        DpcpWindows.judge(machine, row)
-    }
-
-    fn choose(&self, machine: &Machine, row: &mut Row) {
-        DpcpWindows.choose(machine, row);
-    }
-
-    fn blocked(&self, machine: &Machine, row: &Row, j: JobId) -> bool {
-        DpcpWindows.blocked(machine, row, j)
-    }
-
-    ghost rules_read = { λ p. dpcp_rules_read };
-
-    ghost choice_reads = { λ p. dpcp_choice_reads };
-
-    ghost ticks_read = { λ p. dpcp_interference_agree };
-
-    ghost stays_lawful = { λ p. dpcp_stays_lawful };
-}
 
 /// A job never waits on its own processor for a request of a lower task.
 #[derive(Drop)]
@@ -131,7 +67,11 @@ fn add_rows<T: RowTaker>(
     add_row(alloc, taker, &LowerWaits, set, i, bounds, columns)
 }
 
-impl ProgramParts for CloserDpcp {
+/// The columns of DPCP, and its rows with those of windows and the closer rows behind them.
+#[derive(Clone, Copy, Debug, PartialEq, Eq)]
+pub struct CloserDpcpRows;
+
+impl ProgramParts for CloserDpcpRows {
     ghost serves = { λ p. EachHasHome };
 
     ghost columns = { λ p. written_columns protocol.Dpcp };
@@ -146,7 +86,7 @@ impl ProgramParts for CloserDpcp {
         i: TaskId,
         bounds: &[u64],
     ) -> Result<Vec<Fragment>, AllocError> {
-        let columns = DpcpWindows.take_rows(alloc, taker, set, i, bounds)?;
+        let columns = DpcpWindowRows.take_rows(alloc, taker, set, i, bounds)?;
         columns_stand_in_order(set, Protocol::Dpcp, i, &columns);
         add_rows(alloc, taker, set, i, bounds, &columns)?;
         Ok(columns)
@@ -155,78 +95,28 @@ impl ProgramParts for CloserDpcp {
     ghost is_program = { λ p set i r served accepted here within. dpcp_closer_is_program set i r accepted here within };
 }
 
-impl ProgramSource for CloserDpcp {
-    ghost serves = { λ p. EachHasHome };
+/// The distributed priority ceiling protocol, with its closer analysis: with windows of requests, and the closer rows. It suits task sets in
+/// which each resource has a home.
+pub type CloserDpcp = Closer<Dpcp, CloserDpcpRows>;
 
-    ghost source = { λ p. dpcp_closer_source };
+/// The protocol as a value.
+pub const CLOSER_DPCP: CloserDpcp = Closer {
+    plain: Dpcp,
+    rows: CloserDpcpRows,
+};
 
-    ghost covers = { λ p set i r c served here within. dpcp_closer_covered set i r c within };
+impl FurtherRows<Dpcp> for CloserDpcpRows {
+    ghost source = { λ r. dpcp_closer_source };
 
-    ghost rises = { λ p set i r s served here most. dpcp_closer_rises set i r s here most };
+    ghost served = { λ r p set suits. suits };
 
-    ghost is_program = { λ p set i r served accepted here within. dpcp_closer_is_program set i r accepted here within };
+    ghost plain_columns = { λ r p set i. refl };
 
-    ghost least = { λ p set h served here numbers. interfering_least protocol.Dpcp set h numbers };
+    ghost further = { λ r p set. refl };
 
-    ghost most = { λ p set h served here numbers. interfering_most protocol.Dpcp set h numbers };
+    ghost covers = { λ r p set i bounds c suits here within. dpcp_closer_covered set i bounds c within };
 
-    fn program(
-        &self,
-        alloc: Global,
-        set: &TaskSet,
-        i: TaskId,
-        bounds: &[u64],
-    ) -> Result<Program, AllocError> {
-        program_with(alloc, self, set, i, bounds)
-    }
+    ghost rises = { λ r p set i low high suits here most. dpcp_closer_rises set i low high here most };
 
-    fn sparse_program(
-        &self,
-        alloc: Global,
-        set: &TaskSet,
-        i: TaskId,
-        bounds: &[u64],
-    ) -> Result<SparseProgram, AllocError> {
-        sparse_program_with(alloc, self, set, i, bounds)
-    }
-
-    fn limits(
-        &self,
-        alloc: Global,
-        set: &TaskSet,
-        i: TaskId,
-        bounds: &[u64],
-    ) -> Result<Vec<u64>, AllocError> {
-        limits_with(alloc, self, set, i, bounds)
-    }
-
-    fn interference(&self, set: &TaskSet, i: TaskId, bounds: &[u64]) -> u64 {
-        interference(set, Protocol::Dpcp, i, bounds)
-    }
-}
-
-impl ChargedProtocol for CloserDpcp {
-    ghost columns_of = { λ p. written_columns protocol.Dpcp };
-
-    ghost charges = { λ p. dpcp_charge };
-
-    fn charged(&self, machine: &Machine, row: &Row, j: JobId) -> Option<(JobId, Class)> {
-        DpcpWindows.charged(machine, row, j)
-    }
-
-    ghost served = { λ p set suits. suits };
-
-    ghost worth = { λ p set i bounds suits here. refl };
-
-    ghost interferes_within = { λ p w n y suits keeps lawful. dpcp_interferes_within w n y keeps lawful };
-
-    ghost charges_blocked = { λ p w n t j suits lawful keeps early blocked. dpcp_is_charged w n t j lawful keeps early blocked };
-
-    ghost charges_only = { λ p. dpcp_charge_blocked };
-
-    ghost stays_charged = { λ p. dpcp_stays_charged EachHasHome dpcp_rule };
-
-    ghost meets_rows = { λ p w bounds n j suits accepted lawful keeps listed ended.
-        dpcp_closer_point w bounds n j (record { formed = formed_of_accepted w.set accepted; lawful = lawful; listed = listed; ended = ended })
-        keeps };
+    ghost meets_rows = { λ r p w bounds n j suits within keeps. dpcp_closer_point w bounds n j within keeps };
 }

@@ -7,6 +7,6 @@ mod dpcp;
 mod laws;
 mod rows;
 
-pub use dflp::CloserDflp;
-pub use dpcp::CloserDpcp;
+pub use dflp::{CLOSER_DFLP, CloserDflp, CloserDflpRows};
+pub use dpcp::{CLOSER_DPCP, CloserDpcp, CloserDpcpRows};
 pub use laws::programs_are_small;

@@ -9,4 +9,5 @@ mod protocol;
 mod rows;
 mod tables;
 
-pub use protocol::CloserSpin;
+pub use programs::CloserSpinRows;
+pub use protocol::{CLOSER_SPIN, CloserSpin};

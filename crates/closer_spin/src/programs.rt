@@ -10,7 +10,6 @@ ghost use Rattle.closer_spin_laws.specs.CloserSpinRows.{closer_spinning_rows, ow
 ghost use Rattle.closer_spin_laws.proofs.Programs.{spin_closer_is_program};
 ghost use Rattle.closer_spin.specs.Tables.{Tells};
 
-use crate::protocol::CloserSpin;
 use crate::rows::{CloserSpinningRows, LowerSpinningRows, OtherLowerSpinningRows};
 use crate::tables::used_below;
 use direct_constraints::add_common;
@@ -117,7 +116,11 @@ fn add_rows<T: RowTaker>(
     Ok(())
 }
 
-impl ProgramParts for CloserSpin {
+/// The columns of spin locks, and rows that say more than theirs.
+#[derive(Clone, Copy, Debug, PartialEq, Eq)]
+pub struct CloserSpinRows;
+
+impl ProgramParts for CloserSpinRows {
     ghost serves = { λ p. EachSetSuits };
 
     ghost columns = { λ p. spin_columns };

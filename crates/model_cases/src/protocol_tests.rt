@@ -6,10 +6,10 @@ use crate::threads::may_cross_threads;
 use blocking_columns::{Class, Fragment, TaskPlace, cnt, columns_stand_in_order, task_places};
 use closer_fmlp::CLOSER_FMLP_PLUS;
 use closer_mpcp::CLOSER_MPCP;
-use closer_spin::CloserSpin;
+use closer_spin::CLOSER_SPIN;
 use program_form::{Coefficient, Program, RowBlock, SparseProgram};
 use protocol_programs::{ProgramSource, Written};
-use request_windows::DpcpWindows;
+use request_windows::DPCP_WINDOWS;
 use sporadic_model::{Protocol, ResourceId, TaskId, TaskSet};
 use std::alloc::{AllocError, Global};
 use std::test::Fail;
@@ -271,9 +271,9 @@ fn counts_the_requests_in_a_window(rt: HostRuntime) -> Result<(), Fail> {
 #[test]
 fn sources_may_cross_threads() {
     may_cross_threads(&Written(Protocol::Mpcp));
-    may_cross_threads(&DpcpWindows);
+    may_cross_threads(&DPCP_WINDOWS);
     may_cross_threads(&CLOSER_FMLP_PLUS);
-    may_cross_threads(&CloserSpin);
+    may_cross_threads(&CLOSER_SPIN);
     may_cross_threads(&CLOSER_MPCP);
     may_cross_threads(&(Class::Direct, TaskId(0)));
 }

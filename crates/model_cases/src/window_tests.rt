@@ -1,7 +1,7 @@
 use crate::protocol_tests::are_within;
 use blocking_columns::uses;
 use program_form::Certificate;
-use request_windows::{DpcpWindows, program, window};
+use request_windows::{DPCP_WINDOWS, program, window};
 use response_fixpoint::{Verdict, analyse, analyse_with};
 use sporadic_model::{Protocol, ResourceId, TaskId, TaskSet};
 use std::alloc::Global;
@@ -87,7 +87,7 @@ fn bounds_fall_with_windows(rt: HostRuntime) -> Result<(), Fail> {
         return Err("not shown under DPCP".into());
     };
     assert!(rt; holds(&plain, &[4, 23], &[&[1, 0, 0], &[1, 0]]));
-    let Ok(Verdict::Schedulable(found)) = analyse_with(&rt, alloc, &set, &DpcpWindows, MOST) else {
+    let Ok(Verdict::Schedulable(found)) = analyse_with(&rt, alloc, &set, &DPCP_WINDOWS, MOST) else {
         return Err("not shown with windows".into());
     };
     assert!(rt; holds(&found, &[4, 21], &[&[1, 0, 0], &[0, 0, 1]]));

@@ -16,15 +16,15 @@ ghost use Rattle.figure_laws.specs.Audited.{IsAudited};
 ghost use Rattle.named_laws.specs.Named.{HasHomes, rules_of, choice_of, interference_of, charges_of, source_of, SoundUnder};
 
 use audit_figures::{AuditStop, TaskFigures, audit_rows_with};
-use closer_distributed::{CloserDflp, CloserDpcp};
+use closer_distributed::{CLOSER_DFLP, CLOSER_DPCP};
 use closer_fmlp::CLOSER_FMLP_PLUS;
 use closer_mpcp::CLOSER_MPCP;
-use closer_spin::CloserSpin;
+use closer_spin::CLOSER_SPIN;
 use dflp_protocol::Dflp;
 use dual_check::{Invalid, Valid, check_with};
 use program_form::Certificate;
 use protocol_names::ProtocolName;
-use request_windows::DpcpWindows;
+use request_windows::DPCP_WINDOWS;
 use response_fixpoint::{Stop, Verdict, analyse_with};
 use schedule_model::{JobList, RowList, RowReader};
 use sim_engine::simulate_with;
@@ -53,11 +53,11 @@ pub fn analyse<R: Threads + Sync>(
         ProtocolName::Base(base) => response_fixpoint::analyse(rt, alloc, set, base, allowance),
         ProtocolName::Dflp => analyse_with(rt, alloc, set, &Dflp, allowance),
         ProtocolName::Spin => analyse_with(rt, alloc, set, &Spin, allowance),
-        ProtocolName::DpcpWindows => analyse_with(rt, alloc, set, &DpcpWindows, allowance),
+        ProtocolName::DpcpWindows => analyse_with(rt, alloc, set, &DPCP_WINDOWS, allowance),
         ProtocolName::FmlpPlusCloser => analyse_with(rt, alloc, set, &CLOSER_FMLP_PLUS, allowance),
-        ProtocolName::SpinCloser => analyse_with(rt, alloc, set, &CloserSpin, allowance),
-        ProtocolName::DpcpCloser => analyse_with(rt, alloc, set, &CloserDpcp, allowance),
-        ProtocolName::DflpCloser => analyse_with(rt, alloc, set, &CloserDflp, allowance),
+        ProtocolName::SpinCloser => analyse_with(rt, alloc, set, &CLOSER_SPIN, allowance),
+        ProtocolName::DpcpCloser => analyse_with(rt, alloc, set, &CLOSER_DPCP, allowance),
+        ProtocolName::DflpCloser => analyse_with(rt, alloc, set, &CLOSER_DFLP, allowance),
         ProtocolName::MpcpCloser => analyse_with(rt, alloc, set, &CLOSER_MPCP, allowance),
     }
 }
@@ -79,11 +79,11 @@ pub fn check(
         ProtocolName::Base(base) => dual_check::check(alloc, base, set, certificate),
         ProtocolName::Dflp => check_with(alloc, &Dflp, set, certificate),
         ProtocolName::Spin => check_with(alloc, &Spin, set, certificate),
-        ProtocolName::DpcpWindows => check_with(alloc, &DpcpWindows, set, certificate),
+        ProtocolName::DpcpWindows => check_with(alloc, &DPCP_WINDOWS, set, certificate),
         ProtocolName::FmlpPlusCloser => check_with(alloc, &CLOSER_FMLP_PLUS, set, certificate),
-        ProtocolName::SpinCloser => check_with(alloc, &CloserSpin, set, certificate),
-        ProtocolName::DpcpCloser => check_with(alloc, &CloserDpcp, set, certificate),
-        ProtocolName::DflpCloser => check_with(alloc, &CloserDflp, set, certificate),
+        ProtocolName::SpinCloser => check_with(alloc, &CLOSER_SPIN, set, certificate),
+        ProtocolName::DpcpCloser => check_with(alloc, &CLOSER_DPCP, set, certificate),
+        ProtocolName::DflpCloser => check_with(alloc, &CLOSER_DFLP, set, certificate),
         ProtocolName::MpcpCloser => check_with(alloc, &CLOSER_MPCP, set, certificate),
     }
 }
@@ -105,11 +105,11 @@ pub fn conform_rows<R: RowReader>(
         ProtocolName::Base(base) => trace_conform::conform_rows(alloc, base, jobs, rows),
         ProtocolName::Dflp => conform_rows_with(alloc, &Dflp, jobs, rows),
         ProtocolName::Spin => conform_rows_with(alloc, &Spin, jobs, rows),
-        ProtocolName::DpcpWindows => conform_rows_with(alloc, &DpcpWindows, jobs, rows),
+        ProtocolName::DpcpWindows => conform_rows_with(alloc, &DPCP_WINDOWS, jobs, rows),
         ProtocolName::FmlpPlusCloser => conform_rows_with(alloc, &CLOSER_FMLP_PLUS, jobs, rows),
-        ProtocolName::SpinCloser => conform_rows_with(alloc, &CloserSpin, jobs, rows),
-        ProtocolName::DpcpCloser => conform_rows_with(alloc, &CloserDpcp, jobs, rows),
-        ProtocolName::DflpCloser => conform_rows_with(alloc, &CloserDflp, jobs, rows),
+        ProtocolName::SpinCloser => conform_rows_with(alloc, &CLOSER_SPIN, jobs, rows),
+        ProtocolName::DpcpCloser => conform_rows_with(alloc, &CLOSER_DPCP, jobs, rows),
+        ProtocolName::DflpCloser => conform_rows_with(alloc, &CLOSER_DFLP, jobs, rows),
         ProtocolName::MpcpCloser => conform_rows_with(alloc, &CLOSER_MPCP, jobs, rows),
     }
 }
@@ -132,11 +132,11 @@ pub fn simulate(
         ProtocolName::Base(base) => sim_engine::simulate(alloc, base, jobs, ticks),
         ProtocolName::Dflp => simulate_with(alloc, &Dflp, jobs, ticks),
         ProtocolName::Spin => simulate_with(alloc, &Spin, jobs, ticks),
-        ProtocolName::DpcpWindows => simulate_with(alloc, &DpcpWindows, jobs, ticks),
+        ProtocolName::DpcpWindows => simulate_with(alloc, &DPCP_WINDOWS, jobs, ticks),
         ProtocolName::FmlpPlusCloser => simulate_with(alloc, &CLOSER_FMLP_PLUS, jobs, ticks),
-        ProtocolName::SpinCloser => simulate_with(alloc, &CloserSpin, jobs, ticks),
-        ProtocolName::DpcpCloser => simulate_with(alloc, &CloserDpcp, jobs, ticks),
-        ProtocolName::DflpCloser => simulate_with(alloc, &CloserDflp, jobs, ticks),
+        ProtocolName::SpinCloser => simulate_with(alloc, &CLOSER_SPIN, jobs, ticks),
+        ProtocolName::DpcpCloser => simulate_with(alloc, &CLOSER_DPCP, jobs, ticks),
+        ProtocolName::DflpCloser => simulate_with(alloc, &CLOSER_DFLP, jobs, ticks),
         ProtocolName::MpcpCloser => simulate_with(alloc, &CLOSER_MPCP, jobs, ticks),
     }
 }
@@ -161,13 +161,13 @@ pub fn audit_rows<R: RowReader>(
         ProtocolName::Base(base) => audit_figures::audit_rows(alloc, base, certificate, jobs, rows),
         ProtocolName::Dflp => audit_rows_with(alloc, &Dflp, certificate, jobs, rows),
         ProtocolName::Spin => audit_rows_with(alloc, &Spin, certificate, jobs, rows),
-        ProtocolName::DpcpWindows => audit_rows_with(alloc, &DpcpWindows, certificate, jobs, rows),
+        ProtocolName::DpcpWindows => audit_rows_with(alloc, &DPCP_WINDOWS, certificate, jobs, rows),
         ProtocolName::FmlpPlusCloser => {
             audit_rows_with(alloc, &CLOSER_FMLP_PLUS, certificate, jobs, rows)
         }
-        ProtocolName::SpinCloser => audit_rows_with(alloc, &CloserSpin, certificate, jobs, rows),
-        ProtocolName::DpcpCloser => audit_rows_with(alloc, &CloserDpcp, certificate, jobs, rows),
-        ProtocolName::DflpCloser => audit_rows_with(alloc, &CloserDflp, certificate, jobs, rows),
+        ProtocolName::SpinCloser => audit_rows_with(alloc, &CLOSER_SPIN, certificate, jobs, rows),
+        ProtocolName::DpcpCloser => audit_rows_with(alloc, &CLOSER_DPCP, certificate, jobs, rows),
+        ProtocolName::DflpCloser => audit_rows_with(alloc, &CLOSER_DFLP, certificate, jobs, rows),
         ProtocolName::MpcpCloser => audit_rows_with(alloc, &CLOSER_MPCP, certificate, jobs, rows),
     }
 }

@@ -5,14 +5,14 @@ ghost use Rattle.response_fixpoint.specs.Runs.{rounds_of};
 ghost use Rattle.settling.specs.Answers.{Settles, Keeps, IsRight, IsSchedulable, NamesTask, RefusesBySmallSteps};
 ghost use Rattle.named_laws.specs.Named.{HasHomes, source_of};
 
-use closer_distributed::{CloserDflp, CloserDpcp};
+use closer_distributed::{CLOSER_DFLP, CLOSER_DPCP};
 use closer_fmlp::CLOSER_FMLP_PLUS;
 use closer_mpcp::CLOSER_MPCP;
-use closer_spin::CloserSpin;
+use closer_spin::CLOSER_SPIN;
 use dflp_protocol::Dflp;
 use protocol_names::ProtocolName;
 use protocol_programs::Written;
-use request_windows::DpcpWindows;
+use request_windows::DPCP_WINDOWS;
 use settling::{Exchanges, SettleStop, Settled, settle_by, settle_with};
 use spin_protocol::Spin;
 use sporadic_model::TaskSet;
@@ -42,11 +42,11 @@ pub fn settle<R: Threads + Sync>(
         }
         ProtocolName::Dflp => settle_with(rt, alloc, set, &Dflp, allowance),
         ProtocolName::Spin => settle_with(rt, alloc, set, &Spin, allowance),
-        ProtocolName::DpcpWindows => settle_with(rt, alloc, set, &DpcpWindows, allowance),
+        ProtocolName::DpcpWindows => settle_with(rt, alloc, set, &DPCP_WINDOWS, allowance),
         ProtocolName::FmlpPlusCloser => settle_with(rt, alloc, set, &CLOSER_FMLP_PLUS, allowance),
-        ProtocolName::SpinCloser => settle_with(rt, alloc, set, &CloserSpin, allowance),
-        ProtocolName::DpcpCloser => settle_with(rt, alloc, set, &CloserDpcp, allowance),
-        ProtocolName::DflpCloser => settle_with(rt, alloc, set, &CloserDflp, allowance),
+        ProtocolName::SpinCloser => settle_with(rt, alloc, set, &CLOSER_SPIN, allowance),
+        ProtocolName::DpcpCloser => settle_with(rt, alloc, set, &CLOSER_DPCP, allowance),
+        ProtocolName::DflpCloser => settle_with(rt, alloc, set, &CLOSER_DFLP, allowance),
         ProtocolName::MpcpCloser => settle_with(rt, alloc, set, &CLOSER_MPCP, allowance),
     }
 }

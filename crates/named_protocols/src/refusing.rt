@@ -9,17 +9,17 @@ ghost use Rattle.refusal_cert.specs.Steps.{refusal_of};
 ghost use Rattle.refusal_cert.specs.Answers.{Refutes, IsAnswerOf, FollowsAnalysis, IsRight};
 ghost use Rattle.named_laws.specs.Named.{HasHomes, source_of};
 
-use closer_distributed::{CloserDflp, CloserDpcp};
+use closer_distributed::{CLOSER_DFLP, CLOSER_DPCP};
 use closer_fmlp::CLOSER_FMLP_PLUS;
 use closer_mpcp::CLOSER_MPCP;
-use closer_spin::CloserSpin;
+use closer_spin::CLOSER_SPIN;
 use dflp_protocol::Dflp;
 use protocol_names::ProtocolName;
 use protocol_programs::Written;
 use refusal_cert::{Answer, RefuteStop};
 use refusal_confirm::Fault;
 use refusal_laws::Refusal;
-use request_windows::DpcpWindows;
+use request_windows::DPCP_WINDOWS;
 use spin_protocol::Spin;
 use sporadic_model::TaskSet;
 use std::alloc::Global;
@@ -43,16 +43,16 @@ pub fn refute(
         ProtocolName::Base(base) => refusal_cert::refute(alloc, set, &Written(base), allowance),
         ProtocolName::Dflp => refusal_cert::refute(alloc, set, &Dflp, allowance),
         ProtocolName::Spin => refusal_cert::refute(alloc, set, &Spin, allowance),
-        ProtocolName::DpcpWindows => refusal_cert::refute(alloc, set, &DpcpWindows, allowance),
+        ProtocolName::DpcpWindows => refusal_cert::refute(alloc, set, &DPCP_WINDOWS, allowance),
         ProtocolName::FmlpPlusCloser => refusal_cert::refute(
             alloc,
             set,
             &CLOSER_FMLP_PLUS,
             allowance,
         ),
-        ProtocolName::SpinCloser => refusal_cert::refute(alloc, set, &CloserSpin, allowance),
-        ProtocolName::DpcpCloser => refusal_cert::refute(alloc, set, &CloserDpcp, allowance),
-        ProtocolName::DflpCloser => refusal_cert::refute(alloc, set, &CloserDflp, allowance),
+        ProtocolName::SpinCloser => refusal_cert::refute(alloc, set, &CLOSER_SPIN, allowance),
+        ProtocolName::DpcpCloser => refusal_cert::refute(alloc, set, &CLOSER_DPCP, allowance),
+        ProtocolName::DflpCloser => refusal_cert::refute(alloc, set, &CLOSER_DFLP, allowance),
         ProtocolName::MpcpCloser => refusal_cert::refute(alloc, set, &CLOSER_MPCP, allowance),
     }
 }
@@ -86,7 +86,7 @@ pub fn confirm<R: Threads + Sync>(
             rt,
             alloc,
             set,
-            &DpcpWindows,
+            &DPCP_WINDOWS,
             refusal,
         ),
         ProtocolName::FmlpPlusCloser => refusal_confirm::confirm(
@@ -96,9 +96,9 @@ pub fn confirm<R: Threads + Sync>(
             &CLOSER_FMLP_PLUS,
             refusal,
         ),
-        ProtocolName::SpinCloser => refusal_confirm::confirm(rt, alloc, set, &CloserSpin, refusal),
-        ProtocolName::DpcpCloser => refusal_confirm::confirm(rt, alloc, set, &CloserDpcp, refusal),
-        ProtocolName::DflpCloser => refusal_confirm::confirm(rt, alloc, set, &CloserDflp, refusal),
+        ProtocolName::SpinCloser => refusal_confirm::confirm(rt, alloc, set, &CLOSER_SPIN, refusal),
+        ProtocolName::DpcpCloser => refusal_confirm::confirm(rt, alloc, set, &CLOSER_DPCP, refusal),
+        ProtocolName::DflpCloser => refusal_confirm::confirm(rt, alloc, set, &CLOSER_DFLP, refusal),
         ProtocolName::MpcpCloser => refusal_confirm::confirm(rt, alloc, set, &CLOSER_MPCP, refusal),
     }
 }

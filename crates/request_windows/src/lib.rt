@@ -11,6 +11,6 @@ mod searching;
 mod ticks;
 
 pub use laws::programs_are_small;
-pub use programs::program;
-pub use protocol::DpcpWindows;
+pub use programs::{DpcpWindowRows, program};
+pub use protocol::{DPCP_WINDOWS, DpcpWindows};
 pub use searching::window;

@@ -9,7 +9,6 @@ ghost use Rattle.blocking_columns.specs.Columns.{columns_of};
 ghost use Rattle.window_laws.specs.WindowRows.{windowed_rows, windowed_program};
 ghost use Rattle.window_laws.proofs.Programs.{windowed_is_program};
 
-use crate::protocol::DpcpWindows;
 use crate::rows::add_window_rows;
 use fragments::{Fragment, RowTaker, columns_stand_in_order, fragments};
 use program_form::Program;
@@ -46,7 +45,11 @@ fn add_rows<T: RowTaker>(
     Ok(())
 }
 
-impl ProgramParts for DpcpWindows {
+/// The columns of DPCP, and its rows with those of windows behind them.
+#[derive(Clone, Copy, Debug, PartialEq, Eq)]
+pub struct DpcpWindowRows;
+
+impl ProgramParts for DpcpWindowRows {
     ghost serves = { λ p. EachHasHome };
 
     ghost columns = { λ p. columns_of protocol.Dpcp };
@@ -83,5 +86,5 @@ pub fn program(
     requires within { AreWithinDeadlines set.now bounds.now }
     ensures { IfOk result (λ p. p ≡ windowed_program set.now i.0 bounds.now) }
 {
-    program_with(alloc, &DpcpWindows, set, i, bounds)
+    program_with(alloc, &DpcpWindowRows, set, i, bounds)
 }

@@ -1,152 +1,35 @@
-//! The protocol: DPCP's rules, columns and charges, with the programs that have rows of windows.
+//! The protocol: DPCP with the programs that have rows of windows.
 
 ghost use Rattle.std.specs.Prelude.{refl};
-ghost use Rattle.sporadic_model.specs.Homes.{EachHasHome};
-ghost use Rattle.sporadic_model.proofs.Laws.{formed_of_accepted};
-ghost use Rattle.sporadic_model.specs.declared.ids.Protocol.TheVariants as protocol;
-ghost use Rattle.schedule_model.specs.Protocols.{dpcp_rule};
-ghost use Rattle.schedule_model.specs.Chosen.{IsDpcpChoice};
-ghost use Rattle.schedule_model.specs.BlockedTicks.{is_dpcp_interference};
-ghost use Rattle.schedule_laws.proofs.DpcpLaws.{dpcp_one_of_three, dpcp_sound_row, dpcp_chosen_keeps};
-ghost use Rattle.schedule_laws.proofs.DpcpAgreement.{dpcp_rules_read, dpcp_choice_reads};
-ghost use Rattle.schedule_laws.proofs.TickAgreement.{dpcp_interference_agree};
-ghost use Rattle.schedule_laws.proofs.DpcpStretches.{dpcp_stays_lawful};
-ghost use Rattle.blocking_columns.specs.Columns.{columns_of as written_columns};
-ghost use Rattle.program_laws.proofs.WrittenPrograms.{interfering_least, interfering_most};
-ghost use Rattle.charge_laws.specs.Charges.{dpcp_charge};
-ghost use Rattle.charge_laws.proofs.DpcpCharging.{dpcp_charge_blocked};
-ghost use Rattle.charge_laws.proofs.Stretches.{dpcp_stays_charged};
-ghost use Rattle.row_laws.proofs.ChargedTicks.{dpcp_is_charged};
-ghost use Rattle.row_laws.proofs.InterferingCosts.{dpcp_interferes_within};
 ghost use Rattle.window_laws.specs.WindowRows.{windowed_source};
 ghost use Rattle.window_laws.proofs.Points.{windowed_point};
-ghost use Rattle.window_laws.proofs.Programs.{windowed_covered, windowed_rises, windowed_is_program};
+ghost use Rattle.window_laws.proofs.Programs.{windowed_covered, windowed_rises};
 
-use charged_protocols::ChargedProtocol;
+use crate::programs::DpcpWindowRows;
 use dpcp_rules::Dpcp;
-use fragments::Class;
-use phase_machine::{Judge, Machine};
-use program_form::{Program, SparseProgram};
-use program_sources::ProgramSource;
-use protocol_programs::{interference, limits_with, program_with, sparse_program_with};
-use schedule_model::{BlockingProtocol, JobId, Row, Rule};
-use sporadic_model::{Protocol, TaskId, TaskSet};
-use std::alloc::{AllocError, Global};
+use further_rows::{Closer, FurtherRows};
 
 /// The distributed priority ceiling protocol, analysed with windows of requests. It suits task sets in which each resource has a home.
-#[derive(Clone, Copy, Debug, PartialEq, Eq)]
-pub struct DpcpWindows;
+pub type DpcpWindows = Closer<Dpcp, DpcpWindowRows>;
 
-impl BlockingProtocol for DpcpWindows {
-    ghost suits = { λ p. EachHasHome };
+/// The protocol as a value.
+pub const DPCP_WINDOWS: DpcpWindows = Closer {
+    plain: Dpcp,
+    rows: DpcpWindowRows,
+};
 
-    ghost keeps = { λ p. dpcp_rule };
+impl FurtherRows<Dpcp> for DpcpWindowRows {
+    ghost source = { λ r. windowed_source };
 
-    ghost chooses = { λ p. IsDpcpChoice };
+    ghost served = { λ r p set suits. suits };
 
-    ghost interferes = { λ p. is_dpcp_interference };
+    ghost plain_columns = { λ r p set i. refl };
 
-    ghost one_of_three = { λ p w t j suits. dpcp_one_of_three w t j };
+    ghost further = { λ r p set. refl };
 
-    ghost sound_row = { λ p w t suits keeps. dpcp_sound_row w t keeps };
+    ghost covers = { λ r p set i bounds c suits here within. windowed_covered set i bounds c within };
 
-    ghost chosen_keeps = { λ p w t suits chosen. dpcp_chosen_keeps w t chosen };
-}
+    ghost rises = { λ r p set i low high suits here most. windowed_rises set i low high here most };
 
-impl Judge for DpcpWindows {
-    fn judge(&self, machine: &Machine, row: &Row) -> Result<(), Rule> {
-        Dpcp.judge(machine, row)
-    }
-
-    fn choose(&self, machine: &Machine, row: &mut Row) {
-        Dpcp.choose(machine, row);
-    }
-
-    fn blocked(&self, machine: &Machine, row: &Row, j: JobId) -> bool {
-        Dpcp.blocked(machine, row, j)
-    }
-
-    ghost rules_read = { λ p. dpcp_rules_read };
-
-    ghost choice_reads = { λ p. dpcp_choice_reads };
-
-    ghost ticks_read = { λ p. dpcp_interference_agree };
-
-    ghost stays_lawful = { λ p. dpcp_stays_lawful };
-}
-
-impl ProgramSource for DpcpWindows {
-    ghost serves = { λ p. EachHasHome };
-
-    ghost source = { λ p. windowed_source };
-
-    ghost covers = { λ p set i r c served here within. windowed_covered set i r c within };
-
-    ghost rises = { λ p set i r s served here most. windowed_rises set i r s here most };
-
-    ghost is_program = { λ p set i r served accepted here within. windowed_is_program set i r accepted here within };
-
-    ghost least = { λ p set h served here numbers. interfering_least protocol.Dpcp set h numbers };
-
-    ghost most = { λ p set h served here numbers. interfering_most protocol.Dpcp set h numbers };
-
-    fn program(
-        &self,
-        alloc: Global,
-        set: &TaskSet,
-        i: TaskId,
-        bounds: &[u64],
-    ) -> Result<Program, AllocError> {
-        program_with(alloc, self, set, i, bounds)
-    }
-
-    fn sparse_program(
-        &self,
-        alloc: Global,
-        set: &TaskSet,
-        i: TaskId,
-        bounds: &[u64],
-    ) -> Result<SparseProgram, AllocError> {
-        sparse_program_with(alloc, self, set, i, bounds)
-    }
-
-    fn limits(
-        &self,
-        alloc: Global,
-        set: &TaskSet,
-        i: TaskId,
-        bounds: &[u64],
-    ) -> Result<Vec<u64>, AllocError> {
-        limits_with(alloc, self, set, i, bounds)
-    }
-
-    fn interference(&self, set: &TaskSet, i: TaskId, bounds: &[u64]) -> u64 {
-        interference(set, Protocol::Dpcp, i, bounds)
-    }
-}
-
-impl ChargedProtocol for DpcpWindows {
-    ghost columns_of = { λ p. written_columns protocol.Dpcp };
-
-    ghost charges = { λ p. dpcp_charge };
-
-    fn charged(&self, machine: &Machine, row: &Row, j: JobId) -> Option<(JobId, Class)> {
-        Dpcp.charged(machine, row, j)
-    }
-
-    ghost served = { λ p set suits. suits };
-
-    ghost worth = { λ p set i bounds suits here. refl };
-
-    ghost interferes_within = { λ p w n y suits keeps lawful. dpcp_interferes_within w n y keeps lawful };
-
-    ghost charges_blocked = { λ p w n t j suits lawful keeps early blocked. dpcp_is_charged w n t j lawful keeps early blocked };
-
-    ghost charges_only = { λ p. dpcp_charge_blocked };
-
-    ghost stays_charged = { λ p. dpcp_stays_charged EachHasHome dpcp_rule };
-
-    ghost meets_rows = { λ p w bounds n j suits accepted lawful keeps listed ended.
-        windowed_point w bounds n j (record { formed = formed_of_accepted w.set accepted; lawful = lawful; listed = listed; ended = ended })
-        keeps };
+    ghost meets_rows = { λ r p w bounds n j suits within keeps. windowed_point w bounds n j within keeps };
 }
