@@ -1,0 +1,6 @@
+use Rattle.window_laws.proofs.Least.{Found}
+use Rattle.mpcp_window_laws.proofs.Rising.{window_rises}
+use Rattle.mpcp_window_laws.proofs.windows_rise_with_bounds.Goals as goal
+
+pub returns : goal.returns
+returns c = λ set r s i q b h e. let f = window_rises set r s i q b h e in (f.least, f.is_it, f.at_most)

@@ -1,0 +1,2 @@
+pub mod MpcpWindows
+pub mod Worked

@@ -1,0 +1,44 @@
+//! Windows of waits under MPCP, and what is true of them.
+//!
+//! A window bounds how long a request waits until it is granted. It is the least number of ticks that is at least as long as other tasks may
+//! hold the resource in that many ticks.
+//!
+//! Each function here does nothing: its contract is a law. The lemmas that prove it are in `proofs/`.
+#![tactic(auto)]
+
+ghost use Rattle.std.specs.Prelude.{◌≡◌, ℕ, ◌+◌, ◌<◌, ◌≤◌, false, [], ◌∷◌, slice_index, Some};
+ghost use Rattle.sporadic_model.specs.SetDef.{SetDef};
+ghost use Rattle.sporadic_model.specs.Accepted.{IsAccepted};
+ghost use Rattle.schedule_model.specs.LawfulJobs.{AreLawfulJobs};
+ghost use Rattle.schedule_model.specs.RowDef.{Trace, jobs_of};
+ghost use Rattle.schedule_model.specs.Phase.{phase_of};
+ghost use Rattle.schedule_model.specs.Phase.Phase.{Asking};
+ghost use Rattle.schedule_model.specs.Activity.{task_of, is_ready, issue_tick_of};
+ghost use Rattle.schedule_model.specs.Ranks.{mpcp};
+ghost use Rattle.schedule_model.specs.Protocols.{shared_rule};
+ghost use Rattle.schedule_model.specs.Keeping.{KeepsBefore};
+ghost use Rattle.charge_laws.specs.Windows.{EndedBy};
+ghost use Rattle.mpcp_window_laws.specs.MpcpWindows.{wait_window};
+ghost use Rattle.mpcp_window_laws.specs.Worked.{for_q, for_r, three_users};
+
+/// Take a request in a lawful schedule of an accepted set, under MPCP. Let each job whose release plus bound has passed by the issue of the
+/// request be finished by its own release plus its bound. Then the request doesn't wait at any tick that is its window or more after its
+/// issue: its job holds the resource there, or has ended the request.
+pub fn a_request_waits_less_than_its_window()
+    ensures { (w : Trace) (bound : ℕ → ℕ) (n t j m q b : ℕ) → IsAccepted w.set → AreLawfulJobs (jobs_of w)
+        → KeepsBefore (shared_rule mpcp) w n → t < n → phase_of w t j ≡ Asking m q → is_ready w t j ≡ false
+        → EndedBy w bound (issue_tick_of w t j) → wait_window w.set bound (task_of w j) q ≡ Some b → t < issue_tick_of w t j + b }
+{}
+
+/// No window falls when the bounds of the higher tasks rise. Here `r` is at most `s`. A request that has a window at `s` has one at `r`, and
+/// it isn't longer.
+pub fn windows_rise_with_bounds()
+    ensures { (set : SetDef) (r s : ℕ → ℕ) (i q b : ℕ) → ((x : ℕ) → x < i → r x ≤ s x) → wait_window set s i q ≡ Some b
+        → (a : ℕ) × (wait_window set r i q ≡ Some a) × (a ≤ b) }
+{}
+
+/// The window of the highest task's request of q in a worked set of three tasks. A lower task may hold q for 2 ticks, and another one of its
+/// processor may run a request of 3 ticks meanwhile.
+pub fn a_worked_wait_has_its_window()
+    ensures { wait_window (three_users (for_q 1 ∷ for_r 1 ∷ []) 0) (slice_index (15 ∷ 30 ∷ 40 ∷ [])) 0 0 ≡ Some 5 }
+{}
