@@ -1,5 +1,5 @@
 -- A request waits less than each number of ticks that is enough for it.
-use Rattle.std.proofs.Common.{◌≡◌, ℕ, suc, ◌+◌, ◌<◌, ◌≤◌, ◌==◌, Bool, true, false, arith, inl, inr, Some, nat_lt, refl}
+use Rattle.std.proofs.Common.{◌≡◌, ℕ, suc, ◌+◌, ◌<◌, ◌≤◌, true, false, arith, inl, inr, Some, nat_lt, refl}
 use Rattle.std.proofs.lemmas.Bool.{cases_lt, eq-eqb, lt-ltb, ltb-true}
 use Rattle.number_laws.specs.Sums.{sum_below, flag}
 use Rattle.number_laws.specs.Tests.{count_below}

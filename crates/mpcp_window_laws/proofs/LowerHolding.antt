@@ -1,19 +1,17 @@
 -- During a wait under MPCP a lower job holds the resource only if it held it at the issue. So it is one holding.
-use Rattle.std.proofs.Common.{◌≡◌, ℕ, suc, ◌+◌, ◌<◌, ◌≤◌, ◌&&◌, not, Bool, true, false, length, refl, sym, ap, ◌∙◌}
+use Rattle.std.proofs.Common.{◌≡◌, ℕ, suc, ◌+◌, ◌<◌, ◌≤◌, Bool, true, false, length, refl, sym, ap, ◌∙◌}
 use Rattle.std.proofs.Common.{arith, inl, inr, Some, nat_lt}
 use Rattle.std.proofs.lemmas.Bool.{cases_Bool, and_from, eq-eqb, eqb-true, lt-ltb, ltb-true, not_from_false}
 use Rattle.number_laws.specs.Sums.{flag, only_if}
 use Rattle.number_laws.specs.Tests.{count_below}
 use Rattle.number_laws.proofs.SumLaws.{sum_below-none_or_some}
 use Rattle.number_laws.proofs.CountLaws.{count_below-monotone, flag-passes}
-use Rattle.sporadic_model.specs.SetDef.{task_at}
-use Rattle.sporadic_model.specs.Users.{is_user}
 use Rattle.schedule_model.specs.JobDef.{job_of}
 use Rattle.schedule_model.specs.LawfulJobs.{IsLawfulJob}
 use Rattle.schedule_model.specs.RowDef.{Trace, holder_in}
 use Rattle.schedule_model.specs.Phase.{phase_of}
 use Rattle.schedule_model.specs.Phase.Phase.{Local, Asking}
-use Rattle.schedule_model.specs.Activity.{task_of, is_active}
+use Rattle.schedule_model.specs.Activity.{task_of}
 use Rattle.schedule_model.specs.Ranks.{mpcp}
 use Rattle.schedule_laws.specs.Counting.{is_request}
 use Rattle.schedule_laws.proofs.ActiveJobs.{active_listed, Requester}

@@ -17,7 +17,7 @@ use Rattle.schedule_model.specs.JobDef.{job_of}
 use Rattle.schedule_model.specs.LawfulJobs.{IsLawfulJob}
 use Rattle.schedule_model.specs.RowDef.{Trace, is_job, running_on, holder_in, runs_in}
 use Rattle.schedule_model.specs.Phase.{phase_of}
-use Rattle.schedule_model.specs.Phase.Phase.{Local, Asking}
+use Rattle.schedule_model.specs.Phase.Phase.{Asking}
 use Rattle.schedule_model.specs.Activity.{task_of, processor_of, is_active, is_ready_holder, is_ready}
 use Rattle.schedule_model.specs.SharedRules.{KeepsRun, KeepsPriority}
 use Rattle.schedule_model.specs.Ranks.{mpcp}
@@ -27,7 +27,7 @@ use Rattle.schedule_laws.proofs.Counts.{request_at_most}
 use Rattle.schedule_laws.proofs.Holders.{shared_holder_stays}
 use Rattle.schedule_laws.proofs.RuleUses.{ready_busy}
 use Rattle.schedule_laws.proofs.Rows.{job_named, runs_from, ReadyHolder, ready_holder_is, ready_holder_from, ready_holding}
-use Rattle.schedule_laws.proofs.Segments.{open_listed, open_resource}
+use Rattle.schedule_laws.proofs.Segments.{open_resource}
 use Rattle.schedule_laws.proofs.SharedLaws.{shared_runs_active}
 use Rattle.schedule_laws.proofs.Ticks.{open_between}
 use Rattle.blocking_columns.specs.Columns.{may_run_before}

@@ -1,10 +1,9 @@
 -- What is held and what runs while a request waits under MPCP.
-use Rattle.std.proofs.Common.{◌≡◌, ℕ, suc, ◌<◌, ◌≤◌, ◌==◌, Bool, true, false, length, refl, sym, ap, ◌∙◌, arith, inl, inr, Some}
+use Rattle.std.proofs.Common.{◌≡◌, ℕ, ◌<◌, ◌≤◌, true, false, length, refl, sym, ap, ◌∙◌, arith, inl, inr, Some}
 use Rattle.std.specs.Option.{option_map_or}
 use Rattle.std.proofs.lemmas.Bool.{cases_Bool, both_ways}
 use Rattle.sporadic_model.specs.SetDef.{task_at}
 use Rattle.schedule_model.specs.declared.rule.Rule.TheVariants as rule
-use Rattle.schedule_model.specs.JobDef.{job_of}
 use Rattle.schedule_model.specs.LawfulJobs.{AreLawfulJobs}
 use Rattle.schedule_model.specs.RowDef.{Trace, jobs_of, holder_in}
 use Rattle.schedule_model.specs.Phase.{phase_of}

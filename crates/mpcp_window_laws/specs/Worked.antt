@@ -1,5 +1,5 @@
 -- A worked set, and how many ticks are enough for a wait in it.
-use Rattle.std.specs.Prelude.{◌≡◌, refl, ℕ, true, false, List, [], ◌∷◌, Some, None, slice_index}
+use Rattle.std.specs.Prelude.{◌≡◌, refl, ℕ, true, false, List, [], ◌∷◌, None, slice_index}
 use Rattle.sporadic_model.specs.SetDef.{SetDef, TaskDef, RequestDef}
 use Rattle.mpcp_window_laws.specs.MpcpWindows.{longest_first, holding_ticks, longest_lower_holding, ticks_held, is_enough_wait}
 

@@ -1,4 +1,3 @@
-use Rattle.window_laws.proofs.Least.{Found}
 use Rattle.mpcp_window_laws.proofs.Rising.{window_rises}
 use Rattle.mpcp_window_laws.proofs.windows_rise_with_bounds.Goals as goal
 
