@@ -1,16 +1,13 @@
 -- During a wait under MPCP few jobs of a higher task hold the resource, each as often as it may request it.
-use Rattle.std.proofs.Common.{◌≡◌, ℕ, suc, ◌+◌, ◌-◌, ◌*◌, ◌<◌, ◌≤◌, ◌==◌, Bool, true, List, length, get_or, refl, sym}
+use Rattle.std.proofs.Common.{◌≡◌, ℕ, suc, ◌+◌, ◌-◌, ◌*◌, ◌<◌, ◌≤◌, ◌==◌, Bool, true, length, refl, sym}
 use Rattle.std.proofs.Common.{ap, ◌∙◌, arith, inl, inr, Some}
-use Rattle.std.proofs.Math.Nat.{mul-le-mul_right}
 use Rattle.std.proofs.lemmas.Bool.{cases_lt, cases_Bool, and_from, eq-eqb, eqb-true}
 use Rattle.number_laws.specs.Sums.{sum_below, flag, only_if}
 use Rattle.number_laws.specs.Tests.{count_below}
 use Rattle.number_laws.proofs.SumLaws.{sum_below-monotone, only_if-at_most}
 use Rattle.number_laws.proofs.CountLaws.{flag-passes, flag-at_most}
-use Rattle.number_laws.proofs.ListCounts.{count_by-places}
 use Rattle.sporadic_model.specs.Users.{count_of}
-use Rattle.schedule_model.specs.JobDef.{SegmentDef, job_of, no_segment, asks_for, number_of_requests}
-use Rattle.schedule_model.specs.LawfulJobs.{IsLawfulJob}
+use Rattle.schedule_model.specs.JobDef.{job_of}
 use Rattle.schedule_model.specs.RowDef.{Trace, holder_in, running_on}
 use Rattle.schedule_model.specs.Phase.{is_same_request, phase_of}
 use Rattle.schedule_model.specs.Phase.Phase.{Asking}
@@ -22,16 +19,16 @@ use Rattle.schedule_laws.specs.LocalRuns.{LocalRun}
 use Rattle.schedule_laws.proofs.ActiveJobs.{active_listed}
 use Rattle.schedule_laws.proofs.Holders.{open_active}
 use Rattle.schedule_laws.proofs.Rows.{named_job, runs_where}
-use Rattle.schedule_laws.proofs.Segments.{RequestAt, open_segment}
 use Rattle.schedule_laws.proofs.SharedLaws.{shared_runs_active}
 use Rattle.schedule_laws.proofs.Ticks.{local_run_before, same_true}
 use Rattle.schedule_model.specs.LawfulJobs.{is_script}
-use Rattle.row_laws.proofs.Brings.{only_if-parts, sum_below-passing}
+use Rattle.row_laws.proofs.Brings.{only_if-parts}
 use Rattle.row_laws.proofs.JobRows.{ActiveIn, paid_in_span}
 use Rattle.row_laws.proofs.Numbers.{number_of}
 use Rattle.mpcp_window_laws.specs.MpcpWindows.{holding_ticks, ticks_held_by}
 use Rattle.mpcp_window_laws.proofs.Waiting.{Waiting, holder_of, HeldByOther, held_by_other}
 use Rattle.mpcp_window_laws.proofs.OneHolding.{is_holding, one_holding}
+use Rattle.mpcp_window_laws.proofs.RequestSlots.{by_own_request}
 
 -- Is the holder a job of task x?
 abbrev pub is_held_by : Trace → ℕ → ℕ → ℕ → Bool
@@ -73,45 +70,23 @@ job_holdings : (w : Trace) (bound : ℕ → ℕ) (n u v j m q x z span : ℕ) �
     → z < length w.jobs → task_of w z ≡ x
     → sum_below span (λ d. held_by_job w q x z (u + d)) ≤ count_of w.set x q * holding_ticks w.set (task_of w j) q x
 job_holdings w bound n u v j m q x z span a long listed task =
-    let all : sum_below span (λ d. held_by_job w q x z (u + d)) ≤ count_below (length script) asks * holding =
-    sum_below-passing span (length script) holding (λ d. number_of (phase_of w (u + d) z)) (λ d. held_by_job w q x z (u + d)) asks
-    (λ d l some. within d l some) (λ k l passes. slot k) in
-    let number : number_of_requests script q ≡ count_below (length script) asks = count_by-places (asks_for q) no_segment script in
-    let most : number_of_requests script q ≤ count_of w.set x q = rw task at (job.count q) in
-    let fewer : count_below (length script) asks ≤ count_of w.set x q = omega (arith, number, most) in
-    omega (arith, all, mul-le-mul_right holding fewer) where
-      job : IsLawfulJob w.set (job_of w.jobs z)
-      job = a.lawful.each z listed
-
-      script : List SegmentDef
-      script = (job_of w.jobs z).script
-
-      holding : ℕ
-      holding = holding_ticks w.set (task_of w j) q x
-
-      asks : ℕ → Bool
-      asks = λ k. asks_for q (get_or script k no_segment)
-
-      within : (d : ℕ) → d < span → 0 < held_by_job w q x z (u + d)
-          → (number_of (phase_of w (u + d) z) < length script) × (asks (number_of (phase_of w (u + d) z)) ≡ true)
-      within d l some =
+    rw task at (by_own_request w span z q (holding_ticks w.set (task_of w j) q (task_of w z)) (λ d. u + d)
+    (λ d. held_by_job w q x z (u + d)) (a.lawful.each z listed) (λ d l some. in_request d l some) (λ k. slot k)) where
+      in_request : (d : ℕ) → d < span → 0 < held_by_job w q x z (u + d) → (k : ℕ) × (phase_of w (u + d) z ≡ Asking k q)
+      in_request d l some =
           let h : HeldByOther w (u + d) j q = held_by_other w bound n u v j m q (u + d) a (omega arith) (omega (arith, l, long)) in
           let parts : ((holder_of w q (u + d) == z) ≡ true) × _ = only_if-parts _ _ some in
-          let phase : phase_of w (u + d) z ≡ Asking h.number q =
-          ap (phase_of w (u + d)) (sym (eqb-true (holder_of w q (u + d)) z parts.0)) ∙ h.asks in
-          let at : RequestAt script h.number q = open_segment w (u + d) z h.number q phase in
-          rw phase (at.within, at.asks)
+          (h.number, ap (phase_of w (u + d)) (sym (eqb-true (holder_of w q (u + d)) z parts.0)) ∙ h.asks)
 
-      slot : (k : ℕ) → sum_below span (λ d. only_if (number_of (phase_of w (u + d) z) == k) (held_by_job w q x z (u + d))) ≤ holding
+      slot : (k : ℕ) → sum_below span (λ d. only_if (number_of (phase_of w (u + d) z) == k) (held_by_job w q x z (u + d)))
+          ≤ holding_ticks w.set (task_of w j) q (task_of w z)
       slot k =
           let most : sum_below span (λ d. only_if (number_of (phase_of w (u + d) z) == k) (held_by_job w q x z (u + d)))
           ≤ count_below span (λ d. is_holding w q z k (u + d)) =
           sum_below-monotone span (λ d. only_if (number_of (phase_of w (u + d) z) == k) (held_by_job w q x z (u + d)))
           (λ d. flag (is_holding w q z k (u + d)))
           (λ d l. number_term w bound n u v j m q x z k (u + d) a (omega arith) (omega (arith, l, long))) in
-          let whole : count_below span (λ d. is_holding w q z k (u + d)) ≤ holding =
-          rw task at (one_holding w bound n u v j m q z k span a long listed) in
-          omega (arith, most, whole)
+          omega (arith, most, one_holding w bound n u v j m q z k span a long listed)
 
 -- A job in a request was active the tick before.
 active_before : (w : Trace) (n t z k q : ℕ) → RunsActiveBefore w n → t < n → is_script (job_of w.jobs z).script ≡ true

@@ -1,7 +1,10 @@
 pub mod Waiting
 pub mod OneHolding
+pub mod RequestSlots
 pub mod HigherHoldings
 pub mod LowerHolding
 pub mod Granting
 pub mod Rising
+pub mod PaidInWaits
+pub mod DirectInWaits
 pub mod WorkedWindows
