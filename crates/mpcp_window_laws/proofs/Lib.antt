@@ -2,6 +2,7 @@ pub mod Waiting
 pub mod OneHolding
 pub mod RequestSlots
 pub mod HigherHoldings
+pub mod InsteadOfHigher
 pub mod LowerHolding
 pub mod Granting
 pub mod Rising

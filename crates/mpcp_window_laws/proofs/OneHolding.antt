@@ -70,22 +70,22 @@ holding_is w bound n u v j m q z k t a to h =
     }
 
 -- Job z holds q, and a request of x that goes first runs on its processor.
-record Instead (w : Trace) (q z k x t : ℕ) : Type 0 where
-  job : ℕ
-  runs : running_on (w.row t) (processor_of w z) ≡ Some job
-  task : task_of w job ≡ x
-  place : processor_of w job ≡ processor_of w z
-  active : is_active w t job ≡ true
-  number : ℕ
-  resource : ℕ
-  asks : phase_of w t job ≡ Asking number resource
-  first : goes_first w.set x resource q ≡ true
-  holds : Holds w q z k t
+pub record Instead (w : Trace) (q z k x t : ℕ) : Type 0 where
+  pub job : ℕ
+  pub runs : running_on (w.row t) (processor_of w z) ≡ Some job
+  pub task : task_of w job ≡ x
+  pub place : processor_of w job ≡ processor_of w z
+  pub active : is_active w t job ≡ true
+  pub number : ℕ
+  pub resource : ℕ
+  pub asks : phase_of w t job ≡ Asking number resource
+  pub first : goes_first w.set x resource q ≡ true
+  pub holds : Holds w q z k t
 
-abbrev is_instead : Trace → ℕ → ℕ → ℕ → ℕ → ℕ → Bool
+abbrev pub is_instead : Trace → ℕ → ℕ → ℕ → ℕ → ℕ → Bool
 is_instead w q z k x t = is_holding w q z k t && is_by w (processor_of w z) x t
 
-instead_is : (w : Trace) (bound : ℕ → ℕ) (n u v j m q z k x t : ℕ) → Waiting w bound n u v j m q → t ≤ v
+pub instead_is : (w : Trace) (bound : ℕ → ℕ) (n u v j m q z k x t : ℕ) → Waiting w bound n u v j m q → t ≤ v
     → may_run_instead w.set (task_of w j) (task_of w z) x ≡ true → is_instead w q z k x t ≡ true → Instead w q z k x t
 instead_is w bound n u v j m q z k x t a to may h = record {
   job = r;
@@ -151,7 +151,7 @@ one_instead w bound n u v j m q z k x s t c order to a b =
     (open_between w s e t z k q q a.holds.asks b.holds.asks from (omega (arith, before))) a.holds.holder) b.place local runs)
 
 -- So x runs no longer than one request that goes first may last.
-instead_ticks : (w : Trace) (bound : ℕ → ℕ) (n u v j m q z k x span : ℕ) → Waiting w bound n u v j m q → u + span ≤ suc v
+pub instead_ticks : (w : Trace) (bound : ℕ → ℕ) (n u v j m q z k x span : ℕ) → Waiting w bound n u v j m q → u + span ≤ suc v
     → may_run_instead w.set (task_of w j) (task_of w z) x ≡ true
     → count_below span (λ d. is_instead w q z k x (u + d)) ≤ longest_first w.set x q
 unfolding executed_in
@@ -208,6 +208,55 @@ instead_ticks w bound n u v j m q z k x span c long may =
                 ∙ and_from _ _ (eq-eqb first.number first.number refl) (eq-eqb first.resource first.resource refl))
 
 -- At each tick of the holding its own request runs, or one of such a task.
+pub record RunsInstead (w : Trace) (t j z : ℕ) : Type 0 where
+  pub job : ℕ
+  pub runs : running_on (w.row t) (processor_of w z) ≡ Some job
+  pub known : task_of w job < length w.set.tasks
+  pub may : may_run_instead w.set (task_of w j) (task_of w z) (task_of w job) ≡ true
+
+pub runs_instead : (w : Trace) (bound : ℕ → ℕ) (n u v j m q z k t : ℕ) → Waiting w bound n u v j m q → u ≤ t → t ≤ v → Holds w q z k t
+    → runs_in (w.row t) z ≡ false → RunsInstead w t j z
+runs_instead w bound n u v j m q z k t a from to holds stands = record {
+  job = r;
+  runs = busy.1;
+  known = (a.lawful.each r (active_listed w t r runner.active)).task;
+  may = and_from _ _ (and_from _ _ (not_from_false _ (ne_eqb (task_of w r) (task_of w z) not_holder))
+      (eq-eqb (processor_of w r) (processor_of w z) place))
+      (not_from_false _ (ne_eqb (task_of w r) (task_of w j) not_waiting));
+} where
+  l : t < n
+  l = omega (arith, a.within, to)
+
+  busy : (r : ℕ) × (running_on (w.row t) (processor_of w z) ≡ Some r)
+  busy = ready_busy w t z (a.keeps t l rule.Idle) (ready_holding w t z holds.ready)
+
+  r : ℕ
+  r = busy.0
+
+  holder : is_ready_holder w t r ≡ true
+  holder =
+      let priority : KeepsPriority mpcp w t = a.keeps t l rule.Priority in
+      (priority.holders (processor_of w z) r busy.1 z (active_listed w t z holds.active) refl holds.ready).0
+
+  runner : ReadyHolder w t r
+  runner = ready_holder_is w t r holder
+
+  place : processor_of w r ≡ processor_of w z
+  place = let run : KeepsRun w t = a.keeps t l rule.Run in sym (run.column (processor_of w z) r busy.1)
+
+  not_holder : (task_of w r ≡ task_of w z) → ⊥
+  not_holder e =
+      let same : r ≡ z = one_active w t r z runner.active holds.active e in
+      both_ways (runs_in (w.row t) z) stands
+      (ap (runs_in (w.row t)) (sym same) ∙ runs_from (w.row t) (processor_of w z) r busy.1)
+
+  not_waiting : (task_of w r ≡ task_of w j) → ⊥
+  not_waiting e =
+      let same : r ≡ j =
+      one_active w t r j runner.active (waiting_active w bound n u v j m q t a from to) e in
+      both_ways (is_ready w t j) (waiting_unready w bound n u v j m q t a from to)
+      (ap (is_ready w t) (sym same) ∙ ready_holding w t r holder)
+
 abbrev is_own : Trace → ℕ → ℕ → ℕ → ℕ → Bool
 is_own w q z k t = runs_in (w.row t) z && is_request k q (phase_of w t z)
 
@@ -218,62 +267,27 @@ own_or_instead : (w : Trace) (bound : ℕ → ℕ) (n u v j m q z k t : ℕ) →
     → flag (is_holding w q z k t) ≤ flag (is_own w q z k t) + sum_below (length w.set.tasks) (instead_at w j q z k t)
 own_or_instead w bound n u v j m q z k t a from to = elim (cases_Bool (is_holding w q z k t)) [
   | inr off ↦ rw off (omega arith)
-  | inl on ↦ go on (holding_is w bound n u v j m q z k t a to on)
-] where
-  l : t < n
-  l = omega (arith, a.within, to)
-
-  go : is_holding w q z k t ≡ true → Holds w q z k t
-      → flag (is_holding w q z k t) ≤ flag (is_own w q z k t) + sum_below (length w.set.tasks) (instead_at w j q z k t)
-  go on holds = elim (cases_Bool (runs_in (w.row t) z)) [
+  | inl on ↦ elim (cases_Bool (runs_in (w.row t) z)) [
     | inl runs ↦
         let asks : is_request k q (phase_of w t z) ≡ true =
         (and_parts (is_job z (holder_in (w.row t) q)) (is_request k q (phase_of w t z)) on).1 in
         let own : flag (is_own w q z k t) ≡ 1 = rw (runs, asks) refl in
         omega (arith, own, flag-at_most (is_holding w q z k t))
-    | inr stands ↦
-        let busy : (r : ℕ) × (running_on (w.row t) (processor_of w z) ≡ Some r) =
-        ready_busy w t z (a.keeps t l rule.Idle) (ready_holding w t z holds.ready) in
-        other stands busy.0 busy.1
-  ] where
-    other : runs_in (w.row t) z ≡ false → (r : ℕ) → running_on (w.row t) (processor_of w z) ≡ Some r
-        → flag (is_holding w q z k t) ≤ flag (is_own w q z k t) + sum_below (length w.set.tasks) (instead_at w j q z k t)
-    other stands r runs =
-        let by : is_by w (processor_of w z) (task_of w r) t ≡ true = rw (runs, eq-eqb (task_of w r) (task_of w r) refl) refl in
-        let one : instead_at w j q z k t (task_of w r) ≡ 1 = rw (may, on, by) refl in
-        let term : instead_at w j q z k t (task_of w r) ≤ sum_below (length w.set.tasks) (instead_at w j q z k t) =
-        sum_below-term (length w.set.tasks) (instead_at w j q z k t) (task_of w r)
-        (a.lawful.each r (active_listed w t r runner.active)).task in
-        omega (arith, one, term, flag-at_most (is_holding w q z k t)) where
-          priority : KeepsPriority mpcp w t
-          priority = a.keeps t l rule.Priority
-
-          holder : is_ready_holder w t r ≡ true
-          holder = (priority.holders (processor_of w z) r runs z (active_listed w t z holds.active) refl holds.ready).0
-
-          runner : ReadyHolder w t r
-          runner = ready_holder_is w t r holder
-
-          place : processor_of w r ≡ processor_of w z
-          place = let run : KeepsRun w t = a.keeps t l rule.Run in sym (run.column (processor_of w z) r runs)
-
-          not_holder : (task_of w r ≡ task_of w z) → ⊥
-          not_holder e =
-              let same : r ≡ z = one_active w t r z runner.active holds.active e in
-              both_ways (runs_in (w.row t) z) stands
-              (ap (runs_in (w.row t)) (sym same) ∙ runs_from (w.row t) (processor_of w z) r runs)
-
-          not_waiting : (task_of w r ≡ task_of w j) → ⊥
-          not_waiting e =
-              let same : r ≡ j =
-              one_active w t r j runner.active (waiting_active w bound n u v j m q t a from to) e in
-              both_ways (is_ready w t j) (waiting_unready w bound n u v j m q t a from to)
-              (ap (is_ready w t) (sym same) ∙ ready_holding w t r holder)
-
-          may : may_run_instead w.set (task_of w j) (task_of w z) (task_of w r) ≡ true
-          may = and_from _ _ (and_from _ _ (not_from_false _ (ne_eqb (task_of w r) (task_of w z) not_holder))
-              (eq-eqb (processor_of w r) (processor_of w z) place))
-              (not_from_false _ (ne_eqb (task_of w r) (task_of w j) not_waiting))
+    | inr stands ↦ other on (runs_instead w bound n u v j m q z k t a from to (holding_is w bound n u v j m q z k t a to on) stands)
+  ]
+] where
+  other : is_holding w q z k t ≡ true → RunsInstead w t j z
+      → flag (is_holding w q z k t) ≤ flag (is_own w q z k t) + sum_below (length w.set.tasks) (instead_at w j q z k t)
+  other on r =
+      let by : is_by w (processor_of w z) (task_of w r.job) t ≡ true =
+      rw (r.runs, eq-eqb (task_of w r.job) (task_of w r.job) refl) refl in
+      let one : instead_at w j q z k t (task_of w r.job) ≡ 1 = rw (r.may, on, by) refl in
+      omega (
+        arith,
+        one,
+        sum_below-term (length w.set.tasks) (instead_at w j q z k t) (task_of w r.job) r.known,
+        flag-at_most (is_holding w q z k t),
+      )
 
 -- So one holding lasts no longer than the set allows.
 pub one_holding : (w : Trace) (bound : ℕ → ℕ) (n u v j m q z k span : ℕ) → Waiting w bound n u v j m q → u + span ≤ suc v

@@ -1,13 +1,13 @@
 -- The window of a request under MPCP: within how many ticks of its issue is it granted? While it waits, jobs of other tasks hold its
 -- resource, one after another. In each, i is the task that waits for resource q.
-use Rattle.std.specs.Prelude.{ℕ, suc, ◌+◌, ◌*◌, ◌==◌, ◌&&◌, not, Bool, nat_lt, nat_le, length, Option}
+use Rattle.std.specs.Prelude.{ℕ, suc, ◌+◌, ◌*◌, ◌==◌, ◌&&◌, not, Bool, nat_lt, nat_le, length, min, Option}
 use Rattle.number_laws.specs.Sums.{sum_below, only_if}
 use Rattle.number_laws.specs.Tests.{found_below}
 use Rattle.sporadic_model.specs.SetDef.{SetDef, task_at}
 use Rattle.sporadic_model.specs.Users.{count_of, length_of, is_user}
 use Rattle.schedule_model.specs.Measures.{greatest_below}
 use Rattle.blocking_columns.specs.Columns.{have_one_processor}
-use Rattle.blocking_columns.specs.Windows.{jobs_during}
+use Rattle.blocking_columns.specs.Windows.{jobs_during, requests_during}
 use Rattle.indirect_constraints.specs.Rows.{is_beside}
 use Rattle.closer_mpcp_laws.specs.CloserMpcpRows.{goes_first}
 
@@ -33,13 +33,27 @@ abbrev pub longest_lower_holding : SetDef → ℕ → ℕ → ℕ
 longest_lower_holding set i q =
     greatest_below (length set.tasks) (λ y. only_if (may_hold_before set i q y) (holding_ticks set i q y))
 
--- For how many ticks may jobs of the higher task x hold q, if they run in the w ticks from the issue on?
-abbrev pub ticks_held_by : SetDef → (ℕ → ℕ) → ℕ → ℕ → ℕ → ℕ → ℕ
-ticks_held_by set bounds i q w x = jobs_during set bounds w x * (count_of set x q * holding_ticks set i q x)
+-- For how many ticks may the requests of q run that jobs of x make in the w ticks from the issue on?
+abbrev pub own_ticks : SetDef → (ℕ → ℕ) → ℕ → ℕ → ℕ → ℕ
+own_ticks set bounds q w x = jobs_during set bounds w x * (count_of set x q * length_of set x q)
 
--- And for how many ticks may other tasks hold q in all? A lower task holds it at most once.
+-- How often may jobs of higher tasks hold q in these ticks so that x may run instead?
+abbrev pub holdings_beside : SetDef → (ℕ → ℕ) → ℕ → ℕ → ℕ → ℕ → ℕ
+holdings_beside set bounds i q w x = sum_below i (λ y. only_if (may_run_instead set i y x) (requests_during set bounds w y q))
+
+-- For how many ticks may all requests of one job of x last that go first?
+abbrev pub time_first : SetDef → ℕ → ℕ → ℕ
+time_first set x q = sum_below (length set.resources) (λ r. only_if (goes_first set x r q) (count_of set x r * length_of set x r))
+
+-- For how many ticks may x run instead of these holders? One request in each such holding, and no more than its jobs make.
+abbrev pub ticks_instead : SetDef → (ℕ → ℕ) → ℕ → ℕ → ℕ → ℕ → ℕ
+ticks_instead set bounds i q w x =
+    min (holdings_beside set bounds i q w x * longest_first set x q) (jobs_during set bounds w x * time_first set x q)
+
+-- For how many ticks may other tasks hold q in all, with the jobs that run in the w ticks from the issue on? A lower task holds it once.
 abbrev pub ticks_held : SetDef → (ℕ → ℕ) → ℕ → ℕ → ℕ → ℕ
-ticks_held set bounds i q w = longest_lower_holding set i q + sum_below i (ticks_held_by set bounds i q w)
+ticks_held set bounds i q w =
+    longest_lower_holding set i q + (sum_below i (own_ticks set bounds q w) + sum_below (length set.tasks) (ticks_instead set bounds i q w))
 
 -- Are w ticks enough: at least one, and as many as q may be held by others?
 abbrev pub is_enough_wait : SetDef → (ℕ → ℕ) → ℕ → ℕ → ℕ → Bool

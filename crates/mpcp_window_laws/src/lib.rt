@@ -6,7 +6,7 @@
 //! Each function here does nothing: its contract is a law. The lemmas that prove it are in `proofs/`.
 #![tactic(auto)]
 
-ghost use Rattle.std.specs.Prelude.{◌≡◌, ℕ, ◌+◌, ◌<◌, ◌≤◌, false, [], ◌∷◌, slice_index, Some};
+ghost use Rattle.std.specs.Prelude.{◌≡◌, ℕ, ◌+◌, ◌<◌, ◌≤◌, false, length, Some};
 ghost use Rattle.sporadic_model.specs.SetDef.{SetDef};
 ghost use Rattle.sporadic_model.specs.Accepted.{IsAccepted};
 ghost use Rattle.schedule_model.specs.LawfulJobs.{AreLawfulJobs};
@@ -19,7 +19,7 @@ ghost use Rattle.schedule_model.specs.Protocols.{shared_rule};
 ghost use Rattle.schedule_model.specs.Keeping.{KeepsBefore};
 ghost use Rattle.charge_laws.specs.Windows.{EndedBy};
 ghost use Rattle.mpcp_window_laws.specs.MpcpWindows.{wait_window};
-ghost use Rattle.mpcp_window_laws.specs.Worked.{for_q, for_r, three_users};
+ghost use Rattle.mpcp_window_laws.specs.Worked.{both_used, some_bounds};
 
 /// Take a request in a lawful schedule of an accepted set, under MPCP. Let each job whose release plus bound has passed by the issue of the
 /// request be finished by its own release plus its bound. Then the request doesn't wait at any tick that is its window or more after its
@@ -30,15 +30,14 @@ pub fn a_request_waits_less_than_its_window()
         → EndedBy w bound (issue_tick_of w t j) → wait_window w.set bound (task_of w j) q ≡ Some b → t < issue_tick_of w t j + b }
 {}
 
-/// No window falls when the bounds of the higher tasks rise. Here `r` is at most `s`. A request that has a window at `s` has one at `r`, and
-/// it isn't longer.
+/// No window falls when bounds rise. Here `r` is at most `s`. A request that has a window at `s` has one at `r`, and it isn't longer.
 pub fn windows_rise_with_bounds()
-    ensures { (set : SetDef) (r s : ℕ → ℕ) (i q b : ℕ) → ((x : ℕ) → x < i → r x ≤ s x) → wait_window set s i q ≡ Some b
-        → (a : ℕ) × (wait_window set r i q ≡ Some a) × (a ≤ b) }
+    ensures { (set : SetDef) (r s : ℕ → ℕ) (i q b : ℕ) → i < length set.tasks
+        → ((x : ℕ) → x < length set.tasks → r x ≤ s x) → wait_window set s i q ≡ Some b → (a : ℕ) × (wait_window set r i q ≡ Some a) × (a ≤ b) }
 {}
 
-/// The window of the highest task's request of q in a worked set of three tasks. A lower task may hold q for 2 ticks, and another one of its
-/// processor may run a request of 3 ticks meanwhile.
-pub fn a_worked_wait_has_its_window()
-    ensures { wait_window (three_users (for_q 1 ∷ for_r 1 ∷ []) 0) (slice_index (15 ∷ 30 ∷ 40 ∷ [])) 0 0 ≡ Some 5 }
+/// The windows of q in a worked set of four tasks, of the highest task and of the lowest.
+pub fn worked_waits_have_their_windows()
+    ensures highest { wait_window both_used some_bounds 0 0 ≡ Some 5 }
+    ensures lowest { wait_window both_used some_bounds 3 0 ≡ Some 9 }
 {}
