@@ -1,7 +1,6 @@
 -- What a job is blocked directly by requests of q by task x, it is blocked while it waits for q. So it is at most as many of these requests
 -- as can run within the windows of its own.
-use Rattle.std.proofs.Common.{◌≡◌, ℕ, ◌*◌, ◌<◌, ◌≤◌, ◌==◌, ◌&&◌, true, length, refl, sym, ap, ◌∙◌, arith}
-use Rattle.std.proofs.Math.Nat.{mul_comm, mul_assoc}
+use Rattle.std.proofs.Common.{◌≡◌, ℕ, ◌*◌, ◌<◌, ◌≤◌, ◌==◌, ◌&&◌, true, length, refl, ap, ◌∙◌, arith}
 use Rattle.std.proofs.lemmas.Bool.{and_parts, eqb-true}
 use Rattle.number_laws.specs.Sums.{sum_below, flag}
 use Rattle.sporadic_model.specs.Users.{count_of, length_of}
@@ -12,15 +11,15 @@ use Rattle.schedule_model.specs.Ranks.{mpcp}
 use Rattle.schedule_model.specs.Protocols.{shared_rule}
 use Rattle.schedule_model.specs.Keeping.{KeepsBefore}
 use Rattle.blocking_columns.specs.ColumnDef.{ColumnDef, is_direct}
-use Rattle.blocking_columns.specs.Windows.{jobs_during, requests_during}
+use Rattle.blocking_columns.specs.Windows.{requests_during}
 use Rattle.charge_laws.specs.Charges.{shared_charge}
 use Rattle.charge_laws.specs.Windows.{window_end}
 use Rattle.charge_laws.proofs.SharedCharging.{DirectBy, shared_reason}
 use Rattle.row_laws.specs.Meeting.{brings}
 use Rattle.row_laws.proofs.Brings.{Hit, hit, column_with, blocker, blocker_is, flag_times-at_most, flag_times-passes}
-use Rattle.row_laws.proofs.JobRows.{HitJob, hit_job, job_requests, product_turned}
+use Rattle.row_laws.proofs.JobRows.{HitJob, hit_job, job_requests}
 use Rattle.row_laws.proofs.Requests.{direct_is, direct_by, held_resource}
-use Rattle.mpcp_window_laws.proofs.PaidInWaits.{Waits, WaitsBeside, paid_in_waits}
+use Rattle.mpcp_window_laws.proofs.PaidInWaits.{Waits, WaitsBeside, requests_paid}
 
 -- What is counted of a column, where the column has this share: direct blocking by requests of q by x.
 abbrev pub direct_share : ℕ → ℕ → (ℕ → ℕ → ℕ) → ColumnDef → ℕ
@@ -61,26 +60,13 @@ pub direct_in_waits : (w : Trace) (bound : ℕ → ℕ) (n j q b x s : ℕ) (sha
     → sum_below (window_end w bound n j) (λ t. brings shared_charge w (direct_share x q share) j t)
     ≤ s * (count_of w.set (task_of w j) q * requests_during w.set bound b x q)
 direct_in_waits w bound n j q b x s share a known fair =
-    let all : sum_below e (λ t. brings shared_charge w f j t)
-    ≤ count_of w.set (task_of w j) q * (jobs_during w.set bound b x * (count_of w.set x q * s)) =
-    paid_in_waits w bound n j q b x (count_of w.set x q * s) (blocker shared_charge w j) (λ t. brings shared_charge w f j t) a
+    requests_paid w bound n j q b x q s (blocker shared_charge w j) (λ t. brings shared_charge w f j t) a
     (record {
       beside = λ t l some. beside t l (hit shared_charge w f j t some);
       most = λ y listed task. job_requests shared_charge w bound n j x q y s (share x q) f a.window listed task fair
           (λ t l h. let c : Blocks w j x q t share h = blocks_is w n j x q t share a.keeps (omega (arith, l)) h in (c.resource, c.most));
     })
-    known in
-    let turned : jobs_during w.set bound b x * (count_of w.set x q * s) ≡ s * requests_during w.set bound b x q =
-    product_turned (jobs_during w.set bound b x) (count_of w.set x q) s in
-    let outer : count_of w.set (task_of w j) q * (s * requests_during w.set bound b x q)
-    ≡ s * (count_of w.set (task_of w j) q * requests_during w.set bound b x q) =
-    sym (mul_assoc (count_of w.set (task_of w j) q) s (requests_during w.set bound b x q))
-    ∙ ap (λ z. z * requests_during w.set bound b x q) (mul_comm (count_of w.set (task_of w j) q) s)
-    ∙ mul_assoc s (count_of w.set (task_of w j) q) (requests_during w.set bound b x q) in
-    let whole : count_of w.set (task_of w j) q * (jobs_during w.set bound b x * (count_of w.set x q * s))
-    ≡ s * (count_of w.set (task_of w j) q * requests_during w.set bound b x q) =
-    ap (λ z. count_of w.set (task_of w j) q * z) turned ∙ outer in
-    omega (arith, all, whole) where
+    known where
       e : ℕ
       e = window_end w bound n j
 

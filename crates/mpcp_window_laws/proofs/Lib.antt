@@ -8,4 +8,5 @@ pub mod Granting
 pub mod Rising
 pub mod PaidInWaits
 pub mod DirectInWaits
+pub mod IndirectInWaits
 pub mod WorkedWindows

@@ -1,5 +1,6 @@
 -- While a job waits for a resource, few jobs of another task run: those that can run within the windows of these waits.
 use Rattle.std.proofs.Common.{◌≡◌, ℕ, ◌+◌, ◌*◌, ◌<◌, ◌≤◌, ◌==◌, true, false, length, sym, ap, ◌∙◌, arith, Some}
+use Rattle.std.proofs.Math.Nat.{mul_assoc, mul_comm}
 use Rattle.std.proofs.lemmas.Bool.{eqb-true}
 use Rattle.number_laws.specs.Sums.{sum_below, only_if}
 use Rattle.number_laws.proofs.SumLaws.{sum_below-monotone, sum_below-none_or_some, only_if-at_most}
@@ -14,11 +15,11 @@ use Rattle.schedule_model.specs.Protocols.{shared_rule}
 use Rattle.schedule_model.specs.Keeping.{KeepsBefore}
 use Rattle.schedule_laws.proofs.Holders.{open_active}
 use Rattle.schedule_laws.proofs.Issues.{issue_at_most, issue_no_later, open_at_issue}
-use Rattle.blocking_columns.specs.Windows.{jobs_during}
+use Rattle.blocking_columns.specs.Windows.{jobs_during, requests_during}
 use Rattle.charge_laws.specs.Charges.{shared_charge}
 use Rattle.charge_laws.specs.Windows.{bound_end, window_end, EndedWithin}
 use Rattle.row_laws.proofs.Brings.{Window, only_if-parts}
-use Rattle.row_laws.proofs.JobRows.{ActiveIn, paid_in_span}
+use Rattle.row_laws.proofs.JobRows.{ActiveIn, paid_in_span, product_turned}
 use Rattle.row_laws.proofs.Numbers.{number_of}
 use Rattle.mpcp_window_laws.specs.MpcpWindows.{wait_window}
 use Rattle.mpcp_window_laws.proofs.Waiting.{Waiting}
@@ -125,3 +126,20 @@ paid_in_waits w bound n j q b x c by g a paid known =
           let h : WaitsBeside w v j q x (by v) = paid.beside v l parts.1 in
           let number : h.number ≡ m = sym (ap number_of h.asks) ∙ eqb-true (number_of (phase_of w v j)) m parts.0 in
           wait_paid w bound n j q b x c by g m v a paid known l (h.asks ∙ ap (λ k. Asking k q) number))
+
+-- The same if each job pays a whole for each of its requests of one resource.
+pub requests_paid : (w : Trace) (bound : ℕ → ℕ) (n j q b x p s : ℕ) (by g : ℕ → ℕ) → Waits w bound n j q b
+    → Paid w bound n j q x (count_of w.set x p * s) by g → x < length w.set.tasks
+    → sum_below (window_end w bound n j) g ≤ s * (count_of w.set (task_of w j) q * requests_during w.set bound b x p)
+requests_paid w bound n j q b x p s by g a paid known =
+    let turned : jobs_during w.set bound b x * (count_of w.set x p * s) ≡ s * requests_during w.set bound b x p =
+    product_turned (jobs_during w.set bound b x) (count_of w.set x p) s in
+    let outer : count_of w.set (task_of w j) q * (s * requests_during w.set bound b x p)
+    ≡ s * (count_of w.set (task_of w j) q * requests_during w.set bound b x p) =
+    sym (mul_assoc (count_of w.set (task_of w j) q) s (requests_during w.set bound b x p))
+    ∙ ap (λ z. z * requests_during w.set bound b x p) (mul_comm (count_of w.set (task_of w j) q) s)
+    ∙ mul_assoc s (count_of w.set (task_of w j) q) (requests_during w.set bound b x p) in
+    let whole : count_of w.set (task_of w j) q * (jobs_during w.set bound b x * (count_of w.set x p * s))
+    ≡ s * (count_of w.set (task_of w j) q * requests_during w.set bound b x p) =
+    ap (λ z. count_of w.set (task_of w j) q * z) turned ∙ outer in
+    omega (arith, whole, paid_in_waits w bound n j q b x (count_of w.set x p * s) by g a paid known)
