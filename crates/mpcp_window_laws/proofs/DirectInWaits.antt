@@ -26,13 +26,13 @@ abbrev pub direct_share : ℕ → ℕ → (ℕ → ℕ → ℕ) → ColumnDef �
 direct_share x q share c = flag (((c.task == x) && (c.resource == q)) && is_direct c.class) * share c.task c.resource
 
 -- A tick that counts: job j waits for q, and a job of x that holds it runs.
-record Blocks (w : Trace) (j x q t : ℕ) (share : ℕ → ℕ → ℕ) (h : Hit shared_charge w (direct_share x q share) j t) : Type 0 where
-  task : task_of w h.charge.job ≡ x
-  resource : h.resource ≡ q
-  most : direct_share x q share (column_with w h.charge h.resource) ≤ share x q
-  by : DirectBy w t j h.charge.job
+pub record Blocks (w : Trace) (j x q t : ℕ) (share : ℕ → ℕ → ℕ) (h : Hit shared_charge w (direct_share x q share) j t) : Type 0 where
+  pub task : task_of w h.charge.job ≡ x
+  pub resource : h.resource ≡ q
+  pub most : direct_share x q share (column_with w h.charge h.resource) ≤ share x q
+  pub by : DirectBy w t j h.charge.job
 
-blocks_is : (w : Trace) (n j x q t : ℕ) (share : ℕ → ℕ → ℕ) → KeepsBefore (shared_rule mpcp) w n → t < n
+pub blocks_is : (w : Trace) (n j x q t : ℕ) (share : ℕ → ℕ → ℕ) → KeepsBefore (shared_rule mpcp) w n → t < n
     → (h : Hit shared_charge w (direct_share x q share) j t) → Blocks w j x q t share h
 blocks_is w n j x q t share keeps l h =
     let parts : (((task_of w h.charge.job == x) && (h.resource == q)) ≡ true) × (is_direct h.charge.class ≡ true) =

@@ -9,4 +9,5 @@ pub mod Rising
 pub mod PaidInWaits
 pub mod DirectInWaits
 pub mod IndirectInWaits
+pub mod DirectWaitRow
 pub mod WorkedWindows

@@ -15,7 +15,7 @@ use Rattle.window_laws.proofs.Rising.{IsBelow}
 use Rattle.mpcp_window_laws.specs.MpcpWindows.{longest_first, may_run_instead, holdings_beside, time_first}
 use Rattle.mpcp_window_laws.specs.MpcpWindows.{own_ticks, ticks_instead, ticks_held, is_enough_wait, wait_window}
 
-jobs_rise : (set : SetDef) (r s : ℕ → ℕ) (v w x : ℕ) → v ≤ w → r x ≤ s x → jobs_during set r v x ≤ jobs_during set s w x
+pub jobs_rise : (set : SetDef) (r s : ℕ → ℕ) (v w x : ℕ) → v ≤ w → r x ≤ s x → jobs_during set r v x ≤ jobs_during set s w x
 jobs_rise set r s v w x more h =
     div_ceil_rises (v + (r x + (task_at set x).jitter)) (w + (s x + (task_at set x).jitter)) (task_at set x).period (omega (arith, more, h))
 

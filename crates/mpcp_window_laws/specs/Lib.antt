@@ -1,2 +1,3 @@
 pub mod MpcpWindows
+pub mod WaitRows
 pub mod Worked

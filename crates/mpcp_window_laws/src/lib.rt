@@ -6,7 +6,7 @@
 //! Each function here does nothing: its contract is a law. The lemmas that prove it are in `proofs/`.
 #![tactic(auto)]
 
-ghost use Rattle.std.specs.Prelude.{◌≡◌, ℕ, ◌+◌, ◌<◌, ◌≤◌, false, length, Some};
+ghost use Rattle.std.specs.Prelude.{◌≡◌, ℕ, ◌+◌, ◌<◌, ◌≤◌, false, List, length, slice_index, Some};
 ghost use Rattle.sporadic_model.specs.SetDef.{SetDef};
 ghost use Rattle.sporadic_model.specs.Accepted.{IsAccepted};
 ghost use Rattle.schedule_model.specs.LawfulJobs.{AreLawfulJobs};
@@ -17,8 +17,11 @@ ghost use Rattle.schedule_model.specs.Activity.{task_of, is_ready, issue_tick_of
 ghost use Rattle.schedule_model.specs.Ranks.{mpcp};
 ghost use Rattle.schedule_model.specs.Protocols.{shared_rule};
 ghost use Rattle.schedule_model.specs.Keeping.{KeepsBefore};
-ghost use Rattle.charge_laws.specs.Windows.{EndedBy};
+ghost use Rattle.charge_laws.specs.Charges.{shared_charge};
+ghost use Rattle.charge_laws.specs.Windows.{bound_end, EndedBy, EndedWithin};
+ghost use Rattle.row_laws.specs.Meeting.{TicksMeet};
 ghost use Rattle.mpcp_window_laws.specs.MpcpWindows.{wait_window};
+ghost use Rattle.mpcp_window_laws.specs.WaitRows.{direct_wait_row};
 ghost use Rattle.mpcp_window_laws.specs.Worked.{both_used, some_bounds};
 
 /// Take a request in a lawful schedule of an accepted set, under MPCP. Let each job whose release plus bound has passed by the issue of the
@@ -34,6 +37,22 @@ pub fn a_request_waits_less_than_its_window()
 pub fn windows_rise_with_bounds()
     ensures { (set : SetDef) (r s : ℕ → ℕ) (i q b : ℕ) → i < length set.tasks
         → ((x : ℕ) → x < length set.tasks → r x ≤ s x) → wait_window set s i q ≡ Some b → (a : ℕ) × (wait_window set r i q ≡ Some a) × (a ≤ b) }
+{}
+
+/// Take a job in a lawful schedule of an accepted set, under MPCP. Let each job whose release plus bound is less than this job's, and lies
+/// within the rows, be finished by its own release plus its bound. Then the ticks of this job's window meet the row of direct waits of any
+/// task and any resource.
+pub fn direct_blocking_meets_rows_of_waits()
+    ensures { (w : Trace) (bounds : List ℕ) (n j x q : ℕ) → IsAccepted w.set → AreLawfulJobs (jobs_of w)
+        → KeepsBefore (shared_rule mpcp) w n → j < length w.jobs
+        → EndedWithin w (slice_index bounds) (bound_end w (slice_index bounds) j) n → x < length w.set.tasks
+        → TicksMeet shared_charge w (slice_index bounds) n j (direct_wait_row w.set (task_of w j) x q) }
+{}
+
+/// No limit of a row of direct waits falls when bounds rise. Here `r` is at most `s`.
+pub fn limits_of_direct_waits_rise()
+    ensures { (set : SetDef) (r s : ℕ → ℕ) (i x q : ℕ) → i < length set.tasks → x < length set.tasks
+        → ((y : ℕ) → y < length set.tasks → r y ≤ s y) → (direct_wait_row set i x q).limit r ≤ (direct_wait_row set i x q).limit s }
 {}
 
 /// The windows of q in a worked set of four tasks, of the highest task and of the lowest.
