@@ -1,12 +1,10 @@
--- The row of direct waits is met, and its limit doesn't fall when bounds rise.
-use Rattle.std.proofs.Common.{◌≡◌, ℕ, ◌*◌, ◌<◌, ◌≤◌, ◌==◌, ◌&&◌, Bool, true, false, length, refl, sym, ap, ◌∙◌, arith, inl, inr}
-use Rattle.std.proofs.Common.{Option, Some, None, List, min}
+-- The row of direct waits is met.
+use Rattle.std.proofs.Common.{◌≡◌, ℕ, ◌*◌, ◌<◌, ◌≤◌, ◌==◌, ◌&&◌, Bool, true, false, length, sym, ap, ◌∙◌, arith, inl, inr}
+use Rattle.std.proofs.Common.{List}
 use Rattle.std.specs.Prelude.{slice_index}
-use Rattle.std.proofs.Math.Nat.{mul-le-mul_left, mul-le-mul_right}
 use Rattle.std.proofs.lemmas.Bool.{cases_lt, cases_Bool, both_ways, and_parts, eqb-true, ltb-true}
 use Rattle.number_laws.specs.Sums.{sum_below}
 use Rattle.number_laws.proofs.SumLaws.{sum_below-zero}
-use Rattle.sporadic_model.specs.SetDef.{SetDef}
 use Rattle.sporadic_model.specs.Users.{count_of, length_of, is_user}
 use Rattle.schedule_model.specs.JobDef.{job_of}
 use Rattle.schedule_model.specs.RowDef.{Trace}
@@ -17,7 +15,7 @@ use Rattle.schedule_model.specs.Keeping.{KeepsBefore}
 use Rattle.schedule_laws.proofs.ActiveJobs.{Active, active_is}
 use Rattle.schedule_laws.proofs.Segments.{open_user}
 use Rattle.blocking_columns.specs.ColumnDef.{ColumnDef, is_direct}
-use Rattle.blocking_columns.specs.Windows.{jobs_in, requests_in, requests_during}
+use Rattle.blocking_columns.specs.Windows.{jobs_in, requests_in}
 use Rattle.charge_laws.specs.Charges.{shared_charge}
 use Rattle.charge_laws.specs.Windows.{bound_end, window_end, EndedBy, EndedWithin}
 use Rattle.charge_laws.proofs.SharedCharging.{DirectBy, shared_reason}
@@ -28,22 +26,9 @@ use Rattle.row_laws.proofs.Joined.{shared_window}
 use Rattle.row_laws.proofs.JobRows.{by_job, job_requests, product_turned}
 use Rattle.row_laws.proofs.Requests.{direct_is, direct_by, held_resource}
 use Rattle.closer_laws.proofs.Waits.{never_met}
-use Rattle.window_laws.proofs.Rising.{IsBelow}
-use Rattle.mpcp_window_laws.specs.MpcpWindows.{wait_window}
-use Rattle.mpcp_window_laws.specs.WaitRows.{requests_in_waits, direct_wait_row}
-use Rattle.mpcp_window_laws.proofs.Rising.{jobs_rise, window_rises}
+use Rattle.mpcp_window_laws.specs.WaitRows.{direct_wait_row}
+use Rattle.mpcp_window_laws.proofs.WaitLimits.{paid_in_each}
 use Rattle.mpcp_window_laws.proofs.DirectInWaits.{direct_share, Blocks, blocks_is, direct_in_waits}
-
--- What is at most s for each of two numbers is at most s for each of the lesser.
-lesser_of : (c d s ticks : ℕ) → ticks ≤ s * c → ticks ≤ s * d → ticks ≤ s * min c d
-lesser_of c d s ticks f g = elim (cases_lt c d) [
-  | inl less ↦ let e : min c d ≡ c = omega (arith, less) in rw e f
-  | inr most ↦ let e : min c d ≡ d = omega (arith, most) in rw e g
-]
-
--- Where a task uses the resource, its number of requests is a factor that makes nothing less.
-factor_of_user : (set : SetDef) (i q c : ℕ) → 0 < count_of set i q → c ≤ count_of set i q * c
-factor_of_user set i q c some = let more : 1 * c ≤ count_of set i q * c = mul-le-mul_right c some in omega (arith, more)
 
 -- Its requests are at most as many as x makes while the job runs.
 direct_requests : (w : Trace) (bound : ℕ → ℕ) (n j x q s : ℕ) (share : ℕ → ℕ → ℕ) → Window shared_charge w bound n j
@@ -69,16 +54,16 @@ direct_wait_row_met w bound n j x q window keeps ended known s share fair = elim
       let none : ticks ≤ s * 0 =
       never_met shared_charge w bound n j counts window (λ t l c. never off t l c) s share fair in
       omega (arith, none)
-  | inl on ↦ go (ltb-true 0 (count_of w.set (task_of w j) q) on) (wait_window w.set bound (task_of w j) q) refl
+  | inl on ↦
+      paid_in_each w.set bound (task_of w j) q x q s ticks (ltb-true 0 (count_of w.set (task_of w j) q) on)
+      (direct_requests w bound n j x q s share window keeps known (fair x q))
+      (λ b e. direct_in_waits w bound n j q b x s share (record { window = window; keeps = keeps; ended = ended; limit = e }) known (fair x q))
 ] where
   counts : ColumnDef → Bool
   counts = λ c. ((c.task == x) && (c.resource == q)) && is_direct c.class
 
   ticks : ℕ
   ticks = sum_below (window_end w bound n j) (λ t. brings shared_charge w (direct_share x q share) j t)
-
-  all : ticks ≤ s * requests_in w.set bound (task_of w j) x q
-  all = direct_requests w bound n j x q s share window keeps known (fair x q)
 
   never : is_user w.set q (task_of w j) ≡ false → (t : ℕ) → t < n → Counted shared_charge w counts j t → ⊥
   never off t l c =
@@ -94,20 +79,6 @@ direct_wait_row_met w bound n j x q window keeps ended known s share fair = elim
       let user : is_user w.set by.waits.resource (task_of w j) ≡ true =
       open_user w.set w t j by.waits.number by.waits.resource (window.lawful.each j window.listed) by.waits.request in
       both_ways (is_user w.set q (task_of w j)) off (ap (λ r. is_user w.set r (task_of w j)) (sym same) ∙ user)
-
-  go : 0 < count_of w.set (task_of w j) q → (o : Option ℕ) → wait_window w.set bound (task_of w j) q ≡ o
-      → ticks ≤ s * min (requests_in w.set bound (task_of w j) x q) (requests_in_waits w.set bound (task_of w j) q x q)
-  go some (Some b) e =
-      let within : ticks ≤ s * (count_of w.set (task_of w j) q * requests_during w.set bound b x q) =
-      direct_in_waits w bound n j q b x s share (record { window = window; keeps = keeps; ended = ended; limit = e }) known (fair x q) in
-      rw e (lesser_of (requests_in w.set bound (task_of w j) x q) (count_of w.set (task_of w j) q * requests_during w.set bound b x q) s
-      ticks all within)
-  go some None e =
-      let more : s * requests_in w.set bound (task_of w j) x q
-      ≤ s * (count_of w.set (task_of w j) q * requests_in w.set bound (task_of w j) x q) =
-      mul-le-mul_left s (factor_of_user w.set (task_of w j) q (requests_in w.set bound (task_of w j) x q) some) in
-      rw e (lesser_of (requests_in w.set bound (task_of w j) x q)
-      (count_of w.set (task_of w j) q * requests_in w.set bound (task_of w j) x q) s ticks all (omega (arith, all, more)))
 
 -- The same for each job, also if its window has no tick within the rows: then nothing is charged.
 pub direct_waits_met : (w : Trace) (bounds : List ℕ) (n j x q : ℕ) → WithinRows w bounds n j → KeepsBefore (shared_rule mpcp) w n
@@ -135,31 +106,3 @@ direct_waits_met w bounds n j x q a keeps known s share fair = elim (cases_lt (j
         let active : Active w t j = active_is w t j (shared_active w j t h.charge h.is_it) in
         absurd (omega (arith, active.released, l, empty))
   ]
-
--- No limit of the row falls.
-requests_rise : (set : SetDef) (r s : ℕ → ℕ) (v w x q : ℕ) → v ≤ w → r x ≤ s x → requests_during set r v x q ≤ requests_during set s w x q
-requests_rise set r s v w x q more h = mul-le-mul_left (count_of set x q) (jobs_rise set r s v w x more h)
-
-pub direct_wait_limit_rises : (set : SetDef) (r s : ℕ → ℕ) (i x q : ℕ) → i < length set.tasks → x < length set.tasks → IsBelow set r s
-    → (direct_wait_row set i x q).limit r ≤ (direct_wait_row set i x q).limit s
-direct_wait_limit_rises set r s i x q known l below = elim (cases_lt 0 (count_of set i q)) [
-  | inl some ↦ go some (wait_window set s i q) refl
-  | inr none ↦
-      let zero : count_of set i q ≡ 0 = omega (arith, none) in
-      let nothing : requests_in_waits set r i q x q ≡ 0 = rw zero (omega arith) in
-      omega (arith, nothing)
-] where
-  all : requests_in set r i x q ≤ requests_in set s i x q
-  all = requests_rise set r s (r i) (s i) x q (below i known) (below x l)
-
-  go : 0 < count_of set i q → (o : Option ℕ) → wait_window set s i q ≡ o
-      → min (requests_in set r i x q) (requests_in_waits set r i q x q) ≤ min (requests_in set s i x q) (requests_in_waits set s i q x q)
-  go some None e = rw e (omega (arith, all, factor_of_user set i q (requests_in set s i x q) some))
-  go some (Some c) e =
-      let f = window_rises set r s i q c known below e in
-      let there : wait_window set r i q ≡ Some f.least = f.is_it in
-      rw (e, there) (omega (
-        arith,
-        all,
-        mul-le-mul_left (count_of set i q) (requests_rise set r s f.least c x q f.at_most (below x l)),
-      ))

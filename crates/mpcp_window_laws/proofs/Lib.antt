@@ -6,6 +6,7 @@ pub mod InsteadOfHigher
 pub mod LowerHolding
 pub mod Granting
 pub mod Rising
+pub mod WaitLimits
 pub mod PaidInWaits
 pub mod DirectInWaits
 pub mod IndirectInWaits

@@ -21,7 +21,7 @@ ghost use Rattle.charge_laws.specs.Charges.{shared_charge};
 ghost use Rattle.charge_laws.specs.Windows.{bound_end, EndedBy, EndedWithin};
 ghost use Rattle.row_laws.specs.Meeting.{TicksMeet};
 ghost use Rattle.mpcp_window_laws.specs.MpcpWindows.{wait_window};
-ghost use Rattle.mpcp_window_laws.specs.WaitRows.{direct_wait_row};
+ghost use Rattle.mpcp_window_laws.specs.WaitRows.{direct_wait_row, holdings_in_waits};
 ghost use Rattle.mpcp_window_laws.specs.Worked.{both_used, some_bounds};
 
 /// Take a request in a lawful schedule of an accepted set, under MPCP. Let each job whose release plus bound has passed by the issue of the
@@ -49,10 +49,13 @@ pub fn direct_blocking_meets_rows_of_waits()
         → TicksMeet shared_charge w (slice_index bounds) n j (direct_wait_row w.set (task_of w j) x q) }
 {}
 
-/// No limit of a row of direct waits falls when bounds rise. Here `r` is at most `s`.
-pub fn limits_of_direct_waits_rise()
-    ensures { (set : SetDef) (r s : ℕ → ℕ) (i x q : ℕ) → i < length set.tasks → x < length set.tasks
+/// No limit of a row of direct waits falls when bounds rise, nor does the number of requests that higher tasks can hold beside a task while
+/// i waits for them. Here `r` is at most `s`.
+pub fn limits_of_waits_rise()
+    ensures direct { (set : SetDef) (r s : ℕ → ℕ) (i x q : ℕ) → i < length set.tasks → x < length set.tasks
         → ((y : ℕ) → y < length set.tasks → r y ≤ s y) → (direct_wait_row set i x q).limit r ≤ (direct_wait_row set i x q).limit s }
+    ensures holdings { (set : SetDef) (r s : ℕ → ℕ) (i x q : ℕ) → i < length set.tasks
+        → ((y : ℕ) → y < length set.tasks → r y ≤ s y) → holdings_in_waits set r i x q ≤ holdings_in_waits set s i x q }
 {}
 
 /// The windows of q in a worked set of four tasks, of the highest task and of the lowest.

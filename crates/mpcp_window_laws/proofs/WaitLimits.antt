@@ -1,0 +1,80 @@
+-- How many requests can run while a job waits: the lesser of two numbers, neither of which falls when bounds rise.
+use Rattle.std.proofs.Common.{◌≡◌, ℕ, ◌*◌, ◌<◌, ◌≤◌, length, refl, arith, inl, inr, Option, Some, None, min}
+use Rattle.std.proofs.Math.Nat.{mul-le-mul_left, mul-le-mul_right}
+use Rattle.std.proofs.lemmas.Bool.{cases_lt}
+use Rattle.number_laws.proofs.SumLaws.{sum_below-monotone}
+use Rattle.number_laws.proofs.OnlyIfLaws.{only_if-rises}
+use Rattle.number_laws.specs.Sums.{only_if}
+use Rattle.sporadic_model.specs.SetDef.{SetDef}
+use Rattle.sporadic_model.specs.Users.{count_of}
+use Rattle.blocking_columns.specs.Windows.{requests_in, requests_during}
+use Rattle.indirect_constraints.specs.Rows.{is_beside}
+use Rattle.window_laws.proofs.Rising.{IsBelow}
+use Rattle.mpcp_window_laws.specs.MpcpWindows.{wait_window}
+use Rattle.mpcp_window_laws.specs.WaitRows.{requests_in_windows, requests_in_waits, direct_wait_row, holdings_in_waits}
+use Rattle.mpcp_window_laws.proofs.Rising.{jobs_rise, window_rises}
+
+-- What is at most s for each of two numbers is at most s for each of the lesser.
+lesser_of : (c d s ticks : ℕ) → ticks ≤ s * c → ticks ≤ s * d → ticks ≤ s * min c d
+lesser_of c d s ticks f g = elim (cases_lt c d) [
+  | inl less ↦ let e : min c d ≡ c = omega (arith, less) in rw e f
+  | inr most ↦ let e : min c d ≡ d = omega (arith, most) in rw e g
+]
+
+-- Where a task uses the resource, its number of requests is a factor that makes nothing less.
+factor_of_user : (set : SetDef) (i q c : ℕ) → 0 < count_of set i q → c ≤ count_of set i q * c
+factor_of_user set i q c some = let more : 1 * c ≤ count_of set i q * c = mul-le-mul_right c some in omega (arith, more)
+
+-- What the requests pay that x makes while the job runs, and also those within its windows where it has one, those in its waits pay.
+pub paid_in_each : (set : SetDef) (bounds : ℕ → ℕ) (i q x r s ticks : ℕ) → 0 < count_of set i q → ticks ≤ s * requests_in set bounds i x r
+    → ((b : ℕ) → wait_window set bounds i q ≡ Some b → ticks ≤ s * (count_of set i q * requests_during set bounds b x r))
+    → ticks ≤ s * requests_in_waits set bounds i q x r
+paid_in_each set bounds i q x r s ticks some all within = go (wait_window set bounds i q) refl where
+  go : (o : Option ℕ) → wait_window set bounds i q ≡ o → ticks ≤ s * requests_in_waits set bounds i q x r
+  go (Some b) e =
+      rw e (lesser_of (requests_in set bounds i x r) (count_of set i q * requests_during set bounds b x r) s ticks all (within b e))
+  go None e =
+      let more : s * requests_in set bounds i x r ≤ s * (count_of set i q * requests_in set bounds i x r) =
+      mul-le-mul_left s (factor_of_user set i q (requests_in set bounds i x r) some) in
+      rw e (lesser_of (requests_in set bounds i x r) (count_of set i q * requests_in set bounds i x r) s ticks all (omega (arith, all, more)))
+
+requests_rise : (set : SetDef) (r s : ℕ → ℕ) (v w x p : ℕ) → v ≤ w → r x ≤ s x → requests_during set r v x p ≤ requests_during set s w x p
+requests_rise set r s v w x p more h = mul-le-mul_left (count_of set x p) (jobs_rise set r s v w x more h)
+
+-- Their number doesn't fall.
+pub waits_rise : (set : SetDef) (r s : ℕ → ℕ) (i q x p : ℕ) → i < length set.tasks → x < length set.tasks → IsBelow set r s
+    → requests_in_waits set r i q x p ≤ requests_in_waits set s i q x p
+waits_rise set r s i q x p known l below = elim (cases_lt 0 (count_of set i q)) [
+  | inl some ↦ go some (wait_window set s i q) refl
+  | inr none ↦
+      let zero : count_of set i q ≡ 0 = omega (arith, none) in
+      let nothing : requests_in_windows set r i q x p ≡ 0 = rw zero (omega arith) in
+      omega (arith, nothing)
+] where
+  all : requests_in set r i x p ≤ requests_in set s i x p
+  all = requests_rise set r s (r i) (s i) x p (below i known) (below x l)
+
+  go : 0 < count_of set i q → (o : Option ℕ) → wait_window set s i q ≡ o
+      → requests_in_waits set r i q x p ≤ requests_in_waits set s i q x p
+  go some None e = rw e (omega (arith, all, factor_of_user set i q (requests_in set s i x p) some))
+  go some (Some c) e =
+      let f = window_rises set r s i q c known below e in
+      let there : wait_window set r i q ≡ Some f.least = f.is_it in
+      rw (e, there) (omega (
+        arith,
+        all,
+        mul-le-mul_left (count_of set i q) (requests_rise set r s f.least c x p f.at_most (below x l)),
+      ))
+
+-- So neither does the limit of a row, nor the number of holdings.
+pub direct_wait_limit_rises : (set : SetDef) (r s : ℕ → ℕ) (i x q : ℕ) → i < length set.tasks → x < length set.tasks → IsBelow set r s
+    → (direct_wait_row set i x q).limit r ≤ (direct_wait_row set i x q).limit s
+direct_wait_limit_rises set r s i x q known l below = waits_rise set r s i q x q known l below
+
+pub holdings_rise : (set : SetDef) (r s : ℕ → ℕ) (i x q : ℕ) → i < length set.tasks → IsBelow set r s
+    → holdings_in_waits set r i x q ≤ holdings_in_waits set s i x q
+holdings_rise set r s i x q known below =
+    sum_below-monotone i (λ y. only_if (is_beside set x y) (requests_in_waits set r i q y q))
+    (λ y. only_if (is_beside set x y) (requests_in_waits set s i q y q))
+    (λ y l. only_if-rises (is_beside set x y) (requests_in_waits set r i q y q) (requests_in_waits set s i q y q)
+    (λ h. waits_rise set r s i q y q known (omega (arith, l, known)) below))
