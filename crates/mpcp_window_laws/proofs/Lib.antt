@@ -12,3 +12,7 @@ pub mod DirectInWaits
 pub mod IndirectInWaits
 pub mod DirectWaitRow
 pub mod WorkedWindows
+pub mod RowsBehind
+pub mod Programs
+pub mod Points
+pub mod Sound

@@ -1,13 +1,19 @@
--- The rows of waits under MPCP. In each, i is the analysed task.
-use Rattle.std.specs.Prelude.{ℕ, ◌*◌, ◌==◌, ◌&&◌, min, unwrap_or}
+-- The rows of waits under MPCP, and the programs that have them after the rows of the closer analysis. In each, i is the analysed task.
+use Rattle.std.specs.Prelude.{ℕ, ◌*◌, ◌==◌, ◌&&◌, List, ◌++◌, length, min, unwrap_or}
 use Rattle.number_laws.specs.Sums.{sum_below, only_if}
+use Rattle.program_form.specs.Program.{ProgramDef}
 use Rattle.sporadic_model.specs.SetDef.{SetDef}
 use Rattle.sporadic_model.specs.Users.{count_of}
+use Rattle.sporadic_model.specs.declared.ids.Protocol.TheVariants as protocol
+use Rattle.program_sources.specs.Recurrence.{SourceDef}
 use Rattle.blocking_columns.specs.declared.columns.Class.TheVariants.{Direct}
 use Rattle.blocking_columns.specs.ColumnDef.{is_class}
+use Rattle.blocking_columns.specs.Columns.{may_block, columns_of}
 use Rattle.blocking_columns.specs.Windows.{requests_during, requests_in}
-use Rattle.fragments.specs.Constraints.{ConstraintDef, counting}
+use Rattle.fragments.specs.Constraints.{ConstraintDef, counting, per_pair}
 use Rattle.indirect_constraints.specs.Rows.{is_beside}
+use Rattle.program_laws.specs.Programs.{program_with, source_with, interfering_cost}
+use Rattle.closer_mpcp_laws.specs.CloserMpcpRows.{mpcp_closer_rows}
 use Rattle.mpcp_window_laws.specs.MpcpWindows.{wait_window}
 
 -- How many requests of r by jobs of x can run within the windows of the requests of q that a job of i makes? If these have no window within
@@ -29,3 +35,19 @@ direct_wait_row set i x q = counting (λ c. ((c.task == x) && (c.resource == q))
 -- that blocks i indirectly.
 abbrev pub holdings_in_waits : SetDef → (ℕ → ℕ) → ℕ → ℕ → ℕ → ℕ
 holdings_in_waits set bounds i x q = sum_below i (λ y. only_if (is_beside set x y) (requests_in_waits set bounds i q y q))
+
+-- The rows of waits: one for each higher task and each resource.
+abbrev pub wait_rows : SetDef → ℕ → List ConstraintDef
+wait_rows set i = per_pair i (length set.resources) (direct_wait_row set i)
+
+-- The rows of a program: those of the closer analysis of MPCP, then these.
+abbrev pub mpcp_windowed_rows : SetDef → ℕ → List ConstraintDef
+mpcp_windowed_rows set i = mpcp_closer_rows set i ++ wait_rows set i
+
+-- The source of these programs for a set. Requests may block as under MPCP, and interference is counted as there.
+abbrev pub mpcp_windowed_source : SetDef → SourceDef
+mpcp_windowed_source set = source_with set (may_block protocol.Mpcp set) (mpcp_windowed_rows set) (interfering_cost protocol.Mpcp set)
+
+-- The program of task i at bounds. Contracts use this name.
+abbrev pub mpcp_windowed_program : SetDef → ℕ → List ℕ → ProgramDef
+mpcp_windowed_program set i bounds = program_with set (columns_of protocol.Mpcp set i) (mpcp_windowed_rows set i) bounds

@@ -1,4 +1,5 @@
-//! Windows of waits under MPCP, and what is true of them.
+//! Windows of waits under MPCP, the rows that they give, and what is true of both. The programs have these rows after those of the closer
+//! analysis.
 //!
 //! A window bounds how long a request waits until it is granted. It is the least number of ticks that is at least as long as other tasks may
 //! hold the resource in that many ticks.
@@ -7,21 +8,36 @@
 #![tactic(auto)]
 
 ghost use Rattle.std.specs.Prelude.{◌≡◌, ℕ, ◌+◌, ◌<◌, ◌≤◌, false, List, length, slice_index, Some};
+ghost use Rattle.program_form.specs.Certificate.{CertificateDef};
+ghost use Rattle.program_form.specs.Limits.{HasLimitsAtMost};
+ghost use Rattle.program_form.specs.Program.{IsProgram, height};
+ghost use Rattle.program_form.specs.Points.{IsScaledPoint};
 ghost use Rattle.sporadic_model.specs.SetDef.{SetDef};
 ghost use Rattle.sporadic_model.specs.Accepted.{IsAccepted};
+ghost use Rattle.sporadic_model.specs.declared.ids.Protocol.TheVariants as protocol;
 ghost use Rattle.schedule_model.specs.LawfulJobs.{AreLawfulJobs};
 ghost use Rattle.schedule_model.specs.RowDef.{Trace, jobs_of};
 ghost use Rattle.schedule_model.specs.Phase.{phase_of};
 ghost use Rattle.schedule_model.specs.Phase.Phase.{Asking};
 ghost use Rattle.schedule_model.specs.Activity.{task_of, is_ready, issue_tick_of};
+ghost use Rattle.schedule_model.specs.BlockedTicks.{is_shared_interference};
 ghost use Rattle.schedule_model.specs.Ranks.{mpcp};
 ghost use Rattle.schedule_model.specs.Protocols.{shared_rule};
 ghost use Rattle.schedule_model.specs.Keeping.{KeepsBefore};
+ghost use Rattle.program_sources.specs.Valid.{IsValid};
+ghost use Rattle.program_sources.specs.Bounds.{AtMost, AreWithinDeadlines};
+ghost use Rattle.program_sources.specs.Fitting.{AreFitting, AreLeastFitting};
+ghost use Rattle.blocking_columns.specs.Columns.{columns_of};
+ghost use Rattle.program_laws.specs.Programs.{source_of};
 ghost use Rattle.charge_laws.specs.Charges.{shared_charge};
 ghost use Rattle.charge_laws.specs.Windows.{bound_end, EndedBy, EndedWithin};
+ghost use Rattle.charge_laws.specs.Fractions.{product_of_lengths, fractions_of};
 ghost use Rattle.row_laws.specs.Meeting.{TicksMeet};
+ghost use Rattle.soundness_laws.specs.Analyses.{AreValues};
+ghost use Rattle.soundness_laws.specs.Sound.{Sound};
+ghost use Rattle.closer_mpcp_laws.specs.CloserMpcpRows.{mpcp_closer_source};
 ghost use Rattle.mpcp_window_laws.specs.MpcpWindows.{wait_window};
-ghost use Rattle.mpcp_window_laws.specs.WaitRows.{direct_wait_row, holdings_in_waits};
+ghost use Rattle.mpcp_window_laws.specs.WaitRows.{direct_wait_row, holdings_in_waits, mpcp_windowed_program, mpcp_windowed_source};
 ghost use Rattle.mpcp_window_laws.specs.Worked.{both_used, some_bounds};
 
 /// Take a request in a lawful schedule of an accepted set, under MPCP. Let each job whose release plus bound has passed by the issue of the
@@ -56,6 +72,50 @@ pub fn limits_of_waits_rise()
         → ((y : ℕ) → y < length set.tasks → r y ≤ s y) → (direct_wait_row set i x q).limit r ≤ (direct_wait_row set i x q).limit s }
     ensures holdings { (set : SetDef) (r s : ℕ → ℕ) (i x q : ℕ) → i < length set.tasks
         → ((y : ℕ) → y < length set.tasks → r y ≤ s y) → holdings_in_waits set r i x q ≤ holdings_in_waits set s i x q }
+{}
+
+/// For an accepted set, and at bounds within the deadlines, the lists of a task with its rows of waits are a program. No limit falls when
+/// the bounds rise.
+pub fn programs_with_waits_are_accepted()
+    ensures accepted { (set : SetDef) (i : ℕ) (r : List ℕ) → IsAccepted set → i < length set.tasks → AreWithinDeadlines set r
+        → IsProgram (mpcp_windowed_program set i r) }
+    ensures rises { (set : SetDef) (i : ℕ) (r s : List ℕ) → i < length set.tasks → AtMost (length set.tasks) r s
+        → HasLimitsAtMost (mpcp_windowed_program set i r) (mpcp_windowed_program set i s) }
+{}
+
+/// Such a program has at most 1404 rows: the 1148 of the closer analysis, and of direct waits one for each of 256 request entries.
+pub fn rows_with_waits_are_few()
+    ensures { (set : SetDef) (i : ℕ) (r : List ℕ) → IsAccepted set → i < length set.tasks → height (mpcp_windowed_program set i r) ≤ 1404 }
+{}
+
+/// Take a job in a lawful schedule of an accepted set, under MPCP. Let each job whose release plus bound is less than this job's, and lies
+/// within the rows, be finished by its own release plus its bound. Then the fractions of this job's window meet every row of its task's
+/// program, those of waits too.
+pub fn fractions_meet_rows_of_waits()
+    ensures { (w : Trace) (bounds : List ℕ) (n j : ℕ) → IsAccepted w.set → AreLawfulJobs (jobs_of w)
+        → KeepsBefore (shared_rule mpcp) w n → j < length w.jobs
+        → EndedWithin w (slice_index bounds) (bound_end w (slice_index bounds) j) n
+        → IsScaledPoint (mpcp_windowed_program w.set (task_of w j) bounds)
+        (product_of_lengths w.set (columns_of protocol.Mpcp w.set (task_of w j)))
+        (fractions_of shared_charge w (slice_index bounds) n j (columns_of protocol.Mpcp w.set (task_of w j))) }
+{}
+
+/// Bounds that fit with the closer analysis fit with rows of waits too, and so do those that fit under MPCP. So no least bound with rows of
+/// waits is greater than a bound that fits without them.
+pub fn waits_raise_no_bound()
+    ensures fitting { (set : SetDef) (s : List ℕ) → AreFitting (mpcp_closer_source set) s → AreFitting (mpcp_windowed_source set) s }
+    ensures plain { (set : SetDef) (s : List ℕ) → AreFitting (source_of protocol.Mpcp set) s → AreFitting (mpcp_windowed_source set) s }
+    ensures least { (set : SetDef) (r s : List ℕ) → AreLeastFitting (mpcp_windowed_source set) r → AreFitting (mpcp_closer_source set) s
+        → AtMost (length set.tasks) r s }
+    ensures least_plain { (set : SetDef) (r s : List ℕ) → AreLeastFitting (mpcp_windowed_source set) r
+        → AreFitting (source_of protocol.Mpcp set) s → AtMost (length set.tasks) r s }
+{}
+
+/// Take an accepted set, and a certificate that is valid for the programs with rows of waits. Its bounds and the values of its duals are
+/// sound: they hold in every schedule of lawful jobs that keeps the rules of MPCP.
+pub fn valid_certificates_with_waits_are_sound()
+    ensures { (set : SetDef) (c : CertificateDef) (values : List ℕ) → IsAccepted set → IsValid (mpcp_windowed_source set) c
+        → AreValues (mpcp_windowed_source set) c values → Sound (shared_rule mpcp) is_shared_interference set c.bounds values }
 {}
 
 /// The windows of q in a worked set of four tasks, of the highest task and of the lowest.
