@@ -1,19 +1,16 @@
--- The rows that the closer analysis of MPCP has beside those of MPCP, and its programs. In each, i is the analysed task.
+-- Rows that the closer analysis of MPCP has beside those of MPCP. In each, i is the analysed task.
 use Rattle.std.specs.Prelude.{ℕ, ◌+◌, ◌==◌, ◌&&◌, not, nat_lt, Bool, List, [], ◌∷◌, ◌++◌, length}
 use Rattle.number_laws.specs.Sums.{sum_below, only_if}
 use Rattle.number_laws.specs.Tests.{any_below}
-use Rattle.program_form.specs.Program.{ProgramDef}
 use Rattle.sporadic_model.specs.SetDef.{SetDef, task_at}
 use Rattle.sporadic_model.specs.Users.{count_of, is_user}
 use Rattle.sporadic_model.specs.declared.ids.Protocol.TheVariants as protocol
-use Rattle.program_sources.specs.Recurrence.{SourceDef}
 use Rattle.blocking_columns.specs.declared.columns.Class.TheVariants.{Direct, Indirect, Preemption}
 use Rattle.blocking_columns.specs.ColumnDef.{is_class}
-use Rattle.blocking_columns.specs.Columns.{have_one_processor, is_lower_local, may_run_before, may_block, columns_of}
+use Rattle.blocking_columns.specs.Columns.{have_one_processor, is_lower_local, may_run_before}
 use Rattle.blocking_columns.specs.Windows.{requests_by_higher}
 use Rattle.fragments.specs.Constraints.{ConstraintDef, counting, per, per_where, per_pair}
 use Rattle.indirect_constraints.specs.Rows.{is_beside, lower_holdings}
-use Rattle.program_laws.specs.Programs.{program_with, source_with, rows_of, interfering_cost}
 use Rattle.closer_laws.specs.CloserRows.{is_shared_out, is_held_there, requests_where, local_preemption_row}
 
 -- Lower waits: a job never waits for a lower task of its processor.
@@ -35,22 +32,24 @@ goes_first set x q r = not (q == r) && may_run_before protocol.Mpcp set (task_at
 abbrev pub goes_before : SetDef → ℕ → ℕ → Bool
 goes_before set x r = any_below (length set.resources) (λ q. is_user set q x && goes_first set x q r)
 
--- How many requests of resources that pass, and that are shared out, can other tasks hold on x's processor while i waits for them? As many
--- as in the row of holdings; but where that is i's processor no lower task holds one.
+-- How many requests of resources that pass, and that are shared out, can other tasks hold on x's processor while i waits for them? Higher
+-- tasks hold this many of each, and lower ones as many as in the row of holdings; but on i's own processor no lower task holds one.
 abbrev pub shared_holdings : SetDef → (ℕ → ℕ) → ℕ → ℕ → (ℕ → Bool) → ℕ
-shared_holdings set bounds i x passes = sum_below (length set.resources)
+shared_holdings set higher i x passes = sum_below (length set.resources)
     (λ r. only_if (is_user set r i && (is_shared_out set i r && passes r))
-    (requests_by_higher set bounds i (is_beside set x) r + only_if (not (have_one_processor set x i)) (lower_holdings set i x r)))
+    (higher r + only_if (not (have_one_processor set x i)) (lower_holdings set i x r)))
+
+-- In the next rows held tells, at bounds, how many requests of a resource higher tasks can hold beside a task.
 
 -- Shared holdings: in each such holding before which x may run a request, x runs at most one.
-abbrev pub shared_holding_row : SetDef → ℕ → ℕ → ConstraintDef
-shared_holding_row set i x = counting (λ c. (c.task == x) && is_class Indirect c.class)
-    (λ bounds. shared_holdings set bounds i x (goes_before set x))
+abbrev pub shared_holding_row : SetDef → ((ℕ → ℕ) → ℕ → ℕ → ℕ) → ℕ → ℕ → ConstraintDef
+shared_holding_row set held i x = counting (λ c. (c.task == x) && is_class Indirect c.class)
+    (λ bounds. shared_holdings set (held bounds x) i x (goes_before set x))
 
 -- Holdings by resource: in each such holding before which x may run a request of q, x runs at most one of q.
-abbrev pub resource_holding_row : SetDef → ℕ → ℕ → ℕ → ConstraintDef
-resource_holding_row set i x q = counting (λ c. ((c.task == x) && (c.resource == q)) && is_class Indirect c.class)
-    (λ bounds. shared_holdings set bounds i x (goes_first set x q))
+abbrev pub resource_holding_row : SetDef → ((ℕ → ℕ) → ℕ → ℕ → ℕ) → ℕ → ℕ → ℕ → ConstraintDef
+resource_holding_row set held i x q = counting (λ c. ((c.task == x) && (c.resource == q)) && is_class Indirect c.class)
+    (λ bounds. shared_holdings set (held bounds x) i x (goes_first set x q))
 
 -- Is y on another processor than x?
 abbrev pub is_away : SetDef → ℕ → ℕ → Bool
@@ -74,21 +73,9 @@ away_row set i x = counting (λ c. (c.task == x) && not (is_class Preemption c.c
     (λ r. only_if (is_user set r i && is_held_there set i x r) (count_of set i r + away_holdings set bounds i x r)))
 
 -- All of these in their order, with the row of local preemption among them.
-abbrev pub further_rows : SetDef → ℕ → List ConstraintDef
-further_rows set i = per (length set.tasks) (shared_holding_row set i)
-    ++ (per_pair (length set.tasks) (length set.resources) (resource_holding_row set i)
+abbrev pub further_rows : SetDef → ((ℕ → ℕ) → ℕ → ℕ → ℕ) → ℕ → List ConstraintDef
+further_rows set held i = per (length set.tasks) (shared_holding_row set held i)
+    ++ (per_pair (length set.tasks) (length set.resources) (resource_holding_row set held i)
     ++ (per (length set.tasks) (away_row set i)
     ++ (per_where (is_lower_local set i) (length set.tasks) (shared_interval_row set i)
     ++ (local_preemption_row set i ∷ lower_wait_row set i ∷ []))))
-
--- The rows of a program: those of MPCP, then these.
-abbrev pub mpcp_closer_rows : SetDef → ℕ → List ConstraintDef
-mpcp_closer_rows set i = rows_of protocol.Mpcp set i ++ further_rows set i
-
--- The source of these programs for a set: requests may block as under MPCP, and interference is counted as there.
-abbrev pub mpcp_closer_source : SetDef → SourceDef
-mpcp_closer_source set = source_with set (may_block protocol.Mpcp set) (mpcp_closer_rows set) (interfering_cost protocol.Mpcp set)
-
--- The program of task i at bounds, as contracts name it.
-abbrev pub mpcp_closer_program : SetDef → ℕ → List ℕ → ProgramDef
-mpcp_closer_program set i bounds = program_with set (columns_of protocol.Mpcp set i) (mpcp_closer_rows set i) bounds
