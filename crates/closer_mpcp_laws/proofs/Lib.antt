@@ -2,6 +2,5 @@ pub mod LowerWaits
 pub mod SharedIntervals
 pub mod SharedHoldings
 pub mod AwayHoldings
-pub mod Programs
-pub mod Points
-pub mod Sound
+pub mod FurtherRows
+pub mod RowsMet

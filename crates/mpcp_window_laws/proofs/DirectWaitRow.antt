@@ -1,31 +1,29 @@
 -- The row of direct waits is met.
-use Rattle.std.proofs.Common.{◌≡◌, ℕ, ◌*◌, ◌<◌, ◌≤◌, ◌==◌, ◌&&◌, Bool, true, false, length, sym, ap, ◌∙◌, arith, inl, inr}
-use Rattle.std.proofs.Common.{List}
+use Rattle.std.proofs.Common.{◌≡◌, ℕ, ◌*◌, ◌<◌, ◌≤◌, ◌==◌, ◌&&◌, Bool, true, false, List, [], ◌∷◌, length, sym, ap, ◌∙◌, arith, inl, inr}
 use Rattle.std.specs.Prelude.{slice_index}
-use Rattle.std.proofs.lemmas.Bool.{cases_lt, cases_Bool, both_ways, and_parts, eqb-true, ltb-true}
+use Rattle.std.proofs.lemmas.Bool.{cases_Bool, both_ways, and_parts, eqb-true, ltb-true}
+use Rattle.std.proofs.lemmas.List.Elements.{All-nil, All-cons, All-head}
 use Rattle.number_laws.specs.Sums.{sum_below}
-use Rattle.number_laws.proofs.SumLaws.{sum_below-zero}
 use Rattle.sporadic_model.specs.Users.{count_of, length_of, is_user}
-use Rattle.schedule_model.specs.JobDef.{job_of}
 use Rattle.schedule_model.specs.RowDef.{Trace}
 use Rattle.schedule_model.specs.Activity.{task_of}
 use Rattle.schedule_model.specs.Ranks.{mpcp}
 use Rattle.schedule_model.specs.Protocols.{shared_rule}
 use Rattle.schedule_model.specs.Keeping.{KeepsBefore}
-use Rattle.schedule_laws.proofs.ActiveJobs.{Active, active_is}
 use Rattle.schedule_laws.proofs.Segments.{open_user}
 use Rattle.blocking_columns.specs.ColumnDef.{ColumnDef, is_direct}
 use Rattle.blocking_columns.specs.Windows.{jobs_in, requests_in}
+use Rattle.fragments.specs.Constraints.{ConstraintDef}
 use Rattle.charge_laws.specs.Charges.{shared_charge}
-use Rattle.charge_laws.specs.Windows.{bound_end, window_end, EndedBy, EndedWithin}
+use Rattle.charge_laws.specs.Windows.{bound_end, window_end, EndedWithin}
 use Rattle.charge_laws.proofs.SharedCharging.{DirectBy, shared_reason}
 use Rattle.row_laws.specs.Meeting.{brings, TicksMeet}
-use Rattle.row_laws.proofs.Brings.{Window, Hit, hit, Counted}
-use Rattle.row_laws.proofs.EmptyWindows.{WithinRows, shared_active}
-use Rattle.row_laws.proofs.Joined.{shared_window}
+use Rattle.row_laws.proofs.Brings.{Window, Counted}
+use Rattle.row_laws.proofs.EmptyWindows.{WithinRows}
 use Rattle.row_laws.proofs.JobRows.{by_job, job_requests, product_turned}
 use Rattle.row_laws.proofs.Requests.{direct_is, direct_by, held_resource}
 use Rattle.closer_laws.proofs.Waits.{never_met}
+use Rattle.closer_mpcp_laws.proofs.RowsMet.{met_within}
 use Rattle.mpcp_window_laws.specs.WaitRows.{direct_wait_row}
 use Rattle.mpcp_window_laws.proofs.WaitLimits.{paid_in_each}
 use Rattle.mpcp_window_laws.proofs.DirectInWaits.{direct_share, Blocks, blocks_is, direct_in_waits}
@@ -80,29 +78,14 @@ direct_wait_row_met w bound n j x q window keeps ended known s share fair = elim
       open_user w.set w t j by.waits.number by.waits.resource (window.lawful.each j window.listed) by.waits.request in
       both_ways (is_user w.set q (task_of w j)) off (ap (λ r. is_user w.set r (task_of w j)) (sym same) ∙ user)
 
--- The same for each job, also if its window has no tick within the rows: then nothing is charged.
+-- The same for each job, also if its window has no tick within the rows.
 pub direct_waits_met : (w : Trace) (bounds : List ℕ) (n j x q : ℕ) → WithinRows w bounds n j → KeepsBefore (shared_rule mpcp) w n
     → x < length w.set.tasks → TicksMeet shared_charge w (slice_index bounds) n j (direct_wait_row w.set (task_of w j) x q)
-direct_waits_met w bounds n j x q a keeps known s share fair = elim (cases_lt (job_of w.jobs j).release e) [
-  | inl some ↦
-      let ended : EndedBy w (slice_index bounds) (job_of w.jobs j).release =
-      λ y listed passed. a.ended y listed (omega (arith, passed, some)) (omega (arith, passed, some)) in
-      let window : Window shared_charge w (slice_index bounds) n j =
-      shared_window mpcp w bounds n j (record { formed = a.formed; lawful = a.lawful; listed = a.listed; ended = ended }) keeps in
-      direct_wait_row_met w (slice_index bounds) n j x q window keeps a.ended known s share fair
-  | inr empty ↦
-      let none : sum_below e (λ t. brings shared_charge w (direct_share x q share) j t) ≡ 0 =
-      sum_below-zero e (λ t. brings shared_charge w (direct_share x q share) j t) (λ t l. nothing empty t l) in
-      omega (arith, none)
-] where
-  e : ℕ
-  e = window_end w (slice_index bounds) n j
+direct_waits_met w bounds n j x q a keeps known =
+    All-head meets row [] (met_within w bounds n j (row ∷ []) a keeps (λ window.
+    All-cons meets row [] (direct_wait_row_met w (slice_index bounds) n j x q window keeps a.ended known) (All-nil meets))) where
+      meets : ConstraintDef → Type 0
+      meets = TicksMeet shared_charge w (slice_index bounds) n j
 
-  nothing : e ≤ (job_of w.jobs j).release → (t : ℕ) → t < e → brings shared_charge w (direct_share x q share) j t ≡ 0
-  nothing empty t l = elim (cases_lt 0 (brings shared_charge w (direct_share x q share) j t)) [
-    | inr none ↦ omega (arith, none)
-    | inl some ↦
-        let h : Hit shared_charge w (direct_share x q share) j t = hit shared_charge w (direct_share x q share) j t some in
-        let active : Active w t j = active_is w t j (shared_active w j t h.charge h.is_it) in
-        absurd (omega (arith, active.released, l, empty))
-  ]
+      row : ConstraintDef
+      row = direct_wait_row w.set (task_of w j) x q

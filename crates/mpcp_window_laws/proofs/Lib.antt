@@ -12,7 +12,6 @@ pub mod DirectInWaits
 pub mod IndirectInWaits
 pub mod DirectWaitRow
 pub mod WorkedWindows
-pub mod RowsBehind
 pub mod Programs
 pub mod Points
 pub mod Sound

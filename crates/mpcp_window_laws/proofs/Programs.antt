@@ -1,87 +1,149 @@
--- The programs with rows of waits are programs, rise with the bounds, and have few rows.
-use Rattle.std.proofs.Common.{ℕ, ◌<◌, ◌≤◌, List, length, arith}
+-- The programs of the closer analysis of MPCP are programs, rise with the bounds, and have few rows.
+use Rattle.std.proofs.Common.{◌++◌, ℕ, ◌<◌, ◌≤◌, List, length, arith}
+use Rattle.std.specs.List.{All, Contains}
 use Rattle.std.specs.Prelude.{slice_index}
-use Rattle.std.specs.List.{All}
-use Rattle.std.proofs.lemmas.List.Elements.{Contains-append_left}
-use Rattle.program_form.specs.Program.{IsProgram, height}
+use Rattle.std.proofs.Math.Nat.{mul-le-mul_right}
+use Rattle.std.proofs.lemmas.List.{length-append}
+use Rattle.std.proofs.lemmas.List.Elements.{All-append}
+use Rattle.number_laws.specs.Sums.{only_if}
+use Rattle.number_laws.proofs.SumLaws.{only_if-at_most}
+use Rattle.program_form.specs.Program.{IsProgram, IsCovered, columns, height}
 use Rattle.program_form.specs.Limits.{HasLimitsAtMost}
 use Rattle.sporadic_model.specs.SetDef.{SetDef}
 use Rattle.sporadic_model.specs.Accepted.{IsAccepted}
 use Rattle.sporadic_model.specs.declared.ids.Protocol.TheVariants as protocol
+use Rattle.sporadic_model.proofs.Laws.{sizes_of_accepted}
 use Rattle.program_sources.specs.Bounds.{AtMost, AreWithinDeadlines}
+use Rattle.program_sources.specs.Fitting.{ComesUpAbove}
+use Rattle.program_sources.proofs.RecurrenceLaws.{comes_up_above}
 use Rattle.blocking_columns.specs.ColumnDef.{ColumnDef}
 use Rattle.blocking_columns.specs.Columns.{is_column, columns_of}
 use Rattle.fragments.specs.Constraints.{ConstraintDef}
 use Rattle.blocking_columns.proofs.KnownColumns.{passing_known, columns_are_requests}
 use Rattle.direct_constraints.specs.Rows.{request_row}
-use Rattle.program_laws.specs.Programs.{program_with}
-use Rattle.program_laws.specs.Written.{IsSmallRow, Rises}
-use Rattle.program_laws.proofs.RowKinds.{all_per_pair}
-use Rattle.program_laws.proofs.SmallNumbers.{requests_small, flag_small}
+use Rattle.indirect_constraints.specs.Rows.{is_beside}
+use Rattle.program_laws.specs.Programs.{rows_of}
+use Rattle.program_laws.specs.Written.{IsSmallRow, Rises, HasJobsAtMost}
+use Rattle.program_laws.proofs.Lists.{sum_at_most}
+use Rattle.program_laws.proofs.RowKinds.{each_row, all_per_pair}
+use Rattle.program_laws.proofs.RisingLimits.{jobs_rise, limits_rise}
+use Rattle.program_laws.proofs.SmallNumbers.{rows_small, requests_small, flag_small}
 use Rattle.program_laws.proofs.CoveredColumns.{covered_by}
-use Rattle.program_laws.proofs.FewRows.{first_rows_few, turn_of}
+use Rattle.program_laws.proofs.ListLengths.{Few, few, pair_at_most, rows_few}
+use Rattle.program_laws.proofs.FewRows.{first_rows_few, rows_at_most, turn_of}
 use Rattle.program_laws.proofs.PlacedRows.{there_behind, height_is}
-use Rattle.program_laws.proofs.GivenPrograms.{limits_at_most, have_lengths, are_small}
+use Rattle.program_laws.proofs.GivenPrograms.{limits_at_most, is_program, written_where}
 use Rattle.closer_laws.proofs.Programs.{request_among}
-use Rattle.closer_mpcp_laws.specs.CloserMpcpRows.{further_rows, mpcp_closer_rows}
-use Rattle.closer_mpcp_laws.proofs.Programs.{mpcp_closer_is_program, mpcp_closer_rises, mpcp_closer_height}
-use Rattle.mpcp_window_laws.specs.WaitRows.{direct_wait_row, wait_rows, mpcp_windowed_rows, mpcp_windowed_program}
-use Rattle.mpcp_window_laws.proofs.WaitLimits.{direct_wait_limit_rises}
-use Rattle.mpcp_window_laws.proofs.RowsBehind.{small_behind, limits_rise_behind}
+use Rattle.closer_mpcp_laws.specs.CloserMpcpRows.{further_rows}
+use Rattle.closer_mpcp_laws.proofs.FurtherRows.{EachFurther, further_each, further_rise, further_small, further_few, further_there}
+use Rattle.mpcp_window_laws.specs.WaitRows.{requests_in_waits, direct_wait_row, held_in_waits, wait_rows}
+use Rattle.mpcp_window_laws.specs.WaitRows.{mpcp_closer_rows, mpcp_closer_source, mpcp_closer_program}
+use Rattle.mpcp_window_laws.proofs.WaitLimits.{direct_wait_limit_rises, held_rises}
 
--- Whatever is true of each row of waits is true of all.
-pub each_wait : (P : ConstraintDef → Type 0) (set : SetDef) (i : ℕ) → i < length set.tasks
-    → ((x q : ℕ) → x < length set.tasks → P (direct_wait_row set i x q)) → All P (wait_rows set i)
-each_wait P set i here each =
-    all_per_pair P i (length set.resources) (direct_wait_row set i) (λ x q a b. each x q (omega (arith, a, here)))
+-- The rows behind those of MPCP.
+abbrev behind : SetDef → ℕ → List ConstraintDef
+behind set i = further_rows set (held_in_waits set i) i ++ wait_rows set i
+
+-- Whatever is true of each row of MPCP, of each closer row and of each row of direct waits is true of all.
+pub mpcp_closer_each : (P : ConstraintDef → Type 0) (set : SetDef) (i : ℕ) → All P (rows_of protocol.Mpcp set i)
+    → EachFurther P set (held_in_waits set i) i → ((x q : ℕ) → x < i → q < length set.resources → P (direct_wait_row set i x q))
+    → All P (mpcp_closer_rows set i)
+mpcp_closer_each P set i rows further waits =
+    All-append P (rows_of protocol.Mpcp set i) (behind set i) rows
+    (All-append P (further_rows set (held_in_waits set i) i) (wait_rows set i) (further_each P set (held_in_waits set i) i further)
+    (all_per_pair P i (length set.resources) (direct_wait_row set i) waits))
 
 -- No limit of these falls when bounds rise.
-pub mpcp_windowed_rises : (set : SetDef) (i : ℕ) (r s : List ℕ) → i < length set.tasks → AtMost (length set.tasks) r s
-    → HasLimitsAtMost (mpcp_windowed_program set i r) (mpcp_windowed_program set i s)
-mpcp_windowed_rises set i r s here h =
-    limits_rise_behind set (columns_of protocol.Mpcp set i) (mpcp_closer_rows set i) (wait_rows set i) r s
-    (mpcp_closer_rises set i r s here h)
-    (limits_at_most set (columns_of protocol.Mpcp set i) (wait_rows set i) r s (each_wait (Rises r s) set i here (λ x q l.
-    direct_wait_limit_rises set (slice_index r) (slice_index s) i x q here l h)))
+rows_rise : (set : SetDef) (i : ℕ) (r s : List ℕ) → i < length set.tasks → AtMost (length set.tasks) r s
+    → All (Rises r s) (mpcp_closer_rows set i)
+rows_rise set i r s here most =
+    let jobs : HasJobsAtMost set i r s = jobs_rise set r s i here most in
+    mpcp_closer_each (Rises r s) set i (each_row (Rises r s) protocol.Mpcp set i (limits_rise protocol.Mpcp set i r s here jobs))
+    (further_rise set (held_in_waits set i) i r s here jobs (λ x q a b. held_rises set (slice_index r) (slice_index s) i x q here most))
+    (λ x q a b. direct_wait_limit_rises set (slice_index r) (slice_index s) i x q here (omega (arith, a, here)) most)
 
--- A program has at most 256 of them, so at most 1404 rows. A row of direct waits counts the columns that a row of turns counts.
-pub mpcp_windowed_height : (set : SetDef) (i : ℕ) (r : List ℕ) → IsAccepted set → i < length set.tasks
-    → height (mpcp_windowed_program set i r) ≤ 1404
-mpcp_windowed_height set i r accepted here =
+pub mpcp_closer_rises : (set : SetDef) (i : ℕ) (r s : List ℕ) → i < length set.tasks → AtMost (length set.tasks) r s
+    → HasLimitsAtMost (mpcp_closer_program set i r) (mpcp_closer_program set i s)
+mpcp_closer_rises set i r s here most =
+    limits_at_most set (columns_of protocol.Mpcp set i) (mpcp_closer_rows set i) r s (rows_rise set i r s here most)
+
+-- None of them is large.
+held_small : (set : SetDef) (i x q : ℕ) (r : List ℕ) → IsAccepted set → AreWithinDeadlines set r → i < length set.tasks
+    → held_in_waits set i (slice_index r) x q ≤ 128000000000000
+held_small set i x q r accepted within here =
+    let sizes = sizes_of_accepted set accepted in
+    let sum = sum_at_most i 2000000000000 (λ y. only_if (is_beside set x y) (requests_in_waits set (slice_index r) i q y q)) (λ y l.
+    omega (
+      arith,
+      only_if-at_most (is_beside set x y) (requests_in_waits set (slice_index r) i q y q),
+      requests_small set r i y q accepted within here (omega (arith, l, here)),
+    )) in
+    omega (arith, sum, sizes.tasks_to, here)
+
+wait_small : (set : SetDef) (i x q : ℕ) (r : List ℕ) → IsAccepted set → AreWithinDeadlines set r → i < length set.tasks → x < i
+    → IsSmallRow r (direct_wait_row set i x q)
+wait_small set i x q r accepted within here l = record {
+  coefficients = λ c. flag_small _;
+  limit = omega (arith, requests_small set r i x q accepted within here (omega (arith, l, here)));
+}
+
+closer_rows_small : (set : SetDef) (i : ℕ) (r : List ℕ) → IsAccepted set → AreWithinDeadlines set r → i < length set.tasks
+    → All (IsSmallRow r) (mpcp_closer_rows set i)
+closer_rows_small set i r accepted within here =
+    mpcp_closer_each (IsSmallRow r) set i
+    (each_row (IsSmallRow r) protocol.Mpcp set i (rows_small protocol.Mpcp set i r accepted within here))
+    (further_small set (held_in_waits set i) i r accepted within here (λ x q a b. held_small set i x q r accepted within here))
+    (λ x q a b. wait_small set i x q r accepted within here a)
+
+closer_rows_few : (set : SetDef) (i : ℕ) → IsAccepted set → i < length set.tasks → length (mpcp_closer_rows set i) ≤ 65536
+closer_rows_few set i accepted here =
+    let f : Few set = few set accepted in
+    omega (
+      arith,
+      length-append (rows_of protocol.Mpcp set i) (behind set i),
+      length-append (further_rows set (held_in_waits set i) i) (wait_rows set i),
+      rows_few protocol.Mpcp set i accepted,
+      further_few set (held_in_waits set i) i f,
+      pair_at_most i (length set.resources) (direct_wait_row set i),
+      mul-le-mul_right (length set.resources) here,
+      f.pairs,
+    )
+
+-- The rows of requests are among them.
+among : (set : SetDef) (i x q : ℕ) → x < length set.tasks → q < length set.resources
+    → Contains (mpcp_closer_rows set i) (request_row set i x q)
+among set i x q a b = request_among protocol.Mpcp set i (behind set i) x q a b
+
+pub mpcp_closer_is_program : (set : SetDef) (i : ℕ) (r : List ℕ) → IsAccepted set → i < length set.tasks → AreWithinDeadlines set r
+    → IsProgram (mpcp_closer_program set i r)
+mpcp_closer_is_program set i r accepted here within =
+    is_program set i (columns_of protocol.Mpcp set i) (mpcp_closer_rows set i) r accepted
+    (written_where (is_column protocol.Mpcp set i) set i (mpcp_closer_rows set i) r accepted (λ x q a b. among set i x q a b)
+    (closer_rows_small set i r accepted within here) (omega (arith, closer_rows_few set i accepted here)))
+
+-- Each column has a coefficient above zero in some row.
+pub mpcp_closer_covered : (set : SetDef) (i : ℕ) (r : List ℕ) (c : ℕ) → c < columns (mpcp_closer_program set i r)
+    → IsCovered (mpcp_closer_program set i r) c
+mpcp_closer_covered set i r c within =
+    covered_by set i (columns_of protocol.Mpcp set i) (mpcp_closer_rows set i) r c
+    (passing_known (is_column protocol.Mpcp set i) set) (λ x q a b. among set i x q a b) within
+
+-- What comes up at some bounds, no less comes up at greater ones.
+pub mpcp_closer_above : (set : SetDef) → ComesUpAbove (mpcp_closer_source set)
+mpcp_closer_above set = comes_up_above (mpcp_closer_source set) (λ i r s here most. mpcp_closer_rises set i r s here most)
+
+-- A program has at most 256 rows of direct waits, so at most 1404 rows. A row of direct waits counts the columns that a row of turns counts.
+pub mpcp_closer_height : (set : SetDef) (i : ℕ) (r : List ℕ) → IsAccepted set → i < length set.tasks
+    → height (mpcp_closer_program set i r) ≤ 1404
+mpcp_closer_height set i r accepted here =
     let cs : List ColumnDef = columns_of protocol.Mpcp set i in
     omega (
       arith,
-      height_is set cs (mpcp_windowed_rows set i) r,
-      there_behind cs (mpcp_closer_rows set i) (wait_rows set i),
       height_is set cs (mpcp_closer_rows set i) r,
-      mpcp_closer_height set i r accepted here,
+      there_behind cs (rows_of protocol.Mpcp set i) (behind set i),
+      there_behind cs (further_rows set (held_in_waits set i) i) (wait_rows set i),
+      rows_at_most protocol.Mpcp set i accepted here,
+      further_there set (held_in_waits set i) i accepted here,
       first_rows_few (is_column protocol.Mpcp set i) set i (direct_wait_row set i) accepted (columns_are_requests protocol.Mpcp set i)
           (omega (arith, here)) (λ x q. turn_of set i x q),
     )
-
--- None of them is large.
-waits_small : (set : SetDef) (i : ℕ) (r : List ℕ) → IsAccepted set → i < length set.tasks → AreWithinDeadlines set r
-    → All (IsSmallRow r) (wait_rows set i)
-waits_small set i r accepted here within = each_wait (IsSmallRow r) set i here (λ x q l. record {
-  coefficients = λ c. flag_small _;
-  limit = omega (arith, requests_small set r i x q accepted within here l);
-})
-
-pub mpcp_windowed_is_program : (set : SetDef) (i : ℕ) (r : List ℕ) → IsAccepted set → i < length set.tasks → AreWithinDeadlines set r
-    → IsProgram (mpcp_windowed_program set i r)
-mpcp_windowed_is_program set i r accepted here within = record {
-  lengths = have_lengths set cs (mpcp_windowed_rows set i) r;
-  covered = λ c l. covered_by set i cs (mpcp_windowed_rows set i) r c (passing_known (is_column protocol.Mpcp set i) set)
-      (λ x q a b. Contains-append_left (mpcp_closer_rows set i) (wait_rows set i) (request_row set i x q)
-      (request_among protocol.Mpcp set i (further_rows set i) x q a b)) l;
-  small = small_behind set cs (mpcp_closer_rows set i) (wait_rows set i) r closer.small
-      (are_small set cs (wait_rows set i) r accepted (passing_known (is_column protocol.Mpcp set i) set)
-      (waits_small set i r accepted here within));
-  columns_to = closer.columns_to;
-  rows_to = omega (arith, mpcp_windowed_height set i r accepted here);
-} where
-  cs : List ColumnDef
-  cs = columns_of protocol.Mpcp set i
-
-  closer : IsProgram (program_with set cs (mpcp_closer_rows set i) r)
-  closer = mpcp_closer_is_program set i r accepted here within

@@ -1,5 +1,5 @@
--- The programs with rows of waits analyse MPCP, so valid certificates over them are sound, and they raise no bound.
-use Rattle.std.proofs.Common.{ℕ, List, length, arith}
+-- The programs with closer rows analyse MPCP, so valid certificates over them are sound, and they raise no bound.
+use Rattle.std.proofs.Common.{ℕ, ◌++◌, List, length, arith}
 use Rattle.program_form.specs.Certificate.{CertificateDef}
 use Rattle.sporadic_model.specs.SetDef.{SetDef}
 use Rattle.sporadic_model.specs.Accepted.{IsAccepted, IsFormed}
@@ -14,7 +14,7 @@ use Rattle.program_sources.specs.Fitting.{AreFitting, AreLeastFitting}
 use Rattle.program_sources.specs.Valid.{IsValid}
 use Rattle.blocking_columns.specs.Columns.{may_block, columns_of}
 use Rattle.charge_laws.specs.Charges.{shared_charge}
-use Rattle.program_laws.specs.Programs.{source_of, interfering_cost}
+use Rattle.program_laws.specs.Programs.{rows_of, source_of, interfering_cost}
 use Rattle.program_laws.proofs.MoreRows.{fitting_with_more}
 use Rattle.row_laws.proofs.ChargedTicks.{mpcp_is_charged}
 use Rattle.row_laws.proofs.InterferingCosts.{mpcp_interferes_within}
@@ -22,41 +22,35 @@ use Rattle.soundness_laws.specs.Sound.{Sound}
 use Rattle.soundness_laws.specs.Analyses.{Analyses, AreValues}
 use Rattle.soundness_laws.proofs.Soundness.{sound_of}
 use Rattle.soundness_laws.proofs.Instances.{analyses_over}
-use Rattle.closer_mpcp_laws.specs.CloserMpcpRows.{mpcp_closer_rows, mpcp_closer_source}
-use Rattle.closer_mpcp_laws.proofs.Sound.{mpcp_closer_fitting}
-use Rattle.mpcp_window_laws.specs.WaitRows.{wait_rows, mpcp_windowed_rows, mpcp_windowed_source}
-use Rattle.mpcp_window_laws.proofs.Points.{mpcp_windowed_point}
+use Rattle.closer_mpcp_laws.specs.CloserMpcpRows.{further_rows}
+use Rattle.mpcp_window_laws.specs.WaitRows.{held_in_waits, wait_rows, mpcp_closer_rows, mpcp_closer_source}
+use Rattle.mpcp_window_laws.proofs.Points.{mpcp_closer_point}
 
-pub mpcp_windows_analyse : (set : SetDef) → IsFormed set → Analyses (shared_rule mpcp) is_shared_interference (mpcp_windowed_source set)
-mpcp_windows_analyse set =
-    analyses_over (shared_rule mpcp) is_shared_interference shared_charge (columns_of protocol.Mpcp) mpcp_windowed_rows
+pub mpcp_closer_analyses : (set : SetDef) → IsFormed set
+    → Analyses (shared_rule mpcp) is_shared_interference (mpcp_closer_source set)
+mpcp_closer_analyses set =
+    analyses_over (shared_rule mpcp) is_shared_interference shared_charge (columns_of protocol.Mpcp) mpcp_closer_rows
     (interfering_cost protocol.Mpcp) set (record {
       most = λ of h a l. omega arith;
       interfering = mpcp_interferes_within;
-      point = mpcp_windowed_point;
+      point = mpcp_closer_point;
       charged = mpcp_is_charged;
     })
 
-pub mpcp_windows_sound : (set : SetDef) (c : CertificateDef) (values : List ℕ) → IsAccepted set → IsValid (mpcp_windowed_source set) c
-    → AreValues (mpcp_windowed_source set) c values → Sound (shared_rule mpcp) is_shared_interference set c.bounds values
-mpcp_windows_sound set c values accepted valid are =
+pub mpcp_closer_sound : (set : SetDef) (c : CertificateDef) (values : List ℕ) → IsAccepted set → IsValid (mpcp_closer_source set) c
+    → AreValues (mpcp_closer_source set) c values → Sound (shared_rule mpcp) is_shared_interference set c.bounds values
+mpcp_closer_sound set c values accepted valid are =
     let formed : IsFormed set = formed_of_accepted set accepted in
-    sound_of (shared_rule mpcp) is_shared_interference (mpcp_windowed_source set) c values (λ w t j same. shared_one_of_three w t j)
-    (λ w t same kept. shared_sound_row mpcp w t kept) formed (mpcp_windows_analyse set formed) valid are
+    sound_of (shared_rule mpcp) is_shared_interference (mpcp_closer_source set) c values (λ w t j same. shared_one_of_three w t j)
+    (λ w t same kept. shared_sound_row mpcp w t kept) formed (mpcp_closer_analyses set formed) valid are
 
--- What fits with the rows of the closer analysis fits with rows of waits too, and so does what fits under MPCP.
-pub fitting_with_waits : (set : SetDef) (s : List ℕ) → AreFitting (mpcp_closer_source set) s → AreFitting (mpcp_windowed_source set) s
-fitting_with_waits set s fits =
-    fitting_with_more set (may_block protocol.Mpcp set) (mpcp_closer_rows set) (wait_rows set) (interfering_cost protocol.Mpcp set) s fits
+-- What fits under MPCP fits with the closer rows, so no least bound with them is greater than one that fits under MPCP.
+pub mpcp_closer_fitting : (set : SetDef) (s : List ℕ) → AreFitting (source_of protocol.Mpcp set) s
+    → AreFitting (mpcp_closer_source set) s
+mpcp_closer_fitting set s fits =
+    fitting_with_more set (may_block protocol.Mpcp set) (rows_of protocol.Mpcp set)
+    (λ i. further_rows set (held_in_waits set i) i ++ wait_rows set i) (interfering_cost protocol.Mpcp set) s fits
 
-pub fitting_with_both : (set : SetDef) (s : List ℕ) → AreFitting (source_of protocol.Mpcp set) s → AreFitting (mpcp_windowed_source set) s
-fitting_with_both set s fits = fitting_with_waits set s (mpcp_closer_fitting set s fits)
-
--- So no least bound with them is greater than one that fits without them.
-pub no_greater : (set : SetDef) (r s : List ℕ) → AreLeastFitting (mpcp_windowed_source set) r → AreFitting (mpcp_closer_source set) s
-    → AtMost (length set.tasks) r s
-no_greater set r s least fits = least.least s (fitting_with_waits set s fits)
-
-pub no_greater_than_plain : (set : SetDef) (r s : List ℕ) → AreLeastFitting (mpcp_windowed_source set) r
+pub mpcp_closer_no_greater : (set : SetDef) (r s : List ℕ) → AreLeastFitting (mpcp_closer_source set) r
     → AreFitting (source_of protocol.Mpcp set) s → AtMost (length set.tasks) r s
-no_greater_than_plain set r s least fits = least.least s (fitting_with_both set s fits)
+mpcp_closer_no_greater set r s least fits = least.least s (mpcp_closer_fitting set s fits)

@@ -11,7 +11,7 @@ use Rattle.blocking_columns.specs.Windows.{requests_in, requests_during}
 use Rattle.indirect_constraints.specs.Rows.{is_beside}
 use Rattle.window_laws.proofs.Rising.{IsBelow}
 use Rattle.mpcp_window_laws.specs.MpcpWindows.{wait_window}
-use Rattle.mpcp_window_laws.specs.WaitRows.{requests_in_windows, requests_in_waits, direct_wait_row, holdings_in_waits}
+use Rattle.mpcp_window_laws.specs.WaitRows.{requests_in_windows, requests_in_waits, direct_wait_row, held_in_waits}
 use Rattle.mpcp_window_laws.proofs.Rising.{jobs_rise, window_rises}
 
 -- What is at most s for each of two numbers is at most s for each of the lesser.
@@ -66,14 +66,14 @@ waits_rise set r s i q x p known l below = elim (cases_lt 0 (count_of set i q)) 
         mul-le-mul_left (count_of set i q) (requests_rise set r s f.least c x p f.at_most (below x l)),
       ))
 
--- So neither does the limit of a row, nor the number of holdings.
+-- So neither does the limit of a row, nor the number of requests that higher tasks can hold.
 pub direct_wait_limit_rises : (set : SetDef) (r s : ℕ → ℕ) (i x q : ℕ) → i < length set.tasks → x < length set.tasks → IsBelow set r s
     → (direct_wait_row set i x q).limit r ≤ (direct_wait_row set i x q).limit s
 direct_wait_limit_rises set r s i x q known l below = waits_rise set r s i q x q known l below
 
-pub holdings_rise : (set : SetDef) (r s : ℕ → ℕ) (i x q : ℕ) → i < length set.tasks → IsBelow set r s
-    → holdings_in_waits set r i x q ≤ holdings_in_waits set s i x q
-holdings_rise set r s i x q known below =
+pub held_rises : (set : SetDef) (r s : ℕ → ℕ) (i x q : ℕ) → i < length set.tasks → IsBelow set r s
+    → held_in_waits set i r x q ≤ held_in_waits set i s x q
+held_rises set r s i x q known below =
     sum_below-monotone i (λ y. only_if (is_beside set x y) (requests_in_waits set r i q y q))
     (λ y. only_if (is_beside set x y) (requests_in_waits set s i q y q))
     (λ y l. only_if-rises (is_beside set x y) (requests_in_waits set r i q y q) (requests_in_waits set s i q y q)

@@ -1,5 +1,5 @@
-//! Windows of waits under MPCP, the rows that they give, and what is true of both. The programs have these rows after those of the closer
-//! analysis.
+//! Windows of waits under MPCP, what they say in rows, and the programs of the closer analysis, which have these rows. Here are the laws of
+//! all three.
 //!
 //! A window bounds how long a request waits until it is granted. It is the least number of ticks that is at least as long as other tasks may
 //! hold the resource in that many ticks.
@@ -35,9 +35,8 @@ ghost use Rattle.charge_laws.specs.Fractions.{product_of_lengths, fractions_of};
 ghost use Rattle.row_laws.specs.Meeting.{TicksMeet};
 ghost use Rattle.soundness_laws.specs.Analyses.{AreValues};
 ghost use Rattle.soundness_laws.specs.Sound.{Sound};
-ghost use Rattle.closer_mpcp_laws.specs.CloserMpcpRows.{mpcp_closer_source};
 ghost use Rattle.mpcp_window_laws.specs.MpcpWindows.{wait_window};
-ghost use Rattle.mpcp_window_laws.specs.WaitRows.{direct_wait_row, holdings_in_waits, mpcp_windowed_program, mpcp_windowed_source};
+ghost use Rattle.mpcp_window_laws.specs.WaitRows.{direct_wait_row, held_in_waits, mpcp_closer_program, mpcp_closer_source};
 ghost use Rattle.mpcp_window_laws.specs.Worked.{both_used, some_bounds};
 
 /// Take a request in a lawful schedule of an accepted set, under MPCP. Let each job whose release plus bound has passed by the issue of the
@@ -71,51 +70,48 @@ pub fn limits_of_waits_rise()
     ensures direct { (set : SetDef) (r s : ℕ → ℕ) (i x q : ℕ) → i < length set.tasks → x < length set.tasks
         → ((y : ℕ) → y < length set.tasks → r y ≤ s y) → (direct_wait_row set i x q).limit r ≤ (direct_wait_row set i x q).limit s }
     ensures holdings { (set : SetDef) (r s : ℕ → ℕ) (i x q : ℕ) → i < length set.tasks
-        → ((y : ℕ) → y < length set.tasks → r y ≤ s y) → holdings_in_waits set r i x q ≤ holdings_in_waits set s i x q }
+        → ((y : ℕ) → y < length set.tasks → r y ≤ s y) → held_in_waits set i r x q ≤ held_in_waits set i s x q }
 {}
 
-/// For an accepted set, and at bounds within the deadlines, the lists of a task with its rows of waits are a program. No limit falls when
-/// the bounds rise.
-pub fn programs_with_waits_are_accepted()
+/// For an accepted set, and at bounds within the deadlines, the lists of a task with the closer rows are a program. No limit falls when the
+/// bounds rise.
+pub fn closer_programs_are_accepted()
     ensures accepted { (set : SetDef) (i : ℕ) (r : List ℕ) → IsAccepted set → i < length set.tasks → AreWithinDeadlines set r
-        → IsProgram (mpcp_windowed_program set i r) }
+        → IsProgram (mpcp_closer_program set i r) }
     ensures rises { (set : SetDef) (i : ℕ) (r s : List ℕ) → i < length set.tasks → AtMost (length set.tasks) r s
-        → HasLimitsAtMost (mpcp_windowed_program set i r) (mpcp_windowed_program set i s) }
+        → HasLimitsAtMost (mpcp_closer_program set i r) (mpcp_closer_program set i s) }
 {}
 
-/// Such a program has at most 1404 rows: the 1148 of the closer analysis, and of direct waits one for each of 256 request entries.
-pub fn rows_with_waits_are_few()
-    ensures { (set : SetDef) (i : ℕ) (r : List ℕ) → IsAccepted set → i < length set.tasks → height (mpcp_windowed_program set i r) ≤ 1404 }
+/// Such a program has at most 1404 rows: the 701 of MPCP, of holdings by resource and of direct waits one for each of 256 request entries,
+/// of shared holdings, away holdings and shared intervals one for each of 63 other tasks, and two more.
+pub fn closer_rows_are_few()
+    ensures { (set : SetDef) (i : ℕ) (r : List ℕ) → IsAccepted set → i < length set.tasks → height (mpcp_closer_program set i r) ≤ 1404 }
 {}
 
 /// Take a job in a lawful schedule of an accepted set, under MPCP. Let each job whose release plus bound is less than this job's, and lies
 /// within the rows, be finished by its own release plus its bound. Then the fractions of this job's window meet every row of its task's
-/// program, those of waits too.
-pub fn fractions_meet_rows_of_waits()
+/// program, the closer ones too.
+pub fn fractions_meet_closer_rows()
     ensures { (w : Trace) (bounds : List ℕ) (n j : ℕ) → IsAccepted w.set → AreLawfulJobs (jobs_of w)
         → KeepsBefore (shared_rule mpcp) w n → j < length w.jobs
         → EndedWithin w (slice_index bounds) (bound_end w (slice_index bounds) j) n
-        → IsScaledPoint (mpcp_windowed_program w.set (task_of w j) bounds)
+        → IsScaledPoint (mpcp_closer_program w.set (task_of w j) bounds)
         (product_of_lengths w.set (columns_of protocol.Mpcp w.set (task_of w j)))
         (fractions_of shared_charge w (slice_index bounds) n j (columns_of protocol.Mpcp w.set (task_of w j))) }
 {}
 
-/// Bounds that fit with the closer analysis fit with rows of waits too, and so do those that fit under MPCP. So no least bound with rows of
-/// waits is greater than a bound that fits without them.
-pub fn waits_raise_no_bound()
-    ensures fitting { (set : SetDef) (s : List ℕ) → AreFitting (mpcp_closer_source set) s → AreFitting (mpcp_windowed_source set) s }
-    ensures plain { (set : SetDef) (s : List ℕ) → AreFitting (source_of protocol.Mpcp set) s → AreFitting (mpcp_windowed_source set) s }
-    ensures least { (set : SetDef) (r s : List ℕ) → AreLeastFitting (mpcp_windowed_source set) r → AreFitting (mpcp_closer_source set) s
-        → AtMost (length set.tasks) r s }
-    ensures least_plain { (set : SetDef) (r s : List ℕ) → AreLeastFitting (mpcp_windowed_source set) r
+/// Bounds that fit under MPCP fit with the closer rows too. So no least bound with them is greater than one that fits under MPCP.
+pub fn closer_rows_raise_no_bound()
+    ensures fitting { (set : SetDef) (s : List ℕ) → AreFitting (source_of protocol.Mpcp set) s → AreFitting (mpcp_closer_source set) s }
+    ensures least { (set : SetDef) (r s : List ℕ) → AreLeastFitting (mpcp_closer_source set) r
         → AreFitting (source_of protocol.Mpcp set) s → AtMost (length set.tasks) r s }
 {}
 
-/// Take an accepted set, and a certificate that is valid for the programs with rows of waits. Its bounds and the values of its duals are
+/// Take an accepted set, and a certificate that is valid for the programs with the closer rows. Its bounds and the values of its duals are
 /// sound: they hold in every schedule of lawful jobs that keeps the rules of MPCP.
-pub fn valid_certificates_with_waits_are_sound()
-    ensures { (set : SetDef) (c : CertificateDef) (values : List ℕ) → IsAccepted set → IsValid (mpcp_windowed_source set) c
-        → AreValues (mpcp_windowed_source set) c values → Sound (shared_rule mpcp) is_shared_interference set c.bounds values }
+pub fn valid_closer_certificates_are_sound()
+    ensures { (set : SetDef) (c : CertificateDef) (values : List ℕ) → IsAccepted set → IsValid (mpcp_closer_source set) c
+        → AreValues (mpcp_closer_source set) c values → Sound (shared_rule mpcp) is_shared_interference set c.bounds values }
 {}
 
 /// The windows of q in a worked set of four tasks, of the highest task and of the lowest.

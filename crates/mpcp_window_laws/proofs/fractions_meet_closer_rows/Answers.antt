@@ -1,6 +1,6 @@
 use Rattle.sporadic_model.proofs.Laws.{formed_of_accepted}
-use Rattle.closer_mpcp_laws.proofs.Points.{mpcp_closer_point}
-use Rattle.closer_mpcp_laws.proofs.fractions_meet_closer_rows.Goals as goal
+use Rattle.mpcp_window_laws.proofs.Points.{mpcp_closer_point}
+use Rattle.mpcp_window_laws.proofs.fractions_meet_closer_rows.Goals as goal
 
 pub returns : goal.returns
 returns c =
