@@ -33,7 +33,7 @@ holder_active w bound n j x s share q t c l a =
     (c.window.lawful.each (first_holder w j t) a.facts.listed).script a.facts.held
 
 -- While higher tasks hold q, there is one for each request of q that jobs of those beside x make in the window.
-high_paid : (w : Trace) (bound : ℕ → ℕ) (n j x s : ℕ) (share : ℕ → ℕ → ℕ) (q : ℕ) → Holding w bound n j x s share
+pub high_paid : (w : Trace) (bound : ℕ → ℕ) (n j x s : ℕ) (share : ℕ → ℕ → ℕ) (q : ℕ) → Holding w bound n j x s share
     → sum_below (window_end w bound n j) (λ t. high_part w j x share q t) ≤ s * higher_holdings w.set bound (task_of w j) x q
 high_paid w bound n j x s share q c =
     by_higher shared_charge w bound n j q s (is_beside w.set x) (λ t. first_holder w j t) (λ t. t) (λ t. high_part w j x share q t) c.window
@@ -119,21 +119,23 @@ split_parts : (b : Bool) (n : ℕ) → n ≡ only_if b n + only_if (not b) n
 split_parts true n = omega arith
 split_parts false n = omega arith
 
--- So all that is charged to x indirectly is paid for by the holdings of such resources beside x.
-pub holdings_paid : (w : Trace) (bound : ℕ → ℕ) (n j x s : ℕ) (share : ℕ → ℕ → ℕ) (ok low : ℕ → Bool) → Holding w bound n j x s share
-    → HeldWhere w bound n j x share ok low
+-- So all that is charged to x indirectly is paid for by the holdings of such resources beside x, where so many by higher tasks pay for what
+-- is charged while these hold a resource.
+pub holdings_paid : (w : Trace) (bound : ℕ → ℕ) (n j x s : ℕ) (share : ℕ → ℕ → ℕ) (ok low : ℕ → Bool) (higher : ℕ → ℕ)
+    → Holding w bound n j x s share → HeldWhere w bound n j x share ok low
+    → ((q : ℕ) → sum_below (window_end w bound n j) (λ t. high_part w j x share q t) ≤ s * higher q)
     → sum_below (window_end w bound n j) (λ t. amount w j x share t)
     ≤ s * sum_below (length w.set.resources) (λ q. only_if (ok q)
-    (higher_holdings w.set bound (task_of w j) x q + only_if (low q) (lower_holdings w.set (task_of w j) x q)))
-holdings_paid w bound n j x s share ok low c known =
+    (higher q + only_if (low q) (lower_holdings w.set (task_of w j) x q)))
+holdings_paid w bound n j x s share ok low higher c known paid =
     by_resource shared_charge w bound n j s (holding_share x share) ok
-    (λ q. higher_holdings w.set bound (task_of w j) x q + only_if (low q) (lower_holdings w.set (task_of w j) x q))
+    (λ q. higher q + only_if (low q) (lower_holdings w.set (task_of w j) x q))
     (λ t l h. let a : Held w t j x h.charge.job = held_at mpcp w bound n t j x share c.window c.keeps (omega arith) h in
     record { within = a.within; passes = known.waited t l h })
-    (λ q l on. paid q) where
-      paid : (q : ℕ) → sum_below (window_end w bound n j) (λ t. for_resource w j x share q t)
-          ≤ s * (higher_holdings w.set bound (task_of w j) x q + only_if (low q) (lower_holdings w.set (task_of w j) x q))
-      paid q =
+    (λ q l on. each q) where
+      each : (q : ℕ) → sum_below (window_end w bound n j) (λ t. for_resource w j x share q t)
+          ≤ s * (higher q + only_if (low q) (lower_holdings w.set (task_of w j) x q))
+      each q =
           let split : sum_below (window_end w bound n j) (λ t. for_resource w j x share q t)
           ≡ sum_below (window_end w bound n j) (λ t. low_part w j x share q t + high_part w j x share q t) =
           sum_below-agree (window_end w bound n j) (λ t. for_resource w j x share q t)
@@ -142,19 +144,21 @@ holdings_paid w bound n j x s share ok low c known =
           ≡ sum_below (window_end w bound n j) (λ t. low_part w j x share q t) + sum_below (window_end w bound n j)
           (λ t. high_part w j x share q t) =
           sum_below-plus (window_end w bound n j) (λ t. low_part w j x share q t) (λ t. high_part w j x share q t) in
-          let both : s
-          * (higher_holdings w.set bound (task_of w j) x q + only_if (low q) (lower_holdings w.set (task_of w j) x q))
-          ≡ s * higher_holdings w.set bound (task_of w j) x q + s * only_if (low q) (lower_holdings w.set (task_of w j) x q) =
-          mul-add s (higher_holdings w.set bound (task_of w j) x q) (only_if (low q) (lower_holdings w.set (task_of w j) x q)) in
-          omega (arith, split, plus, both, high_paid w bound n j x s share q c, low_where w bound n j x s share ok low q c known)
+          let both : s * (higher q + only_if (low q) (lower_holdings w.set (task_of w j) x q))
+          ≡ s * higher q + s * only_if (low q) (lower_holdings w.set (task_of w j) x q) =
+          mul-add s (higher q) (only_if (low q) (lower_holdings w.set (task_of w j) x q)) in
+          omega (arith, split, plus, both, paid q, low_where w bound n j x s share ok low q c known)
 
 -- The row of holdings.
 pub holding_row_met : (w : Trace) (bound : ℕ → ℕ) (n j x : ℕ) → Window shared_charge w bound n j → KeepsBefore (shared_rule mpcp) w n
     → TicksMeet shared_charge w bound n j (holding_row w.set (task_of w j) x)
 holding_row_met w bound n j x window keeps s share fair =
     holdings_paid w bound n j x s share (λ q. is_user w.set q (task_of w j)) (λ q. true)
-    (record { window = window; keeps = keeps; fair = fair })
+    (λ q. higher_holdings w.set bound (task_of w j) x q) c
     (record {
       waited = λ t l h. let a : Held w t j x h.charge.job = held_at mpcp w bound n t j x share window keeps (omega arith) h in a.user;
       lower = λ t l h low. refl;
     })
+    (λ q. high_paid w bound n j x s share q c) where
+      c : Holding w bound n j x s share
+      c = record { window = window; keeps = keeps; fair = fair }
