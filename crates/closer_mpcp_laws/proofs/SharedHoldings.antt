@@ -1,5 +1,5 @@
 -- The rows of shared holdings: the holding row over those resources that are shared out and that what runs may be run before. On the waiting
--- job's own processor no lower task holds what it waits for.
+-- job's own processor no lower task holds what it waits for. How many higher tasks hold may be counted in more than one way.
 use Rattle.std.proofs.Common.{◌≡◌, ℕ, ◌*◌, ◌<◌, ◌≤◌, ◌==◌, ◌&&◌, not, Bool, true, false, length, refl, sym, ap, ◌∙◌, arith, inl, inr}
 use Rattle.std.specs.Option.{option_map_or}
 use Rattle.std.proofs.lemmas.Bool.{cases_Bool, and_parts, and_from, eqb-true, ne_eqb, not_from_false}
@@ -27,6 +27,7 @@ use Rattle.charge_laws.proofs.SharedCharging.{IndirectBy, shared_reason}
 use Rattle.row_laws.specs.Meeting.{brings, TicksMeet}
 use Rattle.row_laws.proofs.Brings.{Window, Hit, flag_times-at_most, flag_times-passes, only_if-parts}
 use Rattle.row_laws.proofs.Holdings.{holding_share, resource_of, own_resource, first_holder}
+use Rattle.row_laws.proofs.HoldingParts.{Holding, high_part}
 use Rattle.row_laws.proofs.HoldingRow.{HeldWhere, holdings_paid}
 use Rattle.row_laws.proofs.Requests.{indirect_is, indirect_by}
 use Rattle.row_laws.proofs.SharedPlacement.{mpcp_runs}
@@ -105,14 +106,23 @@ known w bound n j x share passes window keeps ok = record {
       (open_user w.set w t j a.by.waits.number a.by.waits.resource (window.lawful.each j window.listed) a.by.waits.request)
       (and_from _ _ (waits_shared mpcp w n t j a.by.first keeps window.lawful l a.by.waits) (ok t l h a)))
 
+-- Each way to count their holdings beside x will do that pays for what is charged to x indirectly while they hold a resource.
+abbrev pub HigherHeld : Trace → (ℕ → ℕ) → ℕ → ℕ → ℕ → ((ℕ → ℕ) → ℕ → ℕ → ℕ) → Type 0
+HigherHeld w bound n j x held = (s : ℕ) (share : ℕ → ℕ → ℕ) → Holding w bound n j x s share → (q : ℕ)
+    → sum_below (window_end w bound n j) (λ t. high_part w j x share q t) ≤ s * held bound x q
+
 -- The row of shared holdings.
-pub shared_holding_row_met : (w : Trace) (bound : ℕ → ℕ) (n j x : ℕ) → Window shared_charge w bound n j
-    → KeepsBefore (shared_rule mpcp) w n → TicksMeet shared_charge w bound n j (shared_holding_row w.set (task_of w j) x)
-shared_holding_row_met w bound n j x window keeps s share fair =
+pub shared_holding_row_met : (w : Trace) (bound : ℕ → ℕ) (n j x : ℕ) (held : (ℕ → ℕ) → ℕ → ℕ → ℕ) → Window shared_charge w bound n j
+    → KeepsBefore (shared_rule mpcp) w n → HigherHeld w bound n j x held
+    → TicksMeet shared_charge w bound n j (shared_holding_row w.set held (task_of w j) x)
+shared_holding_row_met w bound n j x held window keeps paid s share fair =
     holdings_paid w bound n j x s share
     (λ r. is_user w.set r (task_of w j) && (is_shared_out w.set (task_of w j) r && goes_before w.set x r))
-    (λ r. not (have_one_processor w.set x (task_of w j))) (record { window = window; keeps = keeps; fair = fair })
-    (known w bound n j x share (goes_before w.set x) window keeps passes) where
+    (λ r. not (have_one_processor w.set x (task_of w j))) (held bound x) c
+    (known w bound n j x share (goes_before w.set x) window keeps passes) (paid s share c) where
+      c : Holding w bound n j x s share
+      c = record { window = window; keeps = keeps; fair = fair }
+
       passes : (t : ℕ) → t < n → (h : Hit shared_charge w (holding_share x share) j t) → (a : Runs w t j x h.charge.job)
           → goes_before w.set x a.by.waits.resource ≡ true
       passes t l h a =
@@ -135,15 +145,15 @@ parted true false true n = omega arith
 parted true false false n = omega arith
 parted false b d n = omega arith
 
-pub resource_holding_row_met : (w : Trace) (bound : ℕ → ℕ) (n j x q : ℕ) → Window shared_charge w bound n j
-    → KeepsBefore (shared_rule mpcp) w n → TicksMeet shared_charge w bound n j (resource_holding_row w.set (task_of w j) x q)
-resource_holding_row_met w bound n j x q window keeps s share fair =
+pub resource_holding_row_met : (w : Trace) (bound : ℕ → ℕ) (n j x q : ℕ) (held : (ℕ → ℕ) → ℕ → ℕ → ℕ) → Window shared_charge w bound n j
+    → KeepsBefore (shared_rule mpcp) w n → HigherHeld w bound n j x held
+    → TicksMeet shared_charge w bound n j (resource_holding_row w.set held (task_of w j) x q)
+resource_holding_row_met w bound n j x q held window keeps paid s share fair =
     rw (ap (λ (f : ColumnDef → ℕ). sum_below (window_end w bound n j) (λ t. brings shared_charge w f j t)) same)
     (holdings_paid w bound n j x s (share_of q share)
     (λ r. is_user w.set r (task_of w j) && (is_shared_out w.set (task_of w j) r && goes_first w.set x q r))
-    (λ r. not (have_one_processor w.set x (task_of w j)))
-    (record { window = window; keeps = keeps; fair = λ y r. fair_of y r })
-    (known w bound n j x (share_of q share) (goes_first w.set x q) window keeps passes)) where
+    (λ r. not (have_one_processor w.set x (task_of w j))) (held bound x) c
+    (known w bound n j x (share_of q share) (goes_first w.set x q) window keeps passes) (paid s (share_of q share) c)) where
       counted : ColumnDef → ℕ
       counted = λ c. flag (((c.task == x) && (c.resource == q)) && is_indirect c.class) * share c.task c.resource
 
@@ -155,6 +165,9 @@ resource_holding_row_met w bound n j x q window keeps s share fair =
         | inl on ↦ rw on (fair y r)
         | inr off ↦ rw off (omega arith)
       ]
+
+      c : Holding w bound n j x s (share_of q share)
+      c = record { window = window; keeps = keeps; fair = λ y r. fair_of y r }
 
       passes : (t : ℕ) → t < n → (h : Hit shared_charge w (holding_share x (share_of q share)) j t) → (a : Runs w t j x h.charge.job)
           → goes_first w.set x q a.by.waits.resource ≡ true

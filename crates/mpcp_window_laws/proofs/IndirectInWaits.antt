@@ -22,7 +22,8 @@ use Rattle.row_laws.proofs.Holdings.{own_resource, first_holder}
 use Rattle.row_laws.proofs.HoldingParts.{Holding, for_resource, is_low, high_part, task_part, ForResource, for_resource_is, job_paid}
 use Rattle.row_laws.proofs.JobRows.{paid_in_window, product_turned}
 use Rattle.row_laws.proofs.Requests.{indirect_is, indirect_by}
-use Rattle.mpcp_window_laws.specs.WaitRows.{requests_in_waits, holdings_in_waits}
+use Rattle.closer_mpcp_laws.proofs.SharedHoldings.{HigherHeld}
+use Rattle.mpcp_window_laws.specs.WaitRows.{requests_in_waits, held_in_waits}
 use Rattle.mpcp_window_laws.proofs.WaitLimits.{paid_in_each}
 use Rattle.mpcp_window_laws.proofs.PaidInWaits.{Waits, WaitsBeside, requests_paid}
 
@@ -118,7 +119,7 @@ task_paid w bound n j q x y s share c ended known =
 -- So while higher tasks hold q what is charged to x indirectly is paid for by their holdings in j's waits for q.
 pub high_in_waits : (w : Trace) (bound : ℕ → ℕ) (n j q x s : ℕ) (share : ℕ → ℕ → ℕ) → Holding w bound n j x s share
     → EndedWithin w bound (bound_end w bound j) n
-    → sum_below (window_end w bound n j) (λ t. high_part w j x share q t) ≤ s * holdings_in_waits w.set bound (task_of w j) x q
+    → sum_below (window_end w bound n j) (λ t. high_part w j x share q t) ≤ s * held_in_waits w.set (task_of w j) bound x q
 high_in_waits w bound n j q x s share c ended =
     let slots : sum_below e (λ t. high_part w j x share q t) ≡ sum_below i (λ y. sum_below e (λ t. task_part w j x share q y t)) =
     sum_below-slots e i (λ t. task_of w (first_holder w j t)) (λ t. high_part w j x share q t) (λ t l some. higher t l some) in
@@ -152,3 +153,8 @@ high_in_waits w bound n j q x s share c ended =
             | inl less ↦ less
             | inr same ↦ absurd (h.facts.other (omega (arith, most, same)))
           ]
+
+-- They pay for the rows of shared holdings.
+pub higher_held_in_waits : (w : Trace) (bound : ℕ → ℕ) (n j x : ℕ) → EndedWithin w bound (bound_end w bound j) n
+    → HigherHeld w bound n j x (held_in_waits w.set (task_of w j))
+higher_held_in_waits w bound n j x ended s share c q = high_in_waits w bound n j q x s share c ended
