@@ -10,7 +10,7 @@ use Rattle.blocking_columns.specs.ColumnDef.{is_class}
 use Rattle.blocking_columns.specs.Columns.{have_one_processor, is_lower_local, may_run_before}
 use Rattle.blocking_columns.specs.Windows.{requests_by_higher}
 use Rattle.fragments.specs.Constraints.{ConstraintDef, counting, per, per_where, per_pair}
-use Rattle.indirect_constraints.specs.Rows.{is_beside, lower_holdings}
+use Rattle.indirect_constraints.specs.Rows.{lower_holdings}
 use Rattle.closer_laws.specs.CloserRows.{is_shared_out, is_held_there, requests_where, local_preemption_row}
 
 -- Lower waits: a job never waits for a lower task of its processor.
