@@ -25,8 +25,8 @@ use Rattle.closer_distributed_laws.specs.CloserRows.{dpcp_closer_source, dflp_cl
 use Rattle.closer_distributed_laws.proofs.Sound.{dpcp_closer_analyses, dflp_closer_analyses}
 use Rattle.closer_spin_laws.specs.CloserSpinRows.{spin_closer_source}
 use Rattle.closer_spin_laws.proofs.Sound.{spin_closer_analyses}
-use Rattle.closer_mpcp_laws.specs.CloserMpcpRows.{mpcp_closer_source}
-use Rattle.closer_mpcp_laws.proofs.Sound.{mpcp_closer_analyses}
+use Rattle.mpcp_window_laws.specs.WaitRows.{mpcp_closer_source}
+use Rattle.mpcp_window_laws.proofs.Sound.{mpcp_closer_analyses}
 use Rattle.spin_rules.specs.SpinRules.{spin_rule}
 use Rattle.spin_rules.proofs.SpinLaws.{spin_sound_row}
 use Rattle.spin_charging.specs.SpinPrograms.{spin_source}

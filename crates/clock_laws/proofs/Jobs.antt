@@ -17,7 +17,7 @@ use Rattle.clock_laws.proofs.Sets.{period_in, jitter_in, count_in, higher_in}
 abbrev pub fine : ℕ → (ℕ → ℕ) → ℕ → ℕ
 fine k bounds x = k * bounds x
 
-factor : (k w b c : ℕ) → k * w + (k * b + k * c) ≡ k * (w + (b + c))
+pub factor : (k w b c : ℕ) → k * w + (k * b + k * c) ≡ k * (w + (b + c))
 factor k w b c = omega arith
 
 pub jobs_in_cycles : (k : ℕ) (set : SetDef) (bounds : ℕ → ℕ) (w x : ℕ) → 0 < k

@@ -10,9 +10,11 @@ pub mod Roundings
 pub mod FifoRows
 pub mod SpinRows
 pub mod CloserSpinRows
+pub mod FineWindows
 pub mod WindowRows
 pub mod CloserRows
 pub mod CloserHomeRows
+pub mod WaitWindows
 pub mod CloserMpcpRows
 pub mod WorkedClock
 pub mod Spared

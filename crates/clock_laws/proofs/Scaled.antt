@@ -1,4 +1,5 @@
--- Numbers multiplied by k: quotients stay, and remainders are multiplied by k too.
+-- Numbers multiplied by k: quotients stay, and remainders are multiplied by k too. So are the lesser and the greater of two, and the sum
+-- and the greatest of many.
 use Rattle.std.proofs.Common.{◌≡◌, ◌∙◌, ℕ, zero, suc, ◌+◌, ◌-◌, ◌*◌, ◌/◌, ◌%◌, ◌<◌, ◌≤◌, ap, ap₂, refl, sym, arith, min, inl, inr, Bool, true, false}
 use Rattle.std.proofs.Common.{List, [], ◌∷◌}
 use Rattle.std.specs.Prelude.{slice_index, nat_lt, max}
@@ -7,7 +8,9 @@ use Rattle.std.proofs.Math.Nat.{mul-zero, mul_comm, div-zero, mod-zero, mul-le-m
 use Rattle.std.proofs.Math.Nat.{lt-mul-div-succ, mod-eq-sub-div-mul, div-le_of_le-mul}
 use Rattle.std.proofs.lemmas.Bool.{cases_lt, lt-ltb}
 use Rattle.number_laws.proofs.Divisors.{times_mod}
-use Rattle.number_laws.specs.Sums.{only_if}
+use Rattle.number_laws.specs.Sums.{sum_below, only_if}
+use Rattle.number_laws.proofs.SumLaws.{sum_below-times}
+use Rattle.schedule_model.specs.Measures.{greatest_below}
 use Rattle.clock_laws.specs.Cycles.{times_each}
 
 -- A product with a k above 0 is 0 if and only if its other factor is.
@@ -55,7 +58,10 @@ pub only_times : (b : Bool) (k n : ℕ) → only_if b (k * n) ≡ k * only_if b 
 only_times true k n = refl
 only_times false k n = sym (mul-zero k)
 
--- The greater of two products with one factor.
+pub swapped : (k m n : ℕ) → m * (k * n) ≡ k * (m * n)
+swapped k m n = omega arith
+
+-- The greater of two products with one factor, and the lesser.
 pub max_times : (k m n : ℕ) → max (k * m) (k * n) ≡ k * max m n
 max_times k m n = elim (cases_lt m n) [
   | inl below ↦
@@ -67,6 +73,26 @@ max_times k m n = elim (cases_lt m n) [
       let greater : max m n ≡ m = omega (arith, above) in
       omega (arith, more, ap (λ z. k * z) greater)
 ]
+
+pub min_times : (k m n : ℕ) → min (k * m) (k * n) ≡ k * min m n
+min_times k m n =
+    let both : k * (min m n + max m n) ≡ k * (m + n) = ap (λ z. k * z) (omega arith) in
+    omega (arith, both, max_times k m n)
+
+-- The greatest of such products, and of those that count; and the sum of these.
+pub greatest_times : (k n : ℕ) (f : ℕ → ℕ) → greatest_below n (λ x. k * f x) ≡ k * greatest_below n f
+greatest_times k zero f = sym (mul-zero k)
+greatest_times k (suc n) f = (λ j. max (greatest_times k n f j) (k * f n)) ∙ max_times k (greatest_below n f) (f n)
+
+pub greatest_of_times : (k n : ℕ) (test : ℕ → Bool) (f : ℕ → ℕ)
+    → greatest_below n (λ x. only_if (test x) (k * f x)) ≡ k * greatest_below n (λ x. only_if (test x) (f x))
+greatest_of_times k n test f =
+    (λ j. greatest_below n (λ x. only_times (test x) k (f x) j)) ∙ greatest_times k n (λ x. only_if (test x) (f x))
+
+pub sum_of_times : (k n : ℕ) (test : ℕ → Bool) (f : ℕ → ℕ)
+    → sum_below n (λ x. only_if (test x) (k * f x)) ≡ k * sum_below n (λ x. only_if (test x) (f x))
+sum_of_times k n test f =
+    (λ j. sum_below n (λ x. only_times (test x) k (f x) j)) ∙ sum_below-times n k (λ x. only_if (test x) (f x))
 
 -- The number at a place of a list, with each number multiplied by k.
 pub each_at : (k : ℕ) (ns : List ℕ) (x : ℕ) → slice_index (times_each k ns) x ≡ k * slice_index ns x

@@ -13,6 +13,7 @@ use Rattle.sporadic_model.proofs.Mapped.{find-map}
 use Rattle.blocking_columns.specs.Ceilings.{ceiling_rank, remote_ceiling_rank}
 use Rattle.blocking_columns.specs.Columns.{have_one_processor, is_lower_local}
 use Rattle.clock_laws.specs.Cycles.{request_in_cycles, task_in_cycles, in_cycles}
+use Rattle.clock_laws.proofs.Scaled.{swapped}
 
 tasks_of : ℕ → TaskDef
 tasks_of z = record { name = []; processor = 0; period = z; deadline = z; cost = z; local = z; jitter = z; requests = [] }
@@ -70,6 +71,10 @@ count_in k set x q = (λ j. option_map_or (λ e. e.count) (entry_in k set x q j)
 
 pub length_in : (k : ℕ) (set : SetDef) (x q : ℕ) → length_of (in_cycles k set) x q ≡ k * length_of set x q
 length_in k set x q = (λ j. option_map_or (λ e. e.length) (entry_in k set x q j) 0) ∙ times_length k (entry_of set x q)
+
+pub request_ticks_in : (k : ℕ) (set : SetDef) (x q : ℕ)
+    → count_of (in_cycles k set) x q * length_of (in_cycles k set) x q ≡ k * (count_of set x q * length_of set x q)
+request_ticks_in k set x q = (λ j. count_in k set x q j * length_in k set x q j) ∙ swapped k (count_of set x q) (length_of set x q)
 
 -- So each test that depends on no number of ticks is the same.
 pub users_in : (k : ℕ) (set : SetDef) → is_user (in_cycles k set) ≡ is_user set

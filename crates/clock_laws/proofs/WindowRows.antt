@@ -1,54 +1,41 @@
 -- The window of a request under DPCP in cycles. A window k times as long as the one in ticks is enough, so no more requests run within
 -- it. So each row of windows is rescaled, with a limit that is no greater.
-use Rattle.std.proofs.Common.{◌≡◌, ◌∙◌, ℕ, zero, suc, ◌+◌, ◌*◌, ◌<◌, ◌≤◌, ◌==◌, ◌&&◌, not, List, length, true, false, refl, sym}
+use Rattle.std.proofs.Common.{◌≡◌, ◌∙◌, ℕ, suc, ◌+◌, ◌*◌, ◌<◌, ◌≤◌, ◌==◌, ◌&&◌, not, List, length, false, refl}
 use Rattle.std.proofs.Common.{arith, inl, inr, nat_lt, nat_le, Some}
-use Rattle.std.specs.Prelude.{slice_index, max}
-use Rattle.std.proofs.Math.Nat.{mul-zero, mul-le-mul_left}
-use Rattle.std.proofs.lemmas.Bool.{cases_Bool, lt-ltb, ltb-true}
+use Rattle.std.specs.Prelude.{slice_index}
+use Rattle.std.proofs.Math.Nat.{mul-le-mul_left}
+use Rattle.std.proofs.lemmas.Bool.{cases_Bool}
 use Rattle.number_laws.specs.Sums.{sum_below, only_if}
 use Rattle.number_laws.proofs.SumLaws.{sum_below-times, sum_below-monotone}
 use Rattle.number_laws.proofs.OnlyIfLaws.{only_if-rises}
-use Rattle.number_laws.proofs.TestLaws.{found_below-is}
 use Rattle.sporadic_model.specs.SetDef.{SetDef, task_at}
 use Rattle.sporadic_model.specs.Users.{count_of, length_of}
 use Rattle.sporadic_model.specs.Homes.{home_in}
 use Rattle.sporadic_model.specs.declared.ids.Protocol.TheVariants as protocol
 use Rattle.schedule_model.specs.Measures.{greatest_below}
-use Rattle.program_sources.proofs.RecurrenceLaws.{div_ceil_rises}
 use Rattle.blocking_columns.specs.declared.columns.Class.TheVariants.{Preemption}
 use Rattle.blocking_columns.specs.ColumnDef.{is_class}
 use Rattle.blocking_columns.specs.Columns.{columns_of}
 use Rattle.fragments.specs.Constraints.{per_pair}
-use Rattle.blocking_columns.specs.Windows.{jobs_during, requests_during, requests_in}
+use Rattle.blocking_columns.specs.Windows.{jobs_during, requests_in}
 use Rattle.program_laws.specs.Programs.{rows_of}
 use Rattle.window_laws.specs.Windows.{time_at, may_hold_up, longest_lower, ticks_there, ticks_by, is_enough, window_of}
 use Rattle.window_laws.specs.WindowRows.{meets_there, requests_met, requests_there, lacks_window, window_row, windowed_rows, windowed_source}
-use Rattle.window_laws.proofs.Least.{Found, found_from}
-use Rattle.window_laws.proofs.Rising.{enough_is, enough_from, window_there, lacking}
+use Rattle.window_laws.proofs.Least.{Found}
+use Rattle.window_laws.proofs.Rising.{window_there, lacking}
 use Rattle.clock_laws.specs.Cycles.{in_cycles, times_each}
-use Rattle.clock_laws.proofs.Scaled.{only_times, max_times}
-use Rattle.clock_laws.proofs.Sets.{tasks_in, deadline_in, count_in, length_in, users_in, rank_in}
+use Rattle.clock_laws.proofs.Scaled.{swapped, greatest_times, greatest_of_times, sum_of_times}
+use Rattle.clock_laws.proofs.Sets.{tasks_in, count_in, length_in, request_ticks_in, users_in, rank_in}
 use Rattle.clock_laws.proofs.Columns.{columns_scaled}
 use Rattle.clock_laws.proofs.Jobs.{fine, jobs_in_cycles, requests_in_cycles}
 use Rattle.clock_laws.proofs.Rescaled.{AreRescaled, counted, appended, each_pair}
 use Rattle.clock_laws.proofs.BaseRows.{rows_in}
+use Rattle.clock_laws.proofs.FineWindows.{fine_least, fewer_in_cycles}
 use Rattle.clock_laws.proofs.Programs.{IsRescaled, programs_rescaled}
 
-swapped : (k m n : ℕ) → m * (k * n) ≡ k * (m * n)
-swapped k m n = omega arith
-
 time_in : (k : ℕ) (set : SetDef) (x m : ℕ) → time_at (in_cycles k set) x m ≡ k * time_at set x m
-time_in k set x m = (λ j. sum_below (length set.resources) (λ q. each q j))
-    ∙ sum_below-times (length set.resources) k (λ q. only_if (home_in set q == m) (count_of set x q * length_of set x q)) where
-      each : (q : ℕ) → only_if (home_in set q == m) (count_of (in_cycles k set) x q * length_of (in_cycles k set) x q)
-          ≡ k * only_if (home_in set q == m) (count_of set x q * length_of set x q)
-      each q = (λ j. only_if (home_in set q == m) (count_in k set x q j * length_in k set x q j))
-          ∙ ((λ j. only_if (home_in set q == m) (swapped k (count_of set x q) (length_of set x q) j))
-          ∙ only_times (home_in set q == m) k (count_of set x q * length_of set x q))
-
-greatest_times : (k n : ℕ) (f : ℕ → ℕ) → greatest_below n (λ x. k * f x) ≡ k * greatest_below n f
-greatest_times k zero f = sym (mul-zero k)
-greatest_times k (suc n) f = (λ j. max (greatest_times k n f j) (k * f n)) ∙ max_times k (greatest_below n f) (f n)
+time_in k set x m = (λ j. sum_below (length set.resources) (λ q. only_if (home_in set q == m) (request_ticks_in k set x q j)))
+    ∙ sum_of_times k (length set.resources) (λ q. home_in set q == m) (λ q. count_of set x q * length_of set x q)
 
 holds_up_in : (k : ℕ) (set : SetDef) → may_hold_up (in_cycles k set) ≡ may_hold_up set
 holds_up_in k set =
@@ -63,8 +50,7 @@ longest_in k set i m = (λ j. greatest_below (tasks_in k set j) (λ x. by_task x
       by_task : (x : ℕ) → greatest_below (length set.resources) (λ q. only_if (may_hold_up (in_cycles k set) i m x q) (length_of (in_cycles k set) x q))
           ≡ k * greatest_below (length set.resources) (one x)
       by_task x = (λ j. greatest_below (length set.resources) (λ q. only_if (holds_up_in k set j i m x q) (length_in k set x q j)))
-          ∙ ((λ j. greatest_below (length set.resources) (λ q. only_times (may_hold_up set i m x q) k (length_of set x q) j))
-          ∙ greatest_times k (length set.resources) (one x))
+          ∙ greatest_of_times k (length set.resources) (may_hold_up set i m x) (length_of set x)
 
 -- In a window with k times as many cycles, requests may take k times as many of them.
 there_in : (k : ℕ) (set : SetDef) (bounds : ℕ → ℕ) (i q w : ℕ) → 0 < k
@@ -85,16 +71,8 @@ there_in k set bounds i q w some =
 fine_window : (k : ℕ) (set : SetDef) (bounds : ℕ → ℕ) (i q w : ℕ) → 0 < k → window_of set bounds i q ≡ Some w
     → Found (suc (task_at (in_cycles k set) i).deadline) (is_enough (in_cycles k set) (fine k bounds) i q) (k * w)
 fine_window k set bounds i q w some e =
-    let found : (w < suc (task_at set i).deadline) × (is_enough set bounds i q w ≡ true) =
-    found_below-is (suc (task_at set i).deadline) (is_enough set bounds i q) w e in
-    let parts : (nat_lt 0 w ≡ true) × (ticks_there set bounds i q w ≤ w) = enough_is set bounds i q w found.1 in
-    let within : k * w ≤ k * (task_at set i).deadline = mul-le-mul_left k (omega (arith, found.0)) in
-    let most : k * ticks_there set bounds i q w ≤ k * w = mul-le-mul_left k parts.1 in
-    let positive : k * 1 ≤ k * w = mul-le-mul_left k (omega (arith, ltb-true 0 w parts.0)) in
-    found_from (suc (task_at (in_cycles k set) i).deadline) (is_enough (in_cycles k set) (fine k bounds) i q) (k * w)
-    (omega (arith, within, deadline_in k set i))
-    (enough_from (in_cycles k set) (fine k bounds) i q (k * w) (lt-ltb 0 (k * w) (omega (arith, some, positive)))
-    (omega (arith, there_in k set bounds i q w some, most)))
+    fine_least k set i w (ticks_there set bounds i q) (ticks_there (in_cycles k set) (fine k bounds) i q) some
+    (there_in k set bounds i q w some) e
 
 -- No more requests run within it.
 within_fine : (k : ℕ) (set : SetDef) (bounds : ℕ → ℕ) (i x p q w : ℕ) → 0 < k → window_of set bounds i q ≡ Some w
@@ -103,11 +81,7 @@ within_fine k set bounds i x p q w some e =
     let low : Found (suc (task_at (in_cycles k set) i).deadline) (is_enough (in_cycles k set) (fine k bounds) i q) (k * w) =
     fine_window k set bounds i q w some e in
     let lesser : window_of (in_cycles k set) (fine k bounds) i q ≡ Some low.least = low.is_it in
-    let fewer : requests_during (in_cycles k set) (fine k bounds) low.least x p ≤ requests_during (in_cycles k set) (fine k bounds) (k * w) x p =
-    mul-le-mul_left (count_of (in_cycles k set) x p)
-    (div_ceil_rises (low.least + (fine k bounds x + (task_at (in_cycles k set) x).jitter))
-    (k * w + (fine k bounds x + (task_at (in_cycles k set) x).jitter)) (task_at (in_cycles k set) x).period (omega (arith, low.at_most))) in
-    rw (e, lesser) (omega (arith, fewer, requests_in_cycles k set bounds w x p some))
+    rw (e, lesser) (fewer_in_cycles k set bounds low.least w x p some low.at_most)
 
 met_fine : (k : ℕ) (set : SetDef) (bounds : ℕ → ℕ) (i x p : ℕ) → 0 < k → lacks_window set bounds i p ≡ false
     → requests_met (in_cycles k set) (fine k bounds) i x p ≤ requests_met set bounds i x p

@@ -36,7 +36,7 @@ ghost use Rattle.window_laws.specs.WindowRows.{windowed_source};
 ghost use Rattle.closer_laws.specs.CloserRows.{fmlp_closer_source};
 ghost use Rattle.closer_distributed_laws.specs.CloserRows.{dpcp_closer_source, dflp_closer_source};
 ghost use Rattle.closer_spin_laws.specs.CloserSpinRows.{spin_closer_source};
-ghost use Rattle.closer_mpcp_laws.specs.CloserMpcpRows.{mpcp_closer_source};
+ghost use Rattle.mpcp_window_laws.specs.WaitRows.{mpcp_closer_source};
 ghost use Rattle.spin_rules.specs.SpinRules.{spin_rule};
 ghost use Rattle.spin_charging.specs.SpinPrograms.{spin_source};
 ghost use Rattle.clock_laws.specs.Cycles.{in_cycles, times_each, own_cycles};

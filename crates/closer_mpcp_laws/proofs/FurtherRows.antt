@@ -79,7 +79,7 @@ higher_rise set i r s test q here h = sum_below-monotone i _ _ (λ y a.
     only_if-rises (test y) (requests_in set (slice_index r) i y q) (requests_in set (slice_index s) i y q)
     (λ counts. requests_rise set r s i y q (h y (omega arith))))
 
-shared_holdings_rise : (set : SetDef) (i x : ℕ) (passes : ℕ → Bool) (low high : ℕ → ℕ)
+pub shared_holdings_rise : (set : SetDef) (i x : ℕ) (passes : ℕ → Bool) (low high : ℕ → ℕ)
     → ((q : ℕ) → q < length set.resources → low q ≤ high q) → shared_holdings set low i x passes ≤ shared_holdings set high i x passes
 shared_holdings_rise set i x passes low high most = sum_below-monotone (length set.resources) _ _ (λ q l.
     only_if-rises (is_user set q i && (is_shared_out set i q && passes q)) (limit low q) (limit high q)

@@ -1,5 +1,6 @@
 -- How many requests can run while a job waits: the lesser of two numbers, neither of which falls when bounds rise.
-use Rattle.std.proofs.Common.{◌≡◌, ℕ, ◌*◌, ◌<◌, ◌≤◌, length, refl, arith, inl, inr, Option, Some, None, min}
+use Rattle.std.proofs.Common.{◌≡◌, ℕ, zero, suc, ◌*◌, ◌<◌, ◌≤◌, length, refl, arith, ◌⊎◌, inl, inr, Option, Some, None, min}
+use Rattle.std.specs.Prelude.{unwrap_or}
 use Rattle.std.proofs.Math.Nat.{mul-le-mul_left, mul-le-mul_right}
 use Rattle.std.proofs.lemmas.Bool.{cases_lt}
 use Rattle.number_laws.proofs.SumLaws.{sum_below-monotone}
@@ -11,7 +12,7 @@ use Rattle.blocking_columns.specs.Windows.{requests_in, requests_during}
 use Rattle.indirect_constraints.specs.Rows.{is_beside}
 use Rattle.window_laws.proofs.Rising.{IsBelow}
 use Rattle.mpcp_window_laws.specs.MpcpWindows.{wait_window}
-use Rattle.mpcp_window_laws.specs.WaitRows.{requests_in_windows, requests_in_waits, direct_wait_row, held_in_waits}
+use Rattle.mpcp_window_laws.specs.WaitRows.{requests_in_waits, direct_wait_row, held_in_waits}
 use Rattle.mpcp_window_laws.proofs.Rising.{jobs_rise, window_rises}
 
 -- What is at most s for each of two numbers is at most s for each of the lesser.
@@ -41,30 +42,34 @@ paid_in_each set bounds i q x r s ticks some all within = go (wait_window set bo
 requests_rise : (set : SetDef) (r s : ℕ → ℕ) (v w x p : ℕ) → v ≤ w → r x ≤ s x → requests_during set r v x p ≤ requests_during set s w x p
 requests_rise set r s v w x p more h = mul-le-mul_left (count_of set x p) (jobs_rise set r s v w x more h)
 
+-- Let a job make n requests. While it runs another task makes a, which is at most b. Within a window it makes v, which is at most w; or b
+-- itself takes the place of w. Then no more of them run in waits.
+pub lesser_rises : (n a b v w : ℕ) → a ≤ b → (v ≤ w) ⊎ (w ≡ b) → min a (n * v) ≤ min b (n * w)
+lesser_rises n a b v w more (inl less) = omega (arith, more, mul-le-mul_left n less)
+lesser_rises zero a b v w more (inr same) = omega arith
+lesser_rises (suc n) a b v w more (inr same) =
+    let once : 1 * w ≤ suc n * w = mul-le-mul_right w (omega arith) in
+    omega (arith, more, same, once)
+
 -- Their number doesn't fall.
 pub waits_rise : (set : SetDef) (r s : ℕ → ℕ) (i q x p : ℕ) → i < length set.tasks → x < length set.tasks → IsBelow set r s
     → requests_in_waits set r i q x p ≤ requests_in_waits set s i q x p
-waits_rise set r s i q x p known l below = elim (cases_lt 0 (count_of set i q)) [
-  | inl some ↦ go some (wait_window set s i q) refl
-  | inr none ↦
-      let zero : count_of set i q ≡ 0 = omega (arith, none) in
-      let nothing : requests_in_windows set r i q x p ≡ 0 = rw zero (omega arith) in
-      omega (arith, nothing)
-] where
+waits_rise set r s i q x p known l below = go (wait_window set s i q) refl where
   all : requests_in set r i x p ≤ requests_in set s i x p
   all = requests_rise set r s (r i) (s i) x p (below i known) (below x l)
 
-  go : 0 < count_of set i q → (o : Option ℕ) → wait_window set s i q ≡ o
-      → requests_in_waits set r i q x p ≤ requests_in_waits set s i q x p
-  go some None e = rw e (omega (arith, all, factor_of_user set i q (requests_in set s i x p) some))
-  go some (Some c) e =
+  within : ℕ → ℕ
+  within b = requests_during set r b x p
+
+  go : (o : Option ℕ) → wait_window set s i q ≡ o → requests_in_waits set r i q x p ≤ requests_in_waits set s i q x p
+  go None e =
+      rw e (lesser_rises (count_of set i q) (requests_in set r i x p) (requests_in set s i x p)
+      (within (unwrap_or (wait_window set r i q) (r i))) (requests_in set s i x p) all (inr refl))
+  go (Some c) e =
       let f = window_rises set r s i q c known below e in
       let there : wait_window set r i q ≡ Some f.least = f.is_it in
-      rw (e, there) (omega (
-        arith,
-        all,
-        mul-le-mul_left (count_of set i q) (requests_rise set r s f.least c x p f.at_most (below x l)),
-      ))
+      rw (e, there) (lesser_rises (count_of set i q) (requests_in set r i x p) (requests_in set s i x p) (within f.least)
+      (requests_during set s c x p) all (inl (requests_rise set r s f.least c x p f.at_most (below x l))))
 
 -- So neither does the limit of a row, nor the number of requests that higher tasks can hold.
 pub direct_wait_limit_rises : (set : SetDef) (r s : ℕ → ℕ) (i x q : ℕ) → i < length set.tasks → x < length set.tasks → IsBelow set r s

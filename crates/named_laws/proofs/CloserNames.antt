@@ -8,7 +8,7 @@ use Rattle.window_laws.proofs.MoreRows.{fitting_with_windows}
 use Rattle.closer_laws.proofs.Sound.{fmlp_closer_fitting}
 use Rattle.closer_spin_laws.proofs.Sound.{spin_closer_fitting}
 use Rattle.closer_distributed_laws.proofs.Sound.{dpcp_closer_fitting, dflp_closer_fitting}
-use Rattle.closer_mpcp_laws.proofs.Sound.{mpcp_closer_fitting}
+use Rattle.mpcp_window_laws.proofs.Sound.{mpcp_closer_fitting}
 use Rattle.protocol_names.specs.declared.ProtocolName.{ProtocolName}
 use Rattle.protocol_names.specs.declared.ProtocolName.TheVariants as name
 use Rattle.named_laws.specs.Named.{source_of, plain_of, IsCloserThan}

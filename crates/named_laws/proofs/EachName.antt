@@ -37,8 +37,8 @@ use Rattle.clock_laws.proofs.Instances.{windows_on_clocks, fmlp_closer_on_clocks
 use Rattle.closer_distributed_laws.proofs.Sound.{dpcp_closer_sound, dflp_closer_sound}
 use Rattle.closer_distributed_laws.proofs.Programs.{dpcp_closer_above, dflp_closer_above}
 use Rattle.clock_laws.proofs.Instances.{dpcp_closer_on_clocks, dflp_closer_on_clocks}
-use Rattle.closer_mpcp_laws.proofs.Sound.{mpcp_closer_sound}
-use Rattle.closer_mpcp_laws.proofs.Programs.{mpcp_closer_above}
+use Rattle.mpcp_window_laws.proofs.Sound.{mpcp_closer_sound}
+use Rattle.mpcp_window_laws.proofs.Programs.{mpcp_closer_above}
 use Rattle.clock_laws.proofs.Instances.{mpcp_closer_on_clocks}
 use Rattle.named_laws.specs.Named.{source_of, SoundUnder, SoundOnClocksUnder}
 

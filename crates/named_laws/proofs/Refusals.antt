@@ -14,7 +14,7 @@ use Rattle.window_laws.proofs.Programs.{windowed_rises}
 use Rattle.closer_laws.proofs.Programs.{fmlp_closer_rises}
 use Rattle.closer_spin_laws.proofs.Programs.{spin_closer_rises}
 use Rattle.closer_distributed_laws.proofs.Programs.{dpcp_closer_rises, dflp_closer_rises}
-use Rattle.closer_mpcp_laws.proofs.Programs.{mpcp_closer_rises}
+use Rattle.mpcp_window_laws.proofs.Programs.{mpcp_closer_rises}
 use Rattle.response_fixpoint.specs.Rounds.{NotShown, EndsIn}
 use Rattle.response_fixpoint.proofs.RunLaws.{CostsFit}
 use Rattle.refusal_laws.specs.Steps.{StepDef, Holds}

@@ -25,7 +25,7 @@ use Rattle.window_laws.specs.WindowRows.{windowed_source}
 use Rattle.closer_laws.specs.CloserRows.{fmlp_closer_source}
 use Rattle.closer_spin_laws.specs.CloserSpinRows.{spin_closer_source}
 use Rattle.closer_distributed_laws.specs.CloserRows.{dpcp_closer_source, dflp_closer_source}
-use Rattle.closer_mpcp_laws.specs.CloserMpcpRows.{mpcp_closer_source}
+use Rattle.mpcp_window_laws.specs.WaitRows.{mpcp_closer_source}
 use Rattle.clock_laws.specs.Clock.{SoundOnClocks}
 use Rattle.protocol_names.specs.Names.{homes_as}
 use Rattle.protocol_names.specs.declared.ProtocolName.{ProtocolName}
