@@ -8,7 +8,7 @@ use Rattle.blocking_columns.specs.Columns.{is_column, columns_of}
 use Rattle.blocking_columns.proofs.KnownColumns.{columns_are_requests}
 use Rattle.program_laws.proofs.UsedResources.{requests_at_most}
 use Rattle.program_laws.proofs.PlacedRows.{width_is}
-use Rattle.closer_mpcp_laws.specs.CloserMpcpRows.{mpcp_closer_rows, mpcp_closer_program}
+use Rattle.mpcp_window_laws.specs.WaitRows.{mpcp_closer_rows, mpcp_closer_program}
 
 pub mpcp_closer_width : (set : SetDef) (i : ℕ) (r : List ℕ) → IsAccepted set → columns (mpcp_closer_program set i r) ≤ 768
 mpcp_closer_width set i r accepted = omega (

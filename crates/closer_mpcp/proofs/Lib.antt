@@ -1,2 +1,4 @@
 pub mod FewColumns
 mod ListedSums
+mod Pushed
+mod Search

@@ -1,8 +1,9 @@
 -- Sums over the users of a resource and over the resources of a task, which are lists.
-use Rattle.std.proofs.Common.{◌≡◌, ℕ, ◌+◌, ◌-◌, ◌*◌, ◌<◌, ◌≤◌, ◌&&◌, Bool, true, false, nat_lt, List, length, map}
+use Rattle.std.proofs.Common.{◌≡◌, ℕ, ◌+◌, ◌-◌, ◌*◌, ◌<◌, ◌≤◌, ◌&&◌, Bool, true, false, nat_lt, List, [], length, map, drop}
 use Rattle.std.proofs.Common.{refl, ap, ◌∙◌, arith}
 use Rattle.std.specs.List.{sum_by}
 use Rattle.std.proofs.lemmas.Bool.{lt-ltb, le-ltb, ltb-false}
+use Rattle.std.proofs.lemmas.List.{drop_all}
 use Rattle.number_laws.specs.Sums.{sum_below, only_if}
 use Rattle.number_laws.proofs.SumLaws.{sum_below-agree, sum_below-split, sum_below-zero}
 use Rattle.number_laws.proofs.OnlyIfLaws.{only_if-nothing}
@@ -10,10 +11,9 @@ use Rattle.sporadic_model.specs.SetDef.{SetDef}
 use Rattle.sporadic_model.specs.Users.{count_of, is_user, users_of, used_by}
 use Rattle.sporadic_model.specs.declared.ids.TaskId.{TaskId}
 use Rattle.sporadic_model.specs.declared.ids.ResourceId.{ResourceId}
-use Rattle.blocking_columns.specs.Windows.{jobs_in, requests_in, requests_by_higher}
+use Rattle.blocking_columns.specs.Windows.{jobs_during, requests_during}
 use Rattle.blocking_columns.proofs.KeptNumbers.{sum_of_kept, sum_where_kept, kept_few}
-use Rattle.closer_mpcp.specs.declared.places.Place.{Place}
-use Rattle.closer_mpcp.specs.Holdings.{is_at, higher_at}
+use Rattle.mpcp_window_laws.specs.WaitRows.{requests_in_waits}
 
 -- Terms of tasks from i on are none.
 sum_of_higher : (i n : ℕ) (at : ℕ → Bool) (f : ℕ → ℕ) → i ≤ n
@@ -27,21 +27,36 @@ sum_of_higher i n at f within =
     sum_below-agree i g (λ y. only_if (at y) (f y)) (λ y l. rw (lt-ltb y i l) refl) in
     ap (λ m. sum_below m g) whole ∙ (sum_below-split i (n - i) g ∙ omega (arith, rest, first))
 
-none_unused : (set : SetDef) (bounds : ℕ → ℕ) (i y r : ℕ) → is_user set r y ≡ false → requests_in set bounds i y r ≡ 0
-none_unused set bounds i y r unused =
-    let none : count_of set y r ≡ 0 = omega (arith, ltb-false 0 (count_of set y r) unused) in
-    let nothing : 0 * jobs_in set bounds i y ≡ 0 = omega arith in
-    ap (λ n. n * jobs_in set bounds i y) none ∙ nothing
+-- What those of the listed tasks make that are higher than i and pass.
+abbrev pub made_by : ℕ → (ℕ → Bool) → (ℕ → ℕ) → List TaskId → ℕ
+made_by i at f ys = sum_by (λ (y : TaskId). only_if (nat_lt y.0 i && at y.0) (f y.0)) ys
 
--- What the higher users at a place of x make of r is what all higher tasks there make.
-pub higher_users : (p : Place) (set : SetDef) (bounds : ℕ → ℕ) (i x r : ℕ) (ys : List TaskId)
-    → map (λ (y : TaskId). y.0) ys ≡ users_of set r → i < length set.tasks
-    → sum_by (λ (y : TaskId). higher_at p set bounds i x r y.0) ys ≡ requests_by_higher set bounds i (is_at p set x) r
-higher_users p set bounds i x r ys same here =
-    sum_where_kept (λ (y : TaskId). y.0) ys (is_user set r) (higher_at p set bounds i x r) (length set.tasks) same
-    (λ y unused. ap (only_if (nat_lt y i && is_at p set x y)) (none_unused set bounds i y r unused)
-    ∙ only_if-nothing (nat_lt y i && is_at p set x y))
-    ∙ sum_of_higher i (length set.tasks) (is_at p set x) (λ y. requests_in set bounds i y r) (omega (arith, here))
+-- If no other task makes anything, the users of r make what all higher tasks make that pass.
+higher_users : (set : SetDef) (i r : ℕ) (at : ℕ → Bool) (f : ℕ → ℕ) (ys : List TaskId)
+    → map (λ (y : TaskId). y.0) ys ≡ users_of set r → i < length set.tasks → ((y : ℕ) → is_user set r y ≡ false → f y ≡ 0)
+    → made_by i at f ys ≡ sum_below i (λ y. only_if (at y) (f y))
+higher_users set i r at f ys same here none =
+    sum_where_kept (λ (y : TaskId). y.0) ys (is_user set r) (λ y. only_if (nat_lt y i && at y) (f y)) (length set.tasks) same
+    (λ y unused. ap (only_if (nat_lt y i && at y)) (none y unused) ∙ only_if-nothing (nat_lt y i && at y))
+    ∙ sum_of_higher i (length set.tasks) at f (omega (arith, here))
+
+-- So much is the total behind the last of them.
+pub all_users : (set : SetDef) (i r : ℕ) (at : ℕ → Bool) (f : ℕ → ℕ) (ys : List TaskId) (k total : ℕ)
+    → map (λ (y : TaskId). y.0) ys ≡ users_of set r → i < length set.tasks → ((y : ℕ) → is_user set r y ≡ false → f y ≡ 0)
+    → length ys ≤ k → total + made_by i at f (drop k ys) ≡ made_by i at f ys → total ≡ sum_below i (λ y. only_if (at y) (f y))
+all_users set i r at f ys k total same here none past sums =
+    let whole : total + made_by i at f [] ≡ made_by i at f ys = rw (drop_all k ys past) at sums in
+    omega (arith, whole, higher_users set i r at f ys same here none)
+
+-- A task that doesn't use r makes no request of it.
+pub none_made : (set : SetDef) (bounds : ℕ → ℕ) (w y r : ℕ) → is_user set r y ≡ false → requests_during set bounds w y r ≡ 0
+none_made set bounds w y r unused =
+    let none : count_of set y r ≡ 0 = omega (arith, ltb-false 0 (count_of set y r) unused) in
+    let nothing : 0 * jobs_during set bounds w y ≡ 0 = omega arith in
+    ap (λ n. n * jobs_during set bounds w y) none ∙ nothing
+
+pub none_in_waits : (set : SetDef) (bounds : ℕ → ℕ) (i y r : ℕ) → is_user set r y ≡ false → requests_in_waits set bounds i r y r ≡ 0
+none_in_waits set bounds i y r unused = omega (arith, none_made set bounds (bounds i) y r unused)
 
 pub users_few : (set : SetDef) (r : ℕ) (ys : List TaskId) → map (λ (y : TaskId). y.0) ys ≡ users_of set r → length ys ≤ length set.tasks
 users_few set r ys same = kept_few (λ (y : TaskId). y.0) ys (is_user set r) (length set.tasks) same

@@ -6,10 +6,10 @@ use Rattle.sporadic_model.specs.SetDef.{SetDef}
 use Rattle.sporadic_model.specs.Users.{count_of, is_user}
 use Rattle.sporadic_model.specs.declared.ids.ResourceId.{ResourceId}
 use Rattle.blocking_columns.specs.Columns.{have_one_processor}
-use Rattle.blocking_columns.specs.Windows.{requests_in, requests_by_higher}
 use Rattle.indirect_constraints.specs.Rows.{is_beside}
 use Rattle.closer_laws.specs.CloserRows.{is_shared_out}
 use Rattle.closer_mpcp_laws.specs.CloserMpcpRows.{goes_first, goes_before, is_away, away_holdings}
+use Rattle.mpcp_window_laws.specs.WaitRows.{held_in_waits}
 use Rattle.closer_mpcp.specs.declared.places.Place.{Place}
 use Rattle.closer_mpcp.specs.declared.places.Place.TheVariants as place
 
@@ -22,10 +22,6 @@ passes set x (Some q) r = goes_first set x q.0 r
 abbrev pub is_at : Place → SetDef → ℕ → ℕ → Bool
 is_at place.Beside set x y = is_beside set x y
 is_at place.Away set x y = is_away set x y
-
--- How many requests of r does y make while a job of i runs, where it is higher than i and at this place of x?
-abbrev pub higher_at : Place → SetDef → (ℕ → ℕ) → ℕ → ℕ → ℕ → ℕ → ℕ
-higher_at p set bounds i x r y = only_if (nat_lt y i && is_at p set x y) (requests_in set bounds i y r)
 
 -- Is a lower one?
 abbrev pub is_lower_at : Place → SetDef → ℕ → ℕ → ℕ → Bool
@@ -42,7 +38,7 @@ lower_held p set i x r = only_if (has_lower p set i x r) (count_of set i r)
 
 -- How many requests of r can be held beside x while i waits for them?
 abbrev pub held_beside : SetDef → (ℕ → ℕ) → ℕ → ℕ → ℕ → ℕ
-held_beside set bounds i x r = requests_by_higher set bounds i (is_beside set x) r
+held_beside set bounds i x r = held_in_waits set i bounds x r
     + only_if (not (have_one_processor set x i)) (lower_held place.Beside set i x r)
 
 -- Do they count: is r shared out, and may x run requests meanwhile?

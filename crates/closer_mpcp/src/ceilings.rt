@@ -18,8 +18,8 @@ fn ceiling_seen(set: &TaskSet, q: ResourceId, k: u32) -> u32
     }
 }
 
-// May `x` run a request of `q` on its processor while another task is ready there that holds `r`?
-fn goes_first(set: &TaskSet, x: TaskId, q: ResourceId, r: ResourceId) -> bool
+/// May `x` run a request of `q` on its processor while another task is ready there that holds `r`?
+pub(crate) fn goes_first(set: &TaskSet, x: TaskId, q: ResourceId, r: ResourceId) -> bool
     requires task { x.0 < length set.now.tasks }
     requires first { q.0 < length set.now.resources }
     requires second { r.0 < length set.now.resources }

@@ -4,35 +4,23 @@ ghost use Rattle.std.specs.Prelude.{◌≡◌, ℕ, ◌<◌, ◌≤◌, ◌&&◌
 ghost use Rattle.number_laws.specs.Sums.{only_if};
 ghost use Rattle.program_sources.specs.Bounds.{AreWithinDeadlines};
 ghost use Rattle.blocking_columns.specs.Windows.{requests_in, requests_by_higher};
-ghost use Rattle.indirect_constraints.specs.Rows.{is_beside};
 ghost use Rattle.closer_laws.specs.CloserRows.{is_held_there};
-ghost use Rattle.closer_mpcp_laws.specs.CloserMpcpRows.{shared_holdings, away_holdings, away_row};
-ghost use Rattle.closer_mpcp.specs.Holdings.{passes, is_at, higher_at, is_lower_at, has_lower, lower_held, held_beside, counts};
+ghost use Rattle.closer_mpcp_laws.specs.CloserMpcpRows.{is_away, shared_holdings, away_holdings, away_row};
+ghost use Rattle.mpcp_window_laws.specs.WaitRows.{held_in_waits};
+ghost use Rattle.closer_mpcp.specs.Holdings.{passes, is_lower_at, has_lower, lower_held, held_beside, counts};
 ghost use Rattle.closer_mpcp.specs.Holdings.{runs_there};
+ghost use Rattle.closer_mpcp.specs.Windows.{AreWaitWindows};
 
 use crate::ceilings::passes;
-use crate::places::Place;
+use crate::places::{Place, is_at};
+use crate::waits::held_in_waits;
 use fragments::{cnt, share_processor};
 use shared_requests::{Holders, has_holder, is_shared_out};
 use sporadic_model::{ResourceId, TaskId, TaskSet};
 
-// Is a higher task `y` at this place of `x`?
-fn is_at(set: &TaskSet, place: Place, x: TaskId, y: TaskId) -> bool
-    requires task { x.0 < length set.now.tasks }
-    requires other { y.0 < length set.now.tasks }
-    ensures { result ≡ is_at place set.now x.0 y.0 }
-{
-    let there = share_processor(set, y, x);
-    match place {
-        Place::Beside => y != x && there,
-        Place::Away => !there,
-    }
-}
-
-// The requests of `r` by `y` within the bound of a job of `i`, where it is higher than `i` and at this place of `x`.
-fn requests_at(
+// The requests of `r` by `y` within the bound of a job of `i`, if it is higher than `i` and on another processor than `x`.
+fn requests_away(
     set: &TaskSet,
-    place: Place,
     i: TaskId,
     x: TaskId,
     y: TaskId,
@@ -44,30 +32,23 @@ fn requests_at(
     requires holder { y.0 < length set.now.tasks }
     requires resource { r.0 < length set.now.resources }
     requires within { AreWithinDeadlines set.now bounds.now }
-    ensures value { result ≡ higher_at place set.now (slice_index bounds.now) i.0 x.0 r.0 y.0 }
+    ensures value { result ≡ only_if (nat_lt y.0 i.0 && is_away set.now x.0 y.0) (requests_in set.now (slice_index bounds.now) i.0 y.0 r.0) }
     ensures most { result ≤ 2000000000000 }
 {
-    if y < i && is_at(set, place, x, y) {
+    if y < i && is_at(set, Place::Away, x, y) {
         cnt(set, i, y, r, bounds)
     } else {
         0
     }
 }
 
-// How many requests of `r` can higher tasks than `i` at this place of `x` make within the bound of a job of `i`?
-fn higher_requests(
-    set: &TaskSet,
-    place: Place,
-    i: TaskId,
-    x: TaskId,
-    r: ResourceId,
-    bounds: &[u64],
-) -> u64
+// How many requests of `r` can higher tasks than `i` make there within the bound of a job of `i`?
+fn higher_away(set: &TaskSet, i: TaskId, x: TaskId, r: ResourceId, bounds: &[u64]) -> u64
     requires task { i.0 < length set.now.tasks }
     requires runner { x.0 < length set.now.tasks }
     requires resource { r.0 < length set.now.resources }
     requires within { AreWithinDeadlines set.now bounds.now }
-    ensures value { result ≡ requests_by_higher set.now (slice_index bounds.now) i.0 (is_at place set.now x.0) r.0 }
+    ensures value { result ≡ requests_by_higher set.now (slice_index bounds.now) i.0 (is_away set.now x.0) r.0 }
     ensures most { result ≤ 128000000000000 }
 {
     // a set has at most 64 tasks, so the sum fits
@@ -75,7 +56,7 @@ fn higher_requests(
     let users = set.users(r);
     let mut total = 0;
     for y in users {
-        total += requests_at(set, place, i, x, *y, r, bounds);
+        total += requests_away(set, i, x, *y, r, bounds);
     }
     total
 }
@@ -125,16 +106,25 @@ fn lower_held(set: &TaskSet, place: Place, i: TaskId, x: TaskId, r: ResourceId) 
     }
 }
 
-// How many requests of `r` can be held beside `x` while a job of `i` waits for them? Where `x` is on `i`'s processor no lower task holds one.
-fn held_beside(set: &TaskSet, i: TaskId, x: TaskId, r: ResourceId, bounds: &[u64]) -> u64
+// How many requests of `r` can be held beside `x` while a job of `i` waits for them? Higher tasks hold them within the windows of these
+// waits. Where `x` is on `i`'s processor no lower task holds one.
+fn held_beside(
+    set: &TaskSet,
+    i: TaskId,
+    x: TaskId,
+    r: ResourceId,
+    bounds: &[u64],
+    windows: &[Option<u64>],
+) -> u64
     requires task { i.0 < length set.now.tasks }
     requires runner { x.0 < length set.now.tasks }
     requires resource { r.0 < length set.now.resources }
     requires within { AreWithinDeadlines set.now bounds.now }
+    requires windows { AreWaitWindows set.now (slice_index bounds.now) i.0 windows.now }
     ensures value { result ≡ held_beside set.now (slice_index bounds.now) i.0 x.0 r.0 }
     ensures most { result ≤ 128000000001000 }
 {
-    let higher = higher_requests(set, Place::Beside, i, x, r, bounds);
+    let higher = held_in_waits(set, i, x, r, bounds, windows);
     if share_processor(set, x, i) {
         higher
     } else {
@@ -161,36 +151,40 @@ fn counted_of(
     q: Option<ResourceId>,
     r: ResourceId,
     bounds: &[u64],
+    windows: &[Option<u64>],
 ) -> u64
     requires task { i.0 < length set.now.tasks }
     requires runner { x.0 < length set.now.tasks }
     requires first { IfSome q (λ a. a.0 < length set.now.resources) }
     requires resource { r.0 < length set.now.resources }
     requires within { AreWithinDeadlines set.now bounds.now }
+    requires windows { AreWaitWindows set.now (slice_index bounds.now) i.0 windows.now }
     ensures value { result ≡ only_if (counts set.now i.0 x.0 q r.0) (held_beside set.now (slice_index bounds.now) i.0 x.0 r.0) }
     ensures most { result ≤ 128000000001000 }
 {
     if counts(set, i, x, q, r) {
-        held_beside(set, i, x, r, bounds)
+        held_beside(set, i, x, r, bounds, windows)
     } else {
         0
     }
 }
 
 /// How many requests that a job of `i` waits for, and that are shared out, can other tasks hold on `x`'s processor, where `x` may run its
-/// requests of this resource meanwhile, or any of its own where none is named?
+/// requests of this resource meanwhile, or any of its own where none is named? Higher tasks hold them within the windows of `i`'s waits.
 pub(crate) fn shared_holdings(
     set: &TaskSet,
     i: TaskId,
     x: TaskId,
     q: Option<ResourceId>,
     bounds: &[u64],
+    windows: &[Option<u64>],
 ) -> u64
     requires task { i.0 < length set.now.tasks }
     requires runner { x.0 < length set.now.tasks }
     requires first { IfSome q (λ a. a.0 < length set.now.resources) }
     requires within { AreWithinDeadlines set.now bounds.now }
-    ensures value { result ≡ shared_holdings set.now (slice_index bounds.now) i.0 x.0 (passes set.now x.0 q) }
+    requires windows { AreWaitWindows set.now (slice_index bounds.now) i.0 windows.now }
+    ensures value { result ≡ shared_holdings set.now (held_in_waits set.now i.0 (slice_index bounds.now) x.0) i.0 x.0 (passes set.now x.0 q) }
     ensures most { result ≤ 4096000000032000 }
 {
     // a set has at most 32 resources, so the sum fits
@@ -198,7 +192,7 @@ pub(crate) fn shared_holdings(
     let used = set.used_by(i);
     let mut total = 0;
     for r in used {
-        total += counted_of(set, i, x, q, *r, bounds);
+        total += counted_of(set, i, x, q, *r, bounds, windows);
     }
     total
 }
@@ -222,7 +216,7 @@ fn runs_there(set: &TaskSet, i: TaskId, x: TaskId, r: ResourceId, bounds: &[u64]
     ensures value { result ≡ runs_there set.now (slice_index bounds.now) i.0 x.0 r.0 }
     ensures most { result ≤ 128000000002000 }
 {
-    let higher = higher_requests(set, Place::Away, i, x, r, bounds);
+    let higher = higher_away(set, i, x, r, bounds);
     set.count(i, r) + (higher + lower_held(set, Place::Away, i, x, r))
 }
 

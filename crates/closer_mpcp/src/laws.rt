@@ -4,13 +4,13 @@ ghost use Rattle.std.specs.Prelude.{ℕ, ◌<◌, ◌≤◌, List, length};
 ghost use Rattle.program_form.specs.Program.{height, columns};
 ghost use Rattle.sporadic_model.specs.SetDef.{SetDef};
 ghost use Rattle.sporadic_model.specs.Accepted.{IsAccepted};
-ghost use Rattle.closer_mpcp_laws.specs.CloserMpcpRows.{mpcp_closer_program};
+ghost use Rattle.mpcp_window_laws.specs.WaitRows.{mpcp_closer_program};
 
-/// A program of an accepted set has at most three columns for each of 256 request entries, so at most 768, and at most 1148 rows: the
-/// 701 of MPCP, of holdings by resource one for each of these entries, of shared holdings, away holdings and shared intervals one for
-/// each of 63 other tasks, and two more.
+/// A program of an accepted set has at most three columns for each of 256 request entries, so at most 768, and at most 1404 rows: the
+/// 701 of MPCP, of holdings by resource and of direct waits one for each of these entries, of shared holdings, away holdings and shared
+/// intervals one for each of 63 other tasks, and two more.
 pub fn programs_are_small()
     ensures columns { (set : SetDef) (i : ℕ) (r : List ℕ) → IsAccepted set → columns (mpcp_closer_program set i r) ≤ 768 }
     ensures rows { (set : SetDef) (i : ℕ) (r : List ℕ) → IsAccepted set → i < length set.tasks
-        → height (mpcp_closer_program set i r) ≤ 1148 }
+        → height (mpcp_closer_program set i r) ≤ 1404 }
 {}

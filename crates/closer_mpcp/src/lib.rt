@@ -4,10 +4,17 @@
 mod ceilings;
 mod holdings;
 mod laws;
+mod lower_holders;
 mod places;
 mod programs;
 mod protocol;
 mod rows;
+mod searching;
+mod tables;
+mod ticks;
+mod wait_rows;
+mod waits;
+mod windows;
 
 pub use laws::programs_are_small;
 pub use programs::{CloserMpcpRows, program};

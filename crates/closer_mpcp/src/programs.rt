@@ -6,10 +6,10 @@ ghost use Rattle.schedule_model.specs.Protocols.{EachSetSuits};
 ghost use Rattle.program_sources.specs.Bounds.{AreWithinDeadlines};
 ghost use Rattle.blocking_columns.specs.ColumnDef.{column_seen};
 ghost use Rattle.blocking_columns.specs.Columns.{columns_of};
-ghost use Rattle.closer_mpcp_laws.specs.CloserMpcpRows.{mpcp_closer_rows, mpcp_closer_program};
-ghost use Rattle.closer_mpcp_laws.proofs.Programs.{mpcp_closer_is_program};
+ghost use Rattle.mpcp_window_laws.specs.WaitRows.{mpcp_closer_rows, mpcp_closer_program};
+ghost use Rattle.mpcp_window_laws.proofs.Programs.{mpcp_closer_is_program};
 
-use crate::rows::add_further_rows;
+use crate::rows::add_closer_rows;
 use fragments::{Fragment, RowTaker, columns_stand_in_order, fragments};
 use program_form::Program;
 use protocol_programs::{ProgramParts, program_with};
@@ -40,7 +40,7 @@ fn add_rows<T: RowTaker>(
         bounds,
         columns,
     )?;
-    add_further_rows(alloc, taker, set, i, bounds, columns, &places)?;
+    add_closer_rows(alloc, taker, set, i, bounds, columns, &places)?;
     Ok(())
 }
 

@@ -4,7 +4,7 @@ ghost use Rattle.std.specs.Prelude.{◌≡◌, ◌<◌, ◌+◌, ◌==◌, ◌&&
 ghost use Rattle.std.proofs.Common.{ap};
 ghost use Rattle.number_laws.specs.Sums.{flag};
 ghost use Rattle.program_sources.specs.Bounds.{AreWithinDeadlines};
-ghost use Rattle.blocking_columns.specs.declared.columns.Class.TheVariants.{Preemption};
+ghost use Rattle.blocking_columns.specs.declared.columns.Class.TheVariants.{Indirect, Preemption};
 ghost use Rattle.blocking_columns.specs.ColumnDef.{column_seen, is_class, AreKnown};
 ghost use Rattle.blocking_columns.specs.Columns.{is_lower_local};
 ghost use Rattle.fragments.specs.Constraints.{per, per_pair, per_where};
@@ -13,10 +13,14 @@ ghost use Rattle.blocking_columns.specs.TaskPlaces.{ArePlaces};
 ghost use Rattle.closer_laws.specs.CloserRows.{is_shared_out, requests_where, local_preemption_row};
 ghost use Rattle.closer_mpcp_laws.specs.CloserMpcpRows.{shared_holding_row, resource_holding_row, away_row};
 ghost use Rattle.closer_mpcp_laws.specs.CloserMpcpRows.{shared_interval_row, lower_wait_row, further_rows};
+ghost use Rattle.mpcp_window_laws.specs.WaitRows.{held_in_waits, wait_rows};
+ghost use Rattle.closer_mpcp.specs.Windows.{AreWaitWindows};
 
 use crate::holdings::{run_beside_away_holdings, shared_holdings};
+use crate::wait_rows::add_wait_rows;
+use crate::windows::wait_windows;
 use fragments::{
-    Constraint, Fragment, PerRequest, PerTask, RowKind, RowTaker, TaskPlace, TaskRow,
+    Constraint, EachTask, Fragment, PerRequest, PerTask, RowKind, RowTaker, TaskPlace, TaskRow,
     add_per_lower_task, add_per_request_at, add_per_task, add_row, add_row_limited,
     add_row_of_task, add_row_within, lower_local,
 };
@@ -25,54 +29,25 @@ use sporadic_model::{ResourceId, TaskId, TaskSet};
 use std::alloc::{AllocError, Global};
 
 /// Of a task: in each holding of another task on its processor that is shared out, before which it may run a request, it runs at most one.
+/// Higher tasks hold within the windows of the analysed task's waits.
 #[derive(Drop)]
-struct SharedHoldingRow {
-    task: TaskId,
+struct SharedHoldingRow<'a> {
+    windows: &'a [Option<u64>],
 }
 
-impl RowKind for SharedHoldingRow {
-    ghost row_of = { λ k set i. shared_holding_row set i k.task.0 };
+impl<'a> TaskRow for SharedHoldingRow<'a> {
+    ghost row_of = { λ k set i. shared_holding_row set (held_in_waits set i) i };
 
-    ghost fits = { λ k set. k.task.0 < length set.tasks };
+    ghost fits = { λ k set i bounds. AreWaitWindows set (slice_index bounds) i k.windows.now };
 
-    ghost over = { λ k set i c. c.task ≡ k.task.0 };
+    ghost alone = { λ k set i x c other. ap (λ b. flag (b && is_class Indirect c.class)) other };
 
-    fn coefficient(&self, _set: &TaskSet, _i: TaskId, column: Fragment) -> u64 {
+    fn coefficient(&self, _set: &TaskSet, _i: TaskId, _x: TaskId, column: Fragment) -> u64 {
         if column.class.is_indirect() { 1 } else { 0 }
     }
-}
 
-impl Constraint for SharedHoldingRow {
-    fn limit(&self, set: &TaskSet, i: TaskId, bounds: &[u64]) -> u64 {
-        shared_holdings(set, i, self.task, None, bounds)
-    }
-}
-
-/// The rows of shared holdings of each task. A limit is counted only where the row is there: many tasks have no such columns.
-#[derive(Drop)]
-struct SharedHoldingRows;
-
-impl PerTask for SharedHoldingRows {
-    ghost rows_of = { λ k set i x. shared_holding_row set i x ∷ [] };
-
-    ghost fits = { λ k set i bounds. Unit {0} };
-
-    fn add<T: RowTaker>(
-        &self,
-        alloc: Global,
-        taker: &mut T,
-        set: &TaskSet,
-        i: TaskId,
-        x: TaskId,
-        _jobs: u64,
-        bounds: &[u64],
-        columns: &[Fragment],
-        stretch: (usize, usize),
-    ) -> Result<(), AllocError> {
-        // a set has at most 32 resources, so the slots of a task end before those of the next one
-        let _resources = set.resources();
-        let row = SharedHoldingRow { task: x };
-        add_row_within(alloc, taker, &row, set, i, bounds, columns, stretch)
+    fn limit(&self, set: &TaskSet, i: TaskId, x: TaskId, _jobs: u64, bounds: &[u64]) -> u64 {
+        shared_holdings(set, i, x, None, bounds, self.windows)
     }
 }
 
@@ -84,7 +59,7 @@ struct ResourceHoldingRow {
 }
 
 impl RowKind for ResourceHoldingRow {
-    ghost row_of = { λ k set i. resource_holding_row set i k.task.0 k.resource.0 };
+    ghost row_of = { λ k set i. resource_holding_row set (held_in_waits set i) i k.task.0 k.resource.0 };
 
     ghost fits = { λ k set. (k.task.0 < length set.tasks) × (k.resource.0 < length set.resources) };
 
@@ -95,24 +70,20 @@ impl RowKind for ResourceHoldingRow {
     }
 }
 
-impl Constraint for ResourceHoldingRow {
-    fn limit(&self, set: &TaskSet, i: TaskId, bounds: &[u64]) -> u64 {
-        shared_holdings(set, i, self.task, Some(self.resource), bounds)
-    }
+/// The rows of holdings by resource, of each task and each resource, with these windows too.
+#[derive(Drop)]
+struct ResourceHoldingRows<'a> {
+    windows: &'a [Option<u64>],
 }
 
-/// The rows of holdings by resource, of each task and each resource, whose limits are counted in the same way.
-#[derive(Drop)]
-struct ResourceHoldingRows;
-
-impl PerRequest for ResourceHoldingRows {
+impl<'a> PerRequest for ResourceHoldingRows<'a> {
     ghost use Rattle.std.proofs.Common.{refl};
 
-    ghost row_of = { λ k. resource_holding_row };
+    ghost row_of = { λ k set i x q. resource_holding_row set (held_in_waits set i) i x q };
 
     ghost apart = { λ k set i x q c other. rw other refl };
 
-    ghost fits = { λ k set i bounds. Unit {0} };
+    ghost fits = { λ k set i bounds. AreWaitWindows set (slice_index bounds) i k.windows.now };
 
     fn add<T: RowTaker>(
         &self,
@@ -133,7 +104,8 @@ impl PerRequest for ResourceHoldingRows {
             task: x,
             resource: q,
         };
-        add_row_within(alloc, taker, &row, set, i, bounds, columns, stretch)
+        let most = shared_holdings(set, i, x, Some(q), bounds, self.windows);
+        add_row_limited(alloc, taker, &row, set, i, bounds, columns, stretch, most)
     }
 }
 
@@ -279,31 +251,27 @@ fn add_holding_rows<T: RowTaker>(
     bounds: &[u64],
     columns: &[Fragment],
     places: &[TaskPlace],
+    windows: &[Option<u64>],
 ) -> Result<(), AllocError>
     requires task { i.0 < length set.now.tasks }
     requires within { AreWithinDeadlines set.now bounds.now }
     requires known { AreKnown (length set.now.tasks) (length set.now.resources) columns.now }
     requires order { AreInOrder columns.now }
     requires places { ArePlaces set.now (slice_index bounds.now) i.0 (length set.now.tasks) columns.now places.now }
+    requires windows { AreWaitWindows set.now (slice_index bounds.now) i.0 windows.now }
     ensures { OnOk result (T.takes taker.old (map column_seen columns.now)
-        (per (length set.now.tasks) (shared_holding_row set.now i.0)
-        ++ per_pair (length set.now.tasks) (length set.now.resources) (resource_holding_row set.now i.0)) bounds.now taker.new) }
+        (per (length set.now.tasks) (shared_holding_row set.now (held_in_waits set.now i.0) i.0)
+        ++ per_pair (length set.now.tasks) (length set.now.resources) (resource_holding_row set.now (held_in_waits set.now i.0) i.0))
+        bounds.now taker.new) }
 {
-    add_per_task(
-        alloc,
-        taker,
-        &SharedHoldingRows,
-        set,
-        i,
-        bounds,
-        columns,
-        places,
-    )?;
+    let of_tasks = EachTask(SharedHoldingRow { windows });
+    add_per_task(alloc, taker, &of_tasks, set, i, bounds, columns, places)?;
+    let of_requests = ResourceHoldingRows { windows };
     let tasks = set.tasks();
     add_per_request_at(
         alloc,
         taker,
-        &ResourceHoldingRows,
+        &of_requests,
         set,
         tasks,
         i,
@@ -371,8 +339,37 @@ fn add_single_rows<T: RowTaker>(
     Ok(())
 }
 
-/// Adds the closer rows, in their order, behind those that the taker has, over any columns that stand in order.
-pub(crate) fn add_further_rows<T: RowTaker>(
+// Adds the rows that the closer analysis had without windows of waits, in their order, with the limits that these windows give.
+fn add_further_rows<T: RowTaker>(
+    alloc: Global,
+    taker: &mut T,
+    set: &TaskSet,
+    i: TaskId,
+    bounds: &[u64],
+    columns: &[Fragment],
+    places: &[TaskPlace],
+    windows: &[Option<u64>],
+) -> Result<(), AllocError>
+    requires task { i.0 < length set.now.tasks }
+    requires within { AreWithinDeadlines set.now bounds.now }
+    requires known { AreKnown (length set.now.tasks) (length set.now.resources) columns.now }
+    requires order { AreInOrder columns.now }
+    requires places { ArePlaces set.now (slice_index bounds.now) i.0 (length set.now.tasks) columns.now places.now }
+    requires windows { AreWaitWindows set.now (slice_index bounds.now) i.0 windows.now }
+    ensures { OnOk result (T.takes taker.old (map column_seen columns.now) (further_rows set.now (held_in_waits set.now i.0) i.0)
+        bounds.now taker.new) }
+{
+    let shared = shared_out(alloc, set, i)?;
+    let intervals = 1 + requests_shared_out(set, i, &shared);
+    add_holding_rows(alloc, taker, set, i, bounds, columns, places, windows)?;
+    add_per_task(alloc, taker, &AwayRows, set, i, bounds, columns, places)?;
+    add_interval_rows(alloc, taker, set, i, bounds, columns, places, intervals)?;
+    add_single_rows(alloc, taker, set, i, bounds, columns, intervals)?;
+    Ok(())
+}
+
+/// Adds the closer rows, and behind them the rows of waits, behind those that the taker has, over any columns that stand in order.
+pub(crate) fn add_closer_rows<T: RowTaker>(
     alloc: Global,
     taker: &mut T,
     set: &TaskSet,
@@ -386,13 +383,11 @@ pub(crate) fn add_further_rows<T: RowTaker>(
     requires known { AreKnown (length set.now.tasks) (length set.now.resources) columns.now }
     requires order { AreInOrder columns.now }
     requires places { ArePlaces set.now (slice_index bounds.now) i.0 (length set.now.tasks) columns.now places.now }
-    ensures { OnOk result (T.takes taker.old (map column_seen columns.now) (further_rows set.now i.0) bounds.now taker.new) }
+    ensures { OnOk result (T.takes taker.old (map column_seen columns.now)
+        (further_rows set.now (held_in_waits set.now i.0) i.0 ++ wait_rows set.now i.0) bounds.now taker.new) }
 {
-    let shared = shared_out(alloc, set, i)?;
-    let intervals = 1 + requests_shared_out(set, i, &shared);
-    add_holding_rows(alloc, taker, set, i, bounds, columns, places)?;
-    add_per_task(alloc, taker, &AwayRows, set, i, bounds, columns, places)?;
-    add_interval_rows(alloc, taker, set, i, bounds, columns, places, intervals)?;
-    add_single_rows(alloc, taker, set, i, bounds, columns, intervals)?;
+    let windows = wait_windows(alloc, set, i, bounds)?;
+    add_further_rows(alloc, taker, set, i, bounds, columns, places, &windows)?;
+    add_wait_rows(alloc, taker, set, i, bounds, columns, places, &windows)?;
     Ok(())
 }

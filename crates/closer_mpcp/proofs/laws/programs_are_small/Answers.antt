@@ -1,4 +1,4 @@
-use Rattle.closer_mpcp_laws.proofs.Programs.{mpcp_closer_height}
+use Rattle.mpcp_window_laws.proofs.Programs.{mpcp_closer_height}
 use Rattle.closer_mpcp.proofs.FewColumns.{mpcp_closer_width}
 use Rattle.closer_mpcp.proofs.laws.programs_are_small.Goals as goal
 

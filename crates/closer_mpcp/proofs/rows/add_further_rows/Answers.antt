@@ -5,6 +5,7 @@ use Rattle.blocking_columns.specs.Columns.{is_lower_local}
 use Rattle.fragments.specs.Constraints.{ConstraintDef, per, per_pair, per_where}
 use Rattle.closer_laws.specs.CloserRows.{local_preemption_row}
 use Rattle.closer_mpcp_laws.specs.CloserMpcpRows.{shared_holding_row, resource_holding_row, away_row, shared_interval_row, lower_wait_row}
+use Rattle.mpcp_window_laws.specs.WaitRows.{held_in_waits}
 use Rattle.closer_mpcp.proofs.rows.add_further_rows.Goals as goal
 
 pub returns : goal.returns
@@ -13,8 +14,8 @@ returns g c =
     let i = c.args.i.0 in
     let seen = map column_seen c.args.columns.now in
     let behind = g.met.T.RowTaker.behind in
-    let of_tasks : List ConstraintDef = per (length set.tasks) (shared_holding_row set i) in
-    let of_requests : List ConstraintDef = per_pair (length set.tasks) (length set.resources) (resource_holding_row set i) in
+    let of_tasks : List ConstraintDef = per (length set.tasks) (shared_holding_row set (held_in_waits set i) i) in
+    let of_requests : List ConstraintDef = per_pair (length set.tasks) (length set.resources) (resource_holding_row set (held_in_waits set i) i) in
     let aways : List ConstraintDef = per (length set.tasks) (away_row set i) in
     let intervals : List ConstraintDef = per_where (is_lower_local set i) (length set.tasks) (shared_interval_row set i) in
     let singles : List ConstraintDef = local_preemption_row set i ∷ lower_wait_row set i ∷ [] in

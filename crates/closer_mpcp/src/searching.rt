@@ -1,0 +1,36 @@
+//! The window of a request.
+
+ghost use Rattle.std.specs.Prelude.{◌≡◌, ◌<◌, ◌≤◌, length, slice_index, IfSome};
+ghost use Rattle.sporadic_model.specs.SetDef.{task_at};
+ghost use Rattle.program_sources.specs.Bounds.{AreWithinDeadlines};
+ghost use Rattle.mpcp_window_laws.specs.MpcpWindows.{wait_window};
+
+use crate::lower_holders::longest_lower_holding;
+use crate::tables::ticks_of_tasks;
+use crate::ticks::ticks_held;
+use sporadic_model::{ResourceId, TaskId, TaskSet};
+
+/// Within how many ticks of its issue is a request of `q` by `i` granted under MPCP at these bounds? It is the least number, from 1 on, that
+/// is at least as long as other tasks may hold `q` in that many ticks. None exactly if no such number is within the deadline of `i`. The
+/// search goes up: if a number isn't enough, no number is that is less than the ticks for which `q` may be held in that many. It takes no
+/// memory.
+pub(crate) fn wait_window(set: &TaskSet, i: TaskId, q: ResourceId, bounds: &[u64]) -> Option<u64>
+    requires task { i.0 < length set.now.tasks }
+    requires resource { q.0 < length set.now.resources }
+    requires within { AreWithinDeadlines set.now bounds.now }
+    ensures value { result ≡ wait_window set.now (slice_index bounds.now) i.0 q.0 }
+    ensures within { IfSome result (λ w. (1 ≤ w) × (w ≤ (task_at set.now i.0).deadline)) }
+{
+    let deadline = set.deadline(i);
+    let table = ticks_of_tasks(set, q);
+    let lower = longest_lower_holding(set, i, q, &table);
+    let mut span = 1u64;
+    while span <= deadline {
+        let held = ticks_held(set, i, q, bounds, &table, lower, span);
+        if held <= u128::from(span) {
+            return Some(span);
+        }
+        span = held.min(u128::from(deadline) + 1) as u64;
+    }
+    None
+}

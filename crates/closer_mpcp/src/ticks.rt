@@ -1,0 +1,221 @@
+//! For how many ticks other tasks may hold a resource in a span of ticks from the issue of a request on.
+
+ghost use Rattle.std.specs.Prelude.{◌≡◌, ◌<◌, ◌≤◌, ◌*◌, ◌&&◌, nat_lt, length, slice_index};
+ghost use Rattle.number_laws.specs.Sums.{only_if, sum_below};
+ghost use Rattle.program_sources.specs.Bounds.{AreWithinDeadlines};
+ghost use Rattle.blocking_columns.specs.Windows.{jobs_during, requests_during};
+ghost use Rattle.mpcp_window_laws.specs.MpcpWindows.{may_run_instead, own_ticks, holdings_beside, ticks_instead};
+ghost use Rattle.mpcp_window_laws.specs.MpcpWindows.{longest_lower_holding, ticks_held};
+ghost use Rattle.closer_mpcp.specs.Tables.{IsTaskTicks, AreTaskTicks};
+
+use crate::lower_holders::may_run_instead;
+use crate::tables::TaskTicks;
+use sporadic_model::{ResourceId, TaskId, TaskSet, jobs_in};
+
+/// How many jobs of `x` can run in a span of ticks?
+pub(crate) fn jobs_during(set: &TaskSet, bounds: &[u64], span: u64, x: TaskId) -> u64
+    requires task { x.0 < length set.now.tasks }
+    requires within { AreWithinDeadlines set.now bounds.now }
+    requires span { span ≤ 1000000000 }
+    ensures value { result ≡ jobs_during set.now (slice_index bounds.now) span x.0 }
+    ensures most { result ≤ 2000000000 }
+{
+    // no bound and jitter together are above the deadline of their task, which is within the limits of every set
+    let _tasks = set.tasks();
+    let bound = bounds[x.0 as usize] + set.jitter(x);
+    jobs_in(span, bound, set.period(x))
+}
+
+// For how many ticks may requests of these jobs run, if those of one job run for `time`?
+fn ticks_of_jobs(set: &TaskSet, bounds: &[u64], span: u64, x: TaskId, time: u64) -> u128
+    requires task { x.0 < length set.now.tasks }
+    requires within { AreWithinDeadlines set.now bounds.now }
+    requires span { span ≤ 1000000000 }
+    requires time { time ≤ 32000000000000 }
+    ensures value { result ≡ jobs_during set.now (slice_index bounds.now) span x.0 * time }
+    ensures most { result ≤ 64000000000000000000000 }
+{
+    // most tasks don't use the resource
+    if time == 0 {
+        return 0;
+    }
+    u128::from(jobs_during(set, bounds, span, x)) * u128::from(time)
+}
+
+// For how many ticks may requests of `q` by tasks higher than `i` run?
+fn own_ticks(
+    set: &TaskSet,
+    i: TaskId,
+    q: ResourceId,
+    bounds: &[u64],
+    table: &[TaskTicks],
+    span: u64,
+) -> u128
+    requires task { i.0 < length set.now.tasks }
+    requires within { AreWithinDeadlines set.now bounds.now }
+    requires table { AreTaskTicks set.now q.0 table.now }
+    requires span { span ≤ 1000000000 }
+    ensures value { result ≡ sum_below i.0 (own_ticks set.now (slice_index bounds.now) q.0 span) }
+    ensures most { result ≤ i.0 * 64000000000000000000000 }
+{
+    let mut total = 0u128;
+    for x in 0..i.0 {
+        let own = table[x as usize].own;
+        total += ticks_of_jobs(set, bounds, span, TaskId(x), own);
+    }
+    total
+}
+
+// How often may jobs of `y` hold `q` in the span, if it is higher than `i` and `x` may run instead?
+fn holdings_by(
+    set: &TaskSet,
+    i: TaskId,
+    q: ResourceId,
+    bounds: &[u64],
+    span: u64,
+    x: TaskId,
+    y: TaskId,
+) -> u64
+    requires resource { q.0 < length set.now.resources }
+    requires runner { x.0 < length set.now.tasks }
+    requires holder { y.0 < length set.now.tasks }
+    requires within { AreWithinDeadlines set.now bounds.now }
+    requires span { span ≤ 1000000000 }
+    ensures value { result ≡ only_if (nat_lt y.0 i.0 && may_run_instead set.now i.0 y.0 x.0)
+        (requests_during set.now (slice_index bounds.now) span y.0 q.0) }
+    ensures most { result ≤ 2000000000000 }
+{
+    if y < i && may_run_instead(set, i, y, x) {
+        set.count(y, q) * jobs_during(set, bounds, span, y)
+    } else {
+        0
+    }
+}
+
+// How often may jobs of higher tasks hold it so?
+fn holdings_beside(
+    set: &TaskSet,
+    i: TaskId,
+    q: ResourceId,
+    bounds: &[u64],
+    span: u64,
+    x: TaskId,
+) -> u64
+    requires task { i.0 < length set.now.tasks }
+    requires resource { q.0 < length set.now.resources }
+    requires runner { x.0 < length set.now.tasks }
+    requires within { AreWithinDeadlines set.now bounds.now }
+    requires span { span ≤ 1000000000 }
+    ensures value { result ≡ holdings_beside set.now (slice_index bounds.now) i.0 q.0 span x.0 }
+    ensures most { result ≤ 128000000000000 }
+{
+    // a set has at most 64 tasks, so the sum fits
+    let _tasks = set.tasks();
+    let users = set.users(q);
+    let mut total = 0;
+    for y in users {
+        total += holdings_by(set, i, q, bounds, span, x, *y);
+    }
+    total
+}
+
+// For how many ticks may `x` run instead, if it runs its longest request in each of these holdings?
+fn ticks_beside(
+    set: &TaskSet,
+    i: TaskId,
+    q: ResourceId,
+    bounds: &[u64],
+    span: u64,
+    x: TaskId,
+    longest: u64,
+) -> u128
+    requires task { i.0 < length set.now.tasks }
+    requires resource { q.0 < length set.now.resources }
+    requires runner { x.0 < length set.now.tasks }
+    requires within { AreWithinDeadlines set.now bounds.now }
+    requires span { span ≤ 1000000000 }
+    requires longest { longest ≤ 1000000000 }
+    ensures { result ≡ holdings_beside set.now (slice_index bounds.now) i.0 q.0 span x.0 * longest }
+{
+    // for most tasks and resources no request goes first
+    if longest == 0 {
+        return 0;
+    }
+    u128::from(holdings_beside(set, i, q, bounds, span, x)) * u128::from(longest)
+}
+
+// For how many ticks may `x` run instead? It runs no more than its jobs make.
+fn ticks_by(
+    set: &TaskSet,
+    i: TaskId,
+    q: ResourceId,
+    bounds: &[u64],
+    span: u64,
+    x: TaskId,
+    ticks: TaskTicks,
+) -> u128
+    requires task { i.0 < length set.now.tasks }
+    requires resource { q.0 < length set.now.resources }
+    requires runner { x.0 < length set.now.tasks }
+    requires within { AreWithinDeadlines set.now bounds.now }
+    requires span { span ≤ 1000000000 }
+    requires ticks { IsTaskTicks set.now q.0 x.0 ticks }
+    ensures value { result ≡ ticks_instead set.now (slice_index bounds.now) i.0 q.0 span x.0 }
+    ensures most { result ≤ 64000000000000000000000 }
+{
+    let beside = ticks_beside(set, i, q, bounds, span, x, ticks.longest);
+    // most tasks have no such holder beside them
+    if beside == 0 {
+        return 0;
+    }
+    beside.min(ticks_of_jobs(set, bounds, span, x, ticks.first))
+}
+
+// For how many ticks may all tasks run instead of the holders?
+fn ticks_instead(
+    set: &TaskSet,
+    i: TaskId,
+    q: ResourceId,
+    bounds: &[u64],
+    table: &[TaskTicks],
+    span: u64,
+) -> u128
+    requires task { i.0 < length set.now.tasks }
+    requires resource { q.0 < length set.now.resources }
+    requires within { AreWithinDeadlines set.now bounds.now }
+    requires table { AreTaskTicks set.now q.0 table.now }
+    requires span { span ≤ 1000000000 }
+    ensures value { result ≡ sum_below (length set.now.tasks) (ticks_instead set.now (slice_index bounds.now) i.0 q.0 span) }
+    ensures most { result ≤ 4096000000000000000000000 }
+{
+    let mut total = 0u128;
+    for x in 0..set.tasks() {
+        total += ticks_by(set, i, q, bounds, span, TaskId(x), table[x as usize]);
+    }
+    total
+}
+
+/// Let a request of `q` by `i` be issued. For how many ticks may other tasks hold `q`, with the jobs that run in this span from its issue on?
+pub(crate) fn ticks_held(
+    set: &TaskSet,
+    i: TaskId,
+    q: ResourceId,
+    bounds: &[u64],
+    table: &[TaskTicks],
+    lower: u64,
+    span: u64,
+) -> u128
+    requires task { i.0 < length set.now.tasks }
+    requires resource { q.0 < length set.now.resources }
+    requires within { AreWithinDeadlines set.now bounds.now }
+    requires table { AreTaskTicks set.now q.0 table.now }
+    requires lower { lower ≡ longest_lower_holding set.now i.0 q.0 }
+    requires span { span ≤ 1000000000 }
+    ensures { result ≡ ticks_held set.now (slice_index bounds.now) i.0 q.0 span }
+{
+    // a set has at most 64 tasks, so the sum fits
+    let _tasks = set.tasks();
+    let own = own_ticks(set, i, q, bounds, table, span);
+    let instead = ticks_instead(set, i, q, bounds, table, span);
+    u128::from(lower) + (own + instead)
+}
