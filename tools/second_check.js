@@ -346,11 +346,12 @@ var SecondCheck = (function () {
     const quotient_up = (number, by) => (number + by - 1n) / by;
     const sum_of = (items, number) => items.reduce((sum, item) => sum + number(item), 0n);
     const lesser = (one, other) => (one < other ? one : other);
+    const most_of = (items, number) => items.map(number).reduce((most, one) => (one > most ? one : most), 0n);
 
     // What the columns and rows of task i's program ask of the set. Tasks and resources go by their places, from 0; a lower place is higher.
     class View {
         constructor(set, protocol, i) {
-            Object.assign(this, { set, protocol, i, me: set.tasks[i], bounds: [], is_spinning: protocol.startsWith("spin") });
+            Object.assign(this, { set, protocol, i, me: set.tasks[i], bounds: [], waits: new Map(), is_spinning: protocol.startsWith("spin") });
             this.all = set.tasks.map((_, x) => x);
             this.resources = set.resources.map((_, q) => q);
             this.own = this.resources.filter((q) => this.uses(i, q));
@@ -426,10 +427,51 @@ var SecondCheck = (function () {
 
         // How often other tasks of x's processor can hold what is shared out while i waits for it, of what x may run one of these before.
         shared_holds(x, requests) {
-            const others = this.beside(x), lower = this.is_local(x) ? [] : others;
+            const others = this.beside(x), higher = others.filter((y) => y < this.i), lower = this.is_local(x) ? [] : others;
             const held = this.shared_out().filter((r) => requests.some((q) => q !== r && this.is_as_high(x, q, r)));
-            return sum_of(held, (r) => this.hold(others, lower, r, this.me.count[r]));
+            return sum_of(held, (r) => sum_of(higher, (y) => this.waited_for(y, r)) + this.hold([], lower, r, this.me.count[r]));
         }
+
+        // How many requests of q by y run while i waits for q: no more than while its job is there, or than within the windows of its requests.
+        waited_for(y, q) {
+            if (!this.waits.has(q)) this.waits.set(q, this.wait(q));
+            return lesser(this.requests(y, q), this.me.count[q] * this.set.tasks[y].count[q] * this.jobs(y, this.waits.get(q)));
+        }
+
+        // For how many ticks a request of q by i can wait under MPCP; where that passes the deadline, i's bound in place of it.
+        wait(q) {
+            const higher = this.all.filter((y) => y < this.i && this.uses(y, q)), runners = this.runners(q, higher), lower = this.lower_hold(q);
+            const requests = (y, ticks) => this.set.tasks[y].count[q] * this.jobs(y, ticks);
+            for (let waited = 1n; waited <= this.me.deadline;) {
+                const own = sum_of(higher, (y) => requests(y, waited) * this.set.tasks[y].length[q]);
+                const others = sum_of(runners, ({ x, holders, longest, all }) =>
+                    lesser(sum_of(holders, (y) => requests(y, waited)) * longest, this.jobs(x, waited) * all));
+                if (lower + own + others <= waited) return waited;
+                waited = lower + own + others;
+            }
+            return this.bounds[this.i];
+        }
+
+        // Of which resources a request of x may run while another task of its processor holds q; and the longest such request.
+        overtaking(x, q) { return this.resources.filter((r) => r !== q && this.uses(x, r) && this.is_as_high(x, r, q)); }
+
+        longest_overtaking(x, q) { return most_of(this.overtaking(x, q), (r) => this.set.tasks[x].length[r]); }
+
+        // For how many ticks one lower task, of another processor, can hold q. Of each task beside it one request may run meanwhile.
+        lower_hold(q) {
+            const lower = this.all.filter((y) => y > this.i && this.uses(y, q) && !this.is_local(y));
+            return most_of(lower, (y) => this.set.tasks[y].length[q] + sum_of(this.beside(y), (x) => this.longest_overtaking(x, q)));
+        }
+
+        // Who may run requests in place of which of these holders of q, for how many ticks each, and for how many all that a job makes.
+        runners(q, higher) {
+            const others = this.all.filter((x) => x !== this.i).map((x) => ({ x, holders: higher.filter((y) => y !== x && this.processor(y) === this.processor(x)) }));
+            const all_of = (x) => sum_of(this.overtaking(x, q), (r) => this.set.tasks[x].count[r] * this.set.tasks[x].length[r]);
+            return others.filter(({ holders }) => holders.length).map((one) => ({ ...one, longest: this.longest_overtaking(one.x, q), all: all_of(one.x) }));
+        }
+
+        // From here on limits are those at these bounds.
+        set_bounds(bounds) { Object.assign(this, { bounds, waits: new Map() }); }
 
         // How many requests of x can run while i waits for what x's processor holds: one for each of i, and one for each holding elsewhere.
         runs_beside(x) {
@@ -444,7 +486,7 @@ var SecondCheck = (function () {
             const at_home = this.resources.filter((r) => this.home(r) === this.home(q));
             const barring = at_home.filter((r) => this.ceiling(r) <= this.i);
             const lengths = this.all.filter((x) => x > this.i).flatMap((x) => barring.map((r) => this.set.tasks[x].length[r]));
-            const alone = this.me.length[q] + lengths.reduce((most, length) => (length > most ? length : most), 0n);
+            const alone = this.me.length[q] + most_of(lengths, (length) => length);
             const ticks = this.set.tasks.map((task) => sum_of(at_home, (r) => task.count[r] * task.length[r]));
             const higher = this.all.filter((x) => x < this.i && ticks[x] > 0n);
             for (let open = 1n; open <= this.me.deadline;) {
@@ -531,6 +573,7 @@ var SecondCheck = (function () {
             limit: (view) => 1n + view.own_requests(view.shared_out()),
         },
         lower_waits: { row: (view, { x, way }) => way === DIRECT && x > view.i && view.is_local(x) && [0], limit: () => 0n },
+        direct_waits: { row: (view, { x, q, way }) => way === DIRECT && x < view.i && [x, q], limit: (view, x, q) => view.waited_for(x, q) },
         local_runners: { row: (view, { x, q, way }) => way === INDIRECT && !view.is_shared_out(x, q) && [0], limit: () => 0n },
         home_tasks: {
             row: (view, column) => is_open(column) && view.processor(column.x) === view.home(column.q) && [view.home(column.q)],
@@ -553,7 +596,8 @@ var SecondCheck = (function () {
     KINDS_OF["spin-c"] = ["requests", "time", "lower_requests", "closer_spinning", "own_spinning", "lower_spinning", "other_lower_spinning"];
     KINDS_OF["dpcp-c"] = [...KINDS_OF["dpcp-w"], "home_tasks", "lower_home_tasks", "lower_preemption", "lower_home_waits"];
     KINDS_OF["dflp-c"] = [...KINDS_OF.dflp, "home_tasks", "lower_home_tasks", "lower_preemption"];
-    KINDS_OF["mpcp-c"] = [...KINDS_OF.mpcp, "shared_holdings", "holdings_by_resource", "away_holdings", "shared_intervals", "local_preemption", "lower_waits"];
+    KINDS_OF["mpcp-c"] = [...KINDS_OF.mpcp, "shared_holdings", "holdings_by_resource", "away_holdings", "shared_intervals", "local_preemption"];
+    KINDS_OF["mpcp-c"].push("lower_waits", "direct_waits");
 
     // The rows of a kind, in rising order of whom each is for: its cells, each a column and how often that counts, and its limit.
     function rows_of(view, columns, { row, rows, times, limit }) {
@@ -609,7 +653,7 @@ var SecondCheck = (function () {
             if (column >= 0) refute_certificate(`cover ${task.name} ${column + 1}`);
         }
         for (const task of tasks) {
-            task.program.view.bounds = bounds;
+            task.program.view.set_bounds(bounds);
             const value = task.program.rows.reduce((sum, row, r) => sum + row.limit() * task.dual.num[r], 0n) / task.dual.den;
             if (task.cost + value + interference(set, protocol, task.i, bounds) > task.bound) refute_certificate(`small ${task.name}`);
         }
@@ -618,7 +662,7 @@ var SecondCheck = (function () {
 
     function check_step(set, protocol, program, i, bounds, step, fail) {
         const { den, num } = step.point, { view, columns, rows } = program;
-        view.bounds = bounds;
+        view.set_bounds(bounds);
         if (step.value <= bounds[i]) fail("rising");
         if (num.length !== columns.length) fail("size");
         const broken = rows.findIndex((row) => sum_of(row.cells, ([at, times]) => times * num[at]) > den * row.limit());

@@ -83,6 +83,11 @@ class TaskSet:
             least = self.length[i][q] + max(lower, default=0) + higher
         return ticks if least <= ticks else None
 
+    def goes_first(self, x: int, q: int, r: int) -> bool:
+        """May x run its request of q under MPCP while another task of its processor holds r?"""
+        k = self.processor[x]
+        return q != r and self.boost(q, k) <= self.boost(r, k)
+
     def interfering(self, protocol: str, bounds: Bounds, i: int) -> Iterator[tuple[int, int, int]]:
         """Of each higher task on i's processor the task, how many of its jobs run in i's window, and the ticks that one of them takes there."""
         for h in range(i):
@@ -168,12 +173,87 @@ def holdings(s: TaskSet, bounds: Bounds, i: int, x: int) -> int:
     return sum(held_by(s, bounds, i, r, beside(s, i, x), beside(s, i, x)) for r in s.count[i])
 
 
-def shared_holdings(s: TaskSet, bounds: Bounds, i: int, x: int, requests: Sequence[int]) -> int:
-    """How often it can hold what is shared out, of what x may run one of these requests before. No lower task of i's processor holds what i waits for."""
-    k = s.processor[x]
-    lower = [] if k == s.processor[i] else beside(s, i, x)
-    may_wait = [r for r in s.count[i] if s.is_shared_out(i, r) and any(q != r and s.boost(q, k) <= s.boost(r, k) for q in requests)]
-    return sum(held_by(s, bounds, i, r, beside(s, i, x), lower) for r in may_wait)
+class Instead(NamedTuple):
+    """A task whose requests may run in place of holders: for how many ticks one of these may, and all that one of its jobs makes."""
+
+    task: int
+    holders: list[int]
+    one: int
+    every: int
+
+
+class Waits:
+    """How long task i waits at these bounds until its requests are granted, under MPCP."""
+
+    def __init__(self, s: TaskSet, bounds: Bounds, i: int) -> None:
+        self.s, self.bounds, self.i = s, bounds, i
+        self.windows: dict[int, Optional[int]] = {}
+
+    def window(self, q: int) -> Optional[int]:
+        """Within how many ticks of its issue a request of q is granted, or None where no such number is within the deadline."""
+        if q not in self.windows:
+            self.windows[q] = self.least_window(q)
+        return self.windows[q]
+
+    def least_window(self, q: int) -> Optional[int]:
+        """The same, found from below."""
+        lower, higher, others = self.lower_holding(q), [y for y in self.s.users(q) if y < self.i], self.instead_of_higher(q)
+        ticks, least = 0, 1
+        while ticks < least <= self.s.deadline[self.i]:
+            ticks = least
+            requests = {y: self.s.count[y][q] * self.jobs(y, ticks) for y in higher}
+            own = sum(requests[y] * self.s.length[y][q] for y in higher)
+            instead = sum(min(sum(requests[y] for y in one.holders) * one.one, self.jobs(one.task, ticks) * one.every) for one in others)
+            least = lower + own + instead
+        return ticks if least <= ticks else None
+
+    def jobs(self, x: int, ticks: int) -> int:
+        """How many jobs of x run in so many ticks, at most."""
+        return self.s.jobs_in(ticks, self.bounds, x)
+
+    def going_first(self, x: int, q: int) -> list[int]:
+        """Of which resources x may run a request while another task of its processor holds q."""
+        return [r for r in self.s.count[x] if self.s.goes_first(x, r, q)]
+
+    def longest_first(self, x: int, q: int) -> int:
+        """For how many ticks one of these requests may run."""
+        return max((self.s.length[x][r] for r in self.going_first(x, q)), default=0)
+
+    def lower_holding(self, q: int) -> int:
+        """For how many ticks a lower task of another processor may hold q: its own request runs, and one of each task beside it."""
+        s, i = self.s, self.i
+        lower = [y for y in s.users(q) if y > i and s.processor[y] != s.processor[i]]
+        return max((s.length[y][q] + sum(self.longest_first(x, q) for x in beside(s, i, y)) for y in lower), default=0)
+
+    def instead_of_higher(self, q: int) -> list[Instead]:
+        """The tasks whose requests may run in place of higher holders of q."""
+        s = self.s
+        found: list[Instead] = []
+        for x in range(s.n):
+            holders = [y for y in s.users(q) if y < self.i and y != x and s.processor[y] == s.processor[x]]
+            if x != self.i and holders:
+                every = sum(s.count[x][r] * s.length[x][r] for r in self.going_first(x, q))
+                found.append(Instead(x, holders, self.longest_first(x, q), every))
+        return found
+
+    def requests(self, x: int, q: int) -> int:
+        """How many requests of q by x can run while a job of i waits for q: within its windows, and while it runs."""
+        s, ticks = self.s, self.window(q)
+        every = s.count[x][q] * s.jobs(self.bounds, self.i, x)
+        return every if ticks is None else min(every, s.count[self.i][q] * s.count[x][q] * self.jobs(x, ticks))
+
+
+def shared_holdings(s: TaskSet, waits: Waits, i: int, x: int, requests: Sequence[int]) -> int:
+    """How often it can hold what is shared out while i waits for it, of what x may run one of these requests before. Of the lower tasks none of i's
+    processor holds what i waits for, and the others hold it together once before each request of i."""
+    others = beside(s, i, x)
+    lower = [] if s.processor[x] == s.processor[i] else [y for y in others if y > i]
+    held = 0
+    for r in s.count[i]:
+        if s.is_shared_out(i, r) and any(s.goes_first(x, q, r) for q in requests):
+            held += sum(waits.requests(y, r) for y in others if y < i and r in s.count[y])
+            held += s.count[i][r] if any(r in s.count[y] for y in lower) else 0
+    return held
 
 
 def run_beside_away_holdings(s: TaskSet, bounds: Bounds, i: int, x: int) -> int:
@@ -194,6 +274,7 @@ class Shape:
         self.columns = columns_of(s, protocol, i)
         self.costs = [s.length[x][q] for x, q, _ in self.columns]
         self.rows: list[tuple[Row, Callable[[Bounds], int]]] = []
+        self.last_waits: Optional[Waits] = None
         self.others = [x for x in range(s.n) if x != i]
         self.processors = range(1, s.parts["processors"] + 1)
         self.every = list(enumerate(self.columns))
@@ -423,7 +504,7 @@ class Shape:
 
     def add_shared_holdings_of(self, x: int) -> None:
         """The row of x."""
-        self.add(lambda r: shared_holdings(self.s, r, self.i, x, sorted(self.s.count[x])), self.of_task[x], lambda c: int(c.way == "indirect"))
+        self.add(lambda r: shared_holdings(self.s, self.waits(r), self.i, x, sorted(self.s.count[x])), self.of_task[x], lambda c: int(c.way == "indirect"))
 
     def add_holdings_by_resource(self) -> None:
         """Of a task and a resource: one of its requests of the resource in each such holding, before which it may run that."""
@@ -433,7 +514,7 @@ class Shape:
 
     def add_resource_holdings_of(self, x: int, q: int) -> None:
         """The row of x and q."""
-        self.add(lambda r: shared_holdings(self.s, r, self.i, x, [q]), self.of_task[x], lambda c: int(c[1:] == (q, "indirect")))
+        self.add(lambda r: shared_holdings(self.s, self.waits(r), self.i, x, [q]), self.of_task[x], lambda c: int(c[1:] == (q, "indirect")))
 
     def add_away_holdings(self) -> None:
         """Of a task: one request before each of i that its processor may hold up, and one more for each holding elsewhere."""
@@ -453,6 +534,22 @@ class Shape:
     def add_lower_waits(self) -> None:
         """No request of a lower local task is waited for."""
         self.add(lambda r: 0, self.every, lambda c: int(c.way == "direct" and c.task > self.i and self.s.processor[c.task] == self.s.processor[self.i]))
+
+    def add_direct_waits(self) -> None:
+        """Of a higher task and a resource: what runs in the waits of requests."""
+        for x in range(self.i):
+            for q in sorted(self.s.count[x]):
+                self.add_direct_waits_of(x, q)
+
+    def add_direct_waits_of(self, x: int, q: int) -> None:
+        """The row of x and q."""
+        self.add(lambda r: self.waits(r).requests(x, q), self.of_task[x], lambda c: int(c[1:] == (q, "direct")))
+
+    def waits(self, bounds: Bounds) -> Waits:
+        """The waits of i at these bounds. The last ones are kept, since rows ask for them again."""
+        if self.last_waits is None or self.last_waits.bounds != tuple(bounds):
+            self.last_waits = Waits(self.s, tuple(bounds), self.i)
+        return self.last_waits
 
     def shared_requests(self) -> int:
         """The requests of i of what tasks of other processors request too."""
@@ -537,6 +634,7 @@ KINDS["mpcp-c"] = (
     Shape.add_shared_intervals,
     Shape.add_local_preemption,
     Shape.add_lower_waits,
+    Shape.add_direct_waits,
 )
 
 
