@@ -117,7 +117,7 @@ MPCP_MET = {
         "1,3,,\n5,3,,3\n1,2,1,\n1,3,1,1\n1,2,,2\n5,3,,3\n8,2,,\n",
         "kept 22\nt1 2 15 0 5 0 0 0\nt2 21 21 11 11 1 0 10\nt3 14 41 0 1 0 0 0\n"),
 }
-MPCP_PAIR = certificate("mpcp-c", [5, 5], [[2, 0, 0, 0], [1, 0, 0]])
+MPCP_PAIR = certificate("mpcp-c", [5, 5], [[2, 0, 0, 0], [1, 0, 0, 0]])
 AWAY_LATE = AWAY.replace('"cost": 6,', '"cost": 6, "deadline": 11,')
 AWAY_TOO_LATE = AWAY.replace('"cost": 6,', '"cost": 6, "deadline": 10,')
 
