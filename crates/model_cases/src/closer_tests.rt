@@ -4,7 +4,9 @@ use closer_mpcp::CLOSER_MPCP;
 use program_form::{Certificate, Program};
 use response_fixpoint::{Verdict, analyse, analyse_with};
 use sporadic_model::{Protocol, TaskId};
+use std::alloc::Global;
 use std::test::Fail;
+use std::thread::Threads;
 use worked_sets::{EntryRow, SetRow, set_of, task_row};
 
 const MOST: u64 = 1_000_000;
@@ -106,19 +108,28 @@ fn limits_what_runs_in_one_wait(rt: HostRuntime) -> Result<(), Fail> {
     Ok(())
 }
 
+/// Are these the bounds of the set under MPCP, and those of its closer analysis?
+fn are_both_bounds(
+    rt: &(impl Threads + Sync),
+    alloc: Global,
+    set: SetRow<'_>,
+    plain: &[u64],
+    closer: &[u64],
+) -> Result<bool, Fail> {
+    let set = set_of(alloc, set)?;
+    let Ok(Verdict::Schedulable(first)) = analyse(rt, alloc, &set, Protocol::Mpcp, MOST) else {
+        return Err("not shown under MPCP".into());
+    };
+    let Ok(Verdict::Schedulable(second)) = analyse_with(rt, alloc, &set, &CLOSER_MPCP, MOST) else {
+        return Err("not shown by the closer analysis".into());
+    };
+    Ok(bounds_are(&first, plain) && bounds_are(&second, closer))
+}
+
 // Under MPCP both requests of the higher task may block the lower one: 6 + 5 + 5. By the closer analysis one does.
 #[test]
 fn bounds_fall_with_the_closer_analysis_of_mpcp(rt: HostRuntime) -> Result<(), Fail> {
-    let alloc = rt.alloc();
-    let set = set_of(alloc, TWICE)?;
-    let Ok(Verdict::Schedulable(plain)) = analyse(&rt, alloc, &set, Protocol::Mpcp, MOST) else {
-        return Err("not shown under MPCP".into());
-    };
-    assert!(rt; bounds_are(&plain, &[19, 16]));
-    let Ok(Verdict::Schedulable(found)) = analyse_with(&rt, alloc, &set, &CLOSER_MPCP, MOST) else {
-        return Err("not shown by the closer analysis".into());
-    };
-    assert!(rt; bounds_are(&found, &[19, 11]));
+    assert!(rt; are_both_bounds(&rt, rt.alloc(), TWICE, &[19, 16], &[19, 11])?);
     Ok(())
 }
 
@@ -190,24 +201,12 @@ fn limits_what_is_held_in_waits(rt: HostRuntime) -> Result<(), Fail> {
     Ok(())
 }
 
-/// Are these the bounds of the set under MPCP, and those of its closer analysis?
-fn shown_with_waits(rt: &HostRuntime, set: SetRow<'_>, plain: &[u64], closer: &[u64]) -> Result<bool, Fail> {
-    let alloc = rt.alloc();
-    let set = set_of(alloc, set)?;
-    let Ok(Verdict::Schedulable(first)) = analyse(rt, alloc, &set, Protocol::Mpcp, MOST) else {
-        return Err("not shown under MPCP".into());
-    };
-    let Ok(Verdict::Schedulable(found)) = analyse_with(rt, alloc, &set, &CLOSER_MPCP, MOST) else {
-        return Err("not shown by the closer analysis".into());
-    };
-    Ok(bounds_are(&first, plain) && bounds_are(&found, closer))
-}
-
 // Under MPCP four requests of each higher task count in the bound of 28, and one of each with windows of waits. In the second set the third
 // task's bound is 40 + 4 + 4 + 4 * 2 under MPCP, where the second task holds the resource four times, and 40 + 1 + 1 + 2 with windows.
 #[test]
 fn bounds_fall_with_windows_of_waits(rt: HostRuntime) -> Result<(), Fail> {
-    assert!(rt; shown_with_waits(&rt, OFTEN, &[4, 5, 28], &[4, 5, 22])?);
-    assert!(rt; shown_with_waits(&rt, INSTEAD, &[9, 9, 56, 21], &[9, 9, 44, 21])?);
+    let alloc = rt.alloc();
+    assert!(rt; are_both_bounds(&rt, alloc, OFTEN, &[4, 5, 28], &[4, 5, 22])?);
+    assert!(rt; are_both_bounds(&rt, alloc, INSTEAD, &[9, 9, 56, 21], &[9, 9, 44, 21])?);
     Ok(())
 }
