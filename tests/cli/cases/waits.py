@@ -44,6 +44,13 @@ BESIDE = beside(20, 3, 1, ("q", 2, 4))
 # t2 holds r three times a job, and t4 makes one request of 4 ticks. So a wait lasts up to 1 + 3 + 4 ticks, and not 1 + 3 + 3 * 4.
 ONE_REQUEST = beside(25, 6, 3, ("q", 4))
 
+# t4 waits for q and r, which t3 may hold. On t3's processor t5 may run u in place of both, and s in place of r alone: that processor sees t1 as
+# the ceiling of q and u, t2 as that of s, and t4 as that of r. In t4's waits t1 holds q for one tick, and t3 each of the two. One request of u
+# runs, which is all that t5 makes, and one of s: 40 + 1 + 2 + 1 + 3. Shared holdings alone would let two of s run, in the places of both.
+BY_RESOURCE = task_set(
+    3, [resource(name) for name in "qrsu"], task("t1", 3, 200, 5, ("q", 1), ("u", 1)), task("t2", 3, 210, 5, ("s", 1)),
+    task("t3", 2, 30, 5, ("q", 1), ("r", 1)), task("t4", 1, 300, 40, ("q", 1), ("r", 1)), task("t5", 2, 400, 31, ("s", 3, 4), ("u", 1)))
+
 # of each set: its bounds under MPCP, and those of the closer analysis
 BOUNDS = {
     "one short request of a long job": (PLAIN, [4, 5, 28], [4, 5, 22]),
@@ -55,6 +62,7 @@ BOUNDS = {
     "another request in a lower holder's place": (INSTEAD_OF_LOWER, [9, 9, 29, 40, 64], [9, 9, 27, 36, 61]),
     "other requests in higher holders' places": (BESIDE, [9, 9, 56, 21], [9, 9, 44, 21]),
     "one request in the places of three holders": (ONE_REQUEST, [9, 13, 57, 27], [9, 13, 48, 26]),
+    "a request that runs in the place of one holder alone": (BY_RESOURCE, [9, 14, 17, 60, 44], [9, 14, 17, 47, 44]),
 }
 
 # Rows are of requests and of time for each other task, of lower holders, of away holdings for each other task, and of direct waits for each
@@ -86,7 +94,7 @@ CERTIFICATES = [
     run("with it", "check mpcp-c", "valid\n", 0, LOWEST, cert=certificate("mpcp-c", [7, 9, 28, 35], LOWEST_DUALS, LOWEST)),
 ]
 
-# In each of these t3 is blocked for as long as its value says, which is less than under MPCP.
+# In each of these t3, and in the last one t4, is blocked for as long as its value says, which is less than under MPCP.
 SCHEDULES = [
     audited("direct waits", "mpcp-c", PLAIN, "t1,0,1 q:1 1\nt2,0,1 q:1 1\nt3,0,1 q:1 18\n",
             "1,1,2,3,\n1,1,,,1\n1,1,2,,2\n1,,2,3,3\n18,,,3,\n",
@@ -94,6 +102,12 @@ SCHEDULES = [
     audited("shared holdings in waits", "mpcp-c", BESIDE, "t1,0,1 r:1 1\nt2,0,1 r:1 1\nt3,0,1 r:1 38\nt4,0,1 q:2\n",
             "1,1,2,3,,\n1,1,4,,,1\n1,1,4,,4,2\n1,,4,,4,2\n1,,2,,,2\n1,,2,3,,3\n38,,,3,,\n",
             "kept 44\nt1 3 9 0 6 0 0 0\nt2 6 9 3 6 1 0 2\nt3 44 44 4 4 2 2 0\nt4 4 21 0 2 0 0 0\n"),
+    # a job of t3 holds q first, and its next one holds r. The request of s waits for t2's, and so it is granted when t3's of r is
+    audited("holdings by resource in waits", "mpcp-c", BY_RESOURCE,
+            "t1,0,1 q:1\nt2,29,1 s:1\nt3,0,1 q:1 1\nt3,30,1 r:1\nt4,0,1 q:1 26 r:1 11\nt5,0,1 u:1 25 s:3\n",
+            "1,5,3,1,,,,\n1,,6,1,1,,,\n1,,6,,3,,,6\n1,,3,,3,,,\n1,5,3,,5,,,\n24,5,6,,,,,\n1,5,6,2,,,,\n1,5,4,2,,,2,\n3,,6,,,4,6,\n1,,4,,,4,,\n"
+            "1,5,,,,5,,\n11,5,,,,,,\n",
+            "kept 47\nt1 2 9 0 4 0 0 0\nt2 2 14 0 4 0 0 0\nt3 5 17 3 12 1 0 4\nt4 47 47 7 7 3 4 0\nt5 34 44 0 3 0 0 0\n"),
 ]
 
 CASES = ANALYSES + CERTIFICATES + SCHEDULES
