@@ -1,4 +1,6 @@
 pub mod FewColumns
+mod FirstUsed
 mod ListedSums
+mod NoIndirect
 mod Pushed
 mod Search

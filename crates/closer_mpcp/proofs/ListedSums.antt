@@ -1,18 +1,20 @@
 -- Sums over the users of a resource and over the resources of a task, which are lists.
 use Rattle.std.proofs.Common.{◌≡◌, ℕ, ◌+◌, ◌-◌, ◌*◌, ◌<◌, ◌≤◌, ◌&&◌, Bool, true, false, nat_lt, List, [], length, map, drop}
-use Rattle.std.proofs.Common.{refl, ap, ◌∙◌, arith}
+use Rattle.std.proofs.Common.{refl, sym, ap, subst, ◌∙◌, arith}
 use Rattle.std.specs.List.{sum_by}
+use Rattle.std.proofs.Math.Bool.{and-true}
 use Rattle.std.proofs.lemmas.Bool.{lt-ltb, le-ltb, ltb-false}
 use Rattle.std.proofs.lemmas.List.{drop_all}
 use Rattle.number_laws.specs.Sums.{sum_below, only_if}
 use Rattle.number_laws.proofs.SumLaws.{sum_below-agree, sum_below-split, sum_below-zero}
 use Rattle.number_laws.proofs.OnlyIfLaws.{only_if-nothing}
 use Rattle.sporadic_model.specs.SetDef.{SetDef}
-use Rattle.sporadic_model.specs.Users.{count_of, is_user, users_of, used_by}
+use Rattle.sporadic_model.specs.Users.{count_of, length_of, is_user, users_of, used_by}
 use Rattle.sporadic_model.specs.declared.ids.TaskId.{TaskId}
 use Rattle.sporadic_model.specs.declared.ids.ResourceId.{ResourceId}
 use Rattle.blocking_columns.specs.Windows.{jobs_during, requests_during}
 use Rattle.blocking_columns.proofs.KeptNumbers.{sum_of_kept, sum_where_kept, kept_few}
+use Rattle.mpcp_window_laws.specs.MpcpWindows.{own_ticks}
 use Rattle.mpcp_window_laws.specs.WaitRows.{requests_in_waits}
 
 -- Terms of tasks from i on are none.
@@ -48,12 +50,28 @@ all_users set i r at f ys k total same here none past sums =
     let whole : total + made_by i at f [] ≡ made_by i at f ys = rw (drop_all k ys past) at sums in
     omega (arith, whole, higher_users set i r at f ys same here none)
 
+-- The same where all higher ones pass.
+pub all_higher_users : (set : SetDef) (i r : ℕ) (f : ℕ → ℕ) (ys : List TaskId) (k total : ℕ)
+    → map (λ (y : TaskId). y.0) ys ≡ users_of set r → i < length set.tasks → ((y : ℕ) → is_user set r y ≡ false → f y ≡ 0)
+    → length ys ≤ k → total + sum_by (λ (y : TaskId). only_if (nat_lt y.0 i) (f y.0)) (drop k ys)
+    ≡ sum_by (λ (y : TaskId). only_if (nat_lt y.0 i) (f y.0)) ys → total ≡ sum_below i f
+all_higher_users set i r f ys k total same here none past sums =
+    all_users set i r (λ y. true) f ys k total same here none past (subst (λ (t : ℕ → Bool).
+    total + sum_by (λ (y : TaskId). only_if (t y.0) (f y.0)) (drop k ys) ≡ sum_by (λ (y : TaskId). only_if (t y.0) (f y.0)) ys)
+    (λ j. λ y. sym (and-true (nat_lt y i)) j) sums)
+
 -- A task that doesn't use r makes no request of it.
 pub none_made : (set : SetDef) (bounds : ℕ → ℕ) (w y r : ℕ) → is_user set r y ≡ false → requests_during set bounds w y r ≡ 0
 none_made set bounds w y r unused =
     let none : count_of set y r ≡ 0 = omega (arith, ltb-false 0 (count_of set y r) unused) in
     let nothing : 0 * jobs_during set bounds w y ≡ 0 = omega arith in
     ap (λ n. n * jobs_during set bounds w y) none ∙ nothing
+
+pub none_own : (set : SetDef) (bounds : ℕ → ℕ) (q w y : ℕ) → is_user set q y ≡ false → own_ticks set bounds q w y ≡ 0
+none_own set bounds q w y unused =
+    let none : count_of set y q ≡ 0 = omega (arith, ltb-false 0 (count_of set y q) unused) in
+    let nothing : jobs_during set bounds w y * (0 * length_of set y q) ≡ 0 = omega arith in
+    ap (λ n. jobs_during set bounds w y * (n * length_of set y q)) none ∙ nothing
 
 pub none_in_waits : (set : SetDef) (bounds : ℕ → ℕ) (i y r : ℕ) → is_user set r y ≡ false → requests_in_waits set bounds i r y r ≡ 0
 none_in_waits set bounds i y r unused = omega (arith, none_made set bounds (bounds i) y r unused)

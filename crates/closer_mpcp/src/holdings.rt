@@ -7,6 +7,7 @@ ghost use Rattle.blocking_columns.specs.Windows.{requests_in, requests_by_higher
 ghost use Rattle.closer_laws.specs.CloserRows.{is_held_there};
 ghost use Rattle.closer_mpcp_laws.specs.CloserMpcpRows.{is_away, shared_holdings, away_holdings, away_row};
 ghost use Rattle.mpcp_window_laws.specs.WaitRows.{held_in_waits};
+ghost use Rattle.shared_requests.specs.Held.{AreSharedOut};
 ghost use Rattle.closer_mpcp.specs.Holdings.{passes, is_lower_at, has_lower, lower_held, held_beside, counts};
 ghost use Rattle.closer_mpcp.specs.Holdings.{runs_there};
 ghost use Rattle.closer_mpcp.specs.Windows.{AreWaitWindows};
@@ -15,7 +16,7 @@ use crate::ceilings::passes;
 use crate::places::{Place, is_at};
 use crate::waits::held_in_waits;
 use fragments::{cnt, share_processor};
-use shared_requests::{Holders, has_holder, is_shared_out};
+use shared_requests::{Holders, has_holder};
 use sporadic_model::{ResourceId, TaskId, TaskSet};
 
 // The requests of `r` by `y` within the bound of a job of `i`, if it is higher than `i` and on another processor than `x`.
@@ -132,24 +133,14 @@ fn held_beside(
     }
 }
 
-// Do they count: is `r` shared out, and may `x` run requests meanwhile?
-fn counts(set: &TaskSet, i: TaskId, x: TaskId, q: Option<ResourceId>, r: ResourceId) -> bool
-    requires task { i.0 < length set.now.tasks }
-    requires runner { x.0 < length set.now.tasks }
-    requires first { IfSome q (λ a. a.0 < length set.now.resources) }
-    requires resource { r.0 < length set.now.resources }
-    ensures { result ≡ counts set.now i.0 x.0 q r.0 }
-{
-    is_shared_out(set, i, r) && passes(set, x, q, r)
-}
-
-// Those of `r` that count.
+// Those of `r`, if they count: if it is shared out, and `x` may run requests meanwhile.
 fn counted_of(
     set: &TaskSet,
     i: TaskId,
     x: TaskId,
     q: Option<ResourceId>,
     r: ResourceId,
+    shared: &[bool],
     bounds: &[u64],
     windows: &[Option<u64>],
 ) -> u64
@@ -157,13 +148,19 @@ fn counted_of(
     requires runner { x.0 < length set.now.tasks }
     requires first { IfSome q (λ a. a.0 < length set.now.resources) }
     requires resource { r.0 < length set.now.resources }
+    requires shared { AreSharedOut set.now i.0 shared.now }
     requires within { AreWithinDeadlines set.now bounds.now }
     requires windows { AreWaitWindows set.now (slice_index bounds.now) i.0 windows.now }
     ensures value { result ≡ only_if (counts set.now i.0 x.0 q r.0) (held_beside set.now (slice_index bounds.now) i.0 x.0 r.0) }
     ensures most { result ≤ 128000000001000 }
 {
-    if counts(set, i, x, q, r) {
-        held_beside(set, i, x, r, bounds, windows)
+    if !shared[r.0 as usize] {
+        return 0;
+    }
+    let held = held_beside(set, i, x, r, bounds, windows);
+    // beside most tasks nothing is held, and what passes costs more to tell
+    if held > 0 && passes(set, x, q, r) {
+        held
     } else {
         0
     }
@@ -176,12 +173,14 @@ pub(crate) fn shared_holdings(
     i: TaskId,
     x: TaskId,
     q: Option<ResourceId>,
+    shared: &[bool],
     bounds: &[u64],
     windows: &[Option<u64>],
 ) -> u64
     requires task { i.0 < length set.now.tasks }
     requires runner { x.0 < length set.now.tasks }
     requires first { IfSome q (λ a. a.0 < length set.now.resources) }
+    requires shared { AreSharedOut set.now i.0 shared.now }
     requires within { AreWithinDeadlines set.now bounds.now }
     requires windows { AreWaitWindows set.now (slice_index bounds.now) i.0 windows.now }
     ensures value { result ≡ shared_holdings set.now (held_in_waits set.now i.0 (slice_index bounds.now) x.0) i.0 x.0 (passes set.now x.0 q) }
@@ -192,19 +191,20 @@ pub(crate) fn shared_holdings(
     let used = set.used_by(i);
     let mut total = 0;
     for r in used {
-        total += counted_of(set, i, x, q, *r, bounds, windows);
+        total += counted_of(set, i, x, q, *r, shared, bounds, windows);
     }
     total
 }
 
 // May `i` wait for `r` while a task of `x`'s processor holds it?
-fn is_held_there(set: &TaskSet, i: TaskId, x: TaskId, r: ResourceId) -> bool
+fn is_held_there(set: &TaskSet, i: TaskId, x: TaskId, r: ResourceId, shared: &[bool]) -> bool
     requires task { i.0 < length set.now.tasks }
     requires runner { x.0 < length set.now.tasks }
     requires resource { r.0 < length set.now.resources }
+    requires shared { AreSharedOut set.now i.0 shared.now }
     ensures { result ≡ is_held_there set.now i.0 x.0 r.0 }
 {
-    is_shared_out(set, i, r) && has_holder(set, Holders::There, i, x, r)
+    shared[r.0 as usize] && has_holder(set, Holders::There, i, x, r)
 }
 
 // How many requests of `x` can then run while `i` waits for `r`?
@@ -221,15 +221,23 @@ fn runs_there(set: &TaskSet, i: TaskId, x: TaskId, r: ResourceId, bounds: &[u64]
 }
 
 // Those of `r`, where `i` may wait so.
-fn run_of(set: &TaskSet, i: TaskId, x: TaskId, r: ResourceId, bounds: &[u64]) -> u64
+fn run_of(
+    set: &TaskSet,
+    i: TaskId,
+    x: TaskId,
+    r: ResourceId,
+    shared: &[bool],
+    bounds: &[u64],
+) -> u64
     requires task { i.0 < length set.now.tasks }
     requires runner { x.0 < length set.now.tasks }
     requires resource { r.0 < length set.now.resources }
+    requires shared { AreSharedOut set.now i.0 shared.now }
     requires within { AreWithinDeadlines set.now bounds.now }
     ensures value { result ≡ only_if (is_held_there set.now i.0 x.0 r.0) (runs_there set.now (slice_index bounds.now) i.0 x.0 r.0) }
     ensures most { result ≤ 128000000002000 }
 {
-    if is_held_there(set, i, x, r) {
+    if is_held_there(set, i, x, r, shared) {
         runs_there(set, i, x, r, bounds)
     } else {
         0
@@ -238,9 +246,16 @@ fn run_of(set: &TaskSet, i: TaskId, x: TaskId, r: ResourceId, bounds: &[u64]) ->
 
 /// How many requests of `x` can run while a job of `i` waits for what a task of `x`'s processor holds? One for each request of `i`, and one
 /// more for each time that what it requests is held away from there.
-pub(crate) fn run_beside_away_holdings(set: &TaskSet, i: TaskId, x: TaskId, bounds: &[u64]) -> u64
+pub(crate) fn run_beside_away_holdings(
+    set: &TaskSet,
+    i: TaskId,
+    x: TaskId,
+    shared: &[bool],
+    bounds: &[u64],
+) -> u64
     requires task { i.0 < length set.now.tasks }
     requires runner { x.0 < length set.now.tasks }
+    requires shared { AreSharedOut set.now i.0 shared.now }
     requires within { AreWithinDeadlines set.now bounds.now }
     ensures { result ≡ (away_row set.now i.0 x.0).limit (slice_index bounds.now) }
 {
@@ -249,7 +264,7 @@ pub(crate) fn run_beside_away_holdings(set: &TaskSet, i: TaskId, x: TaskId, boun
     let used = set.used_by(i);
     let mut total = 0;
     for r in used {
-        total += run_of(set, i, x, *r, bounds);
+        total += run_of(set, i, x, *r, shared, bounds);
     }
     total
 }

@@ -2,7 +2,9 @@
 #![tactic(auto)]
 
 mod ceilings;
+mod first_ticks;
 mod holdings;
+mod keeping;
 mod laws;
 mod lower_holders;
 mod places;
@@ -10,7 +12,6 @@ mod programs;
 mod protocol;
 mod rows;
 mod searching;
-mod tables;
 mod ticks;
 mod wait_rows;
 mod waits;

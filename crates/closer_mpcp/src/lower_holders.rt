@@ -3,9 +3,8 @@
 ghost use Rattle.std.specs.Prelude.{◌≡◌, ◌<◌, ◌≤◌, length};
 ghost use Rattle.number_laws.specs.Sums.{only_if};
 ghost use Rattle.mpcp_window_laws.specs.MpcpWindows.{may_run_instead, holding_ticks, may_hold_before, longest_lower_holding};
-ghost use Rattle.closer_mpcp.specs.Tables.{AreTaskTicks};
 
-use crate::tables::TaskTicks;
+use crate::first_ticks::first_ticks;
 use fragments::{share_processor, uses};
 use sporadic_model::{ResourceId, TaskId, TaskSet};
 
@@ -19,17 +18,16 @@ pub(crate) fn may_run_instead(set: &TaskSet, i: TaskId, y: TaskId, x: TaskId) ->
 }
 
 // For how many ticks may `y` hold `q` while `i` waits?
-fn holding_ticks(set: &TaskSet, i: TaskId, q: ResourceId, y: TaskId, table: &[TaskTicks]) -> u64
+fn holding_ticks(set: &TaskSet, i: TaskId, q: ResourceId, y: TaskId) -> u64
     requires resource { q.0 < length set.now.resources }
     requires holder { y.0 < length set.now.tasks }
-    requires table { AreTaskTicks set.now q.0 table.now }
     ensures value { result ≡ holding_ticks set.now i.0 q.0 y.0 }
     ensures most { result ≤ 65000000000 }
 {
     let mut total = set.length(y, q);
     for x in 0..set.tasks() {
         if may_run_instead(set, i, y, TaskId(x)) {
-            total += table[x as usize].longest;
+            total += first_ticks(set, TaskId(x), q).longest;
         }
     }
     total
@@ -46,37 +44,31 @@ fn may_hold_before(set: &TaskSet, i: TaskId, q: ResourceId, y: TaskId) -> bool
 }
 
 // For how many ticks may it hold `q` then?
-fn lower_holding(set: &TaskSet, i: TaskId, q: ResourceId, y: TaskId, table: &[TaskTicks]) -> u64
+fn lower_holding(set: &TaskSet, i: TaskId, q: ResourceId, y: TaskId) -> u64
     requires task { i.0 < length set.now.tasks }
     requires resource { q.0 < length set.now.resources }
     requires holder { y.0 < length set.now.tasks }
-    requires table { AreTaskTicks set.now q.0 table.now }
     ensures value { result ≡ only_if (may_hold_before set.now i.0 q.0 y.0) (holding_ticks set.now i.0 q.0 y.0) }
     ensures most { result ≤ 65000000000 }
 {
     if may_hold_before(set, i, q, y) {
-        holding_ticks(set, i, q, y, table)
+        holding_ticks(set, i, q, y)
     } else {
         0
     }
 }
 
 /// For how many ticks may the longest such holding last?
-pub(crate) fn longest_lower_holding(
-    set: &TaskSet,
-    i: TaskId,
-    q: ResourceId,
-    table: &[TaskTicks],
-) -> u64
+pub(crate) fn longest_lower_holding(set: &TaskSet, i: TaskId, q: ResourceId) -> u64
     requires task { i.0 < length set.now.tasks }
     requires resource { q.0 < length set.now.resources }
-    requires table { AreTaskTicks set.now q.0 table.now }
     ensures value { result ≡ longest_lower_holding set.now i.0 q.0 }
     ensures most { result ≤ 65000000000 }
 {
+    let users = set.users(q);
     let mut longest = 0;
-    for y in 0..set.tasks() {
-        longest = lower_holding(set, i, q, TaskId(y), table).max(longest);
+    for y in users {
+        longest = lower_holding(set, i, q, *y).max(longest);
     }
     longest
 }

@@ -5,9 +5,12 @@ ghost use Rattle.mpcp_window_laws.specs.WaitRows.{mpcp_closer_source};
 ghost use Rattle.mpcp_window_laws.proofs.Points.{mpcp_closer_point};
 ghost use Rattle.mpcp_window_laws.proofs.Programs.{mpcp_closer_covered, mpcp_closer_rises};
 
+use crate::keeping::keeps_windows;
 use crate::programs::CloserMpcpRows;
 use further_rows::{Closer, FurtherRows};
 use mpcp_rules::Mpcp;
+use protocol_programs::keeps_jobs;
+use sporadic_model::{TaskId, TaskSet};
 
 /// The multiprocessor priority ceiling protocol, with the closer analysis.
 pub type CloserMpcp = Closer<Mpcp, CloserMpcpRows>;
@@ -20,6 +23,14 @@ pub const CLOSER_MPCP: CloserMpcp = Closer {
 
 impl FurtherRows<Mpcp> for CloserMpcpRows {
     ghost source = { λ r. mpcp_closer_source };
+
+    fn keeps_limits(&self, set: &TaskSet, i: TaskId, earlier: &[u64], bounds: &[u64]) -> bool {
+        // windows cost more to compare
+        if !keeps_jobs(set, i, earlier, bounds) {
+            return false;
+        }
+        keeps_windows(set, i, earlier, bounds)
+    }
 
     ghost served = { λ r p set suits. suits };
 

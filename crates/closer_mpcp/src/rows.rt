@@ -1,6 +1,7 @@
 //! The closer rows.
 
-ghost use Rattle.std.specs.Prelude.{◌≡◌, ◌<◌, ◌+◌, ◌==◌, ◌&&◌, [], ◌∷◌, ◌++◌, map, length, slice_index, OnOk, if◌then◌else◌};
+ghost use Rattle.std.specs.Prelude.{◌≡◌, ◌<◌, ◌≤◌, ◌+◌, ◌==◌, ◌&&◌, not, false, [], ◌∷◌, ◌++◌, map, length, slice_index, OnOk, if◌then◌else◌};
+ghost use Rattle.std.specs.List.{AllWithin};
 ghost use Rattle.std.proofs.Common.{ap};
 ghost use Rattle.number_laws.specs.Sums.{flag};
 ghost use Rattle.program_sources.specs.Bounds.{AreWithinDeadlines};
@@ -14,6 +15,7 @@ ghost use Rattle.closer_laws.specs.CloserRows.{is_shared_out, requests_where, lo
 ghost use Rattle.closer_mpcp_laws.specs.CloserMpcpRows.{shared_holding_row, resource_holding_row, away_row};
 ghost use Rattle.closer_mpcp_laws.specs.CloserMpcpRows.{shared_interval_row, lower_wait_row, further_rows};
 ghost use Rattle.mpcp_window_laws.specs.WaitRows.{held_in_waits, wait_rows};
+ghost use Rattle.shared_requests.specs.Held.{AreSharedOut};
 ghost use Rattle.closer_mpcp.specs.Windows.{AreWaitWindows};
 
 use crate::holdings::{run_beside_away_holdings, shared_holdings};
@@ -22,32 +24,78 @@ use crate::windows::wait_windows;
 use fragments::{
     Constraint, EachTask, Fragment, PerRequest, PerTask, RowKind, RowTaker, TaskPlace, TaskRow,
     add_per_lower_task, add_per_request_at, add_per_task, add_row, add_row_limited,
-    add_row_of_task, add_row_within, lower_local,
+    add_row_of_task, lower_local,
 };
 use shared_requests::{LocalPreemptionRow, requests_shared_out, shared_out};
 use sporadic_model::{ResourceId, TaskId, TaskSet};
 use std::alloc::{AllocError, Global};
 
+// Is some column of the stretch one of indirect blocking?
+fn has_indirect(columns: &[Fragment], stretch: (usize, usize)) -> bool
+    requires { stretch.1 ≤ length columns.now }
+    ensures { result ≡ false → AllWithin (λ c. is_class Indirect (column_seen c).class ≡ false) columns.now stretch.0 stretch.1 }
+{
+    let (from, to) = stretch;
+    for place in from..to {
+        if columns[place].class.is_indirect() {
+            return true;
+        }
+    }
+    false
+}
+
 /// Of a task: in each holding of another task on its processor that is shared out, before which it may run a request, it runs at most one.
 /// Higher tasks hold within the windows of the analysed task's waits.
 #[derive(Drop)]
-struct SharedHoldingRow<'a> {
+struct SharedHoldingRow {
+    task: TaskId,
+}
+
+impl RowKind for SharedHoldingRow {
+    ghost row_of = { λ k set i. shared_holding_row set (held_in_waits set i) i k.task.0 };
+
+    ghost fits = { λ k set. k.task.0 < length set.tasks };
+
+    ghost over = { λ k set i c. c.task ≡ k.task.0 };
+
+    fn coefficient(&self, _set: &TaskSet, _i: TaskId, column: Fragment) -> u64 {
+        if column.class.is_indirect() { 1 } else { 0 }
+    }
+}
+
+/// The rows of shared holdings of each task, with what is shared out, and the windows of the analysed task's requests.
+#[derive(Drop)]
+struct SharedHoldingRows<'a> {
+    shared: &'a [bool],
     windows: &'a [Option<u64>],
 }
 
-impl<'a> TaskRow for SharedHoldingRow<'a> {
-    ghost row_of = { λ k set i. shared_holding_row set (held_in_waits set i) i };
+impl<'a> PerTask for SharedHoldingRows<'a> {
+    ghost rows_of = { λ k set i x. shared_holding_row set (held_in_waits set i) i x ∷ [] };
 
-    ghost fits = { λ k set i bounds. AreWaitWindows set (slice_index bounds) i k.windows.now };
+    ghost fits = { λ k set i bounds. AreSharedOut set i k.shared.now × AreWaitWindows set (slice_index bounds) i k.windows.now };
 
-    ghost alone = { λ k set i x c other. ap (λ b. flag (b && is_class Indirect c.class)) other };
-
-    fn coefficient(&self, _set: &TaskSet, _i: TaskId, _x: TaskId, column: Fragment) -> u64 {
-        if column.class.is_indirect() { 1 } else { 0 }
-    }
-
-    fn limit(&self, set: &TaskSet, i: TaskId, x: TaskId, _jobs: u64, bounds: &[u64]) -> u64 {
-        shared_holdings(set, i, x, None, bounds, self.windows)
+    fn add<T: RowTaker>(
+        &self,
+        alloc: Global,
+        taker: &mut T,
+        set: &TaskSet,
+        i: TaskId,
+        x: TaskId,
+        _jobs: u64,
+        bounds: &[u64],
+        columns: &[Fragment],
+        stretch: (usize, usize),
+    ) -> Result<(), AllocError> {
+        // a set has at most 32 resources, so the slots of a task end before those of the next one
+        let _resources = set.resources();
+        // a row without columns needs no limit
+        if !has_indirect(columns, stretch) {
+            return Ok(());
+        }
+        let row = SharedHoldingRow { task: x };
+        let most = shared_holdings(set, i, x, None, self.shared, bounds, self.windows);
+        add_row_limited(alloc, taker, &row, set, i, bounds, columns, stretch, most)
     }
 }
 
@@ -70,9 +118,10 @@ impl RowKind for ResourceHoldingRow {
     }
 }
 
-/// The rows of holdings by resource, of each task and each resource, with these windows too.
+/// The rows of holdings by resource, of each task and each resource, with the same.
 #[derive(Drop)]
 struct ResourceHoldingRows<'a> {
+    shared: &'a [bool],
     windows: &'a [Option<u64>],
 }
 
@@ -83,7 +132,7 @@ impl<'a> PerRequest for ResourceHoldingRows<'a> {
 
     ghost apart = { λ k set i x q c other. rw other refl };
 
-    ghost fits = { λ k set i bounds. AreWaitWindows set (slice_index bounds) i k.windows.now };
+    ghost fits = { λ k set i bounds. AreSharedOut set i k.shared.now × AreWaitWindows set (slice_index bounds) i k.windows.now };
 
     fn add<T: RowTaker>(
         &self,
@@ -100,11 +149,15 @@ impl<'a> PerRequest for ResourceHoldingRows<'a> {
     ) -> Result<(), AllocError> {
         // a set has at most 32 resources, so the slots of a task end before those of the next one
         let _resources = set.resources();
+        // a row without columns needs no limit
+        if !has_indirect(columns, stretch) {
+            return Ok(());
+        }
         let row = ResourceHoldingRow {
             task: x,
             resource: q,
         };
-        let most = shared_holdings(set, i, x, Some(q), bounds, self.windows);
+        let most = shared_holdings(set, i, x, Some(q), self.shared, bounds, self.windows);
         add_row_limited(alloc, taker, &row, set, i, bounds, columns, stretch, most)
     }
 }
@@ -112,53 +165,24 @@ impl<'a> PerRequest for ResourceHoldingRows<'a> {
 /// Of a task: while the analysed task waits for a request that is held on the task's processor, it runs at most one request, and one more for
 /// each time that it is held away from there before.
 #[derive(Drop)]
-struct AwayRow {
-    task: TaskId,
+struct AwayRow<'a> {
+    /// By resource, whether it is shared out from the analysed task's processor.
+    shared: &'a [bool],
 }
 
-impl RowKind for AwayRow {
-    ghost row_of = { λ k set i. away_row set i k.task.0 };
+impl<'a> TaskRow for AwayRow<'a> {
+    ghost row_of = { λ k. away_row };
 
-    ghost fits = { λ k set. k.task.0 < length set.tasks };
+    ghost fits = { λ k set i bounds. AreSharedOut set i k.shared.now };
 
-    ghost over = { λ k set i c. c.task ≡ k.task.0 };
+    ghost alone = { λ k set i x c other. ap (λ b. flag (b && not (is_class Preemption c.class))) other };
 
-    fn coefficient(&self, _set: &TaskSet, _i: TaskId, column: Fragment) -> u64 {
+    fn coefficient(&self, _set: &TaskSet, _i: TaskId, _x: TaskId, column: Fragment) -> u64 {
         if column.class.is_preemption() { 0 } else { 1 }
     }
-}
 
-impl Constraint for AwayRow {
-    fn limit(&self, set: &TaskSet, i: TaskId, bounds: &[u64]) -> u64 {
-        run_beside_away_holdings(set, i, self.task, bounds)
-    }
-}
-
-/// The rows of away holdings of each task, whose limits are counted in the same way.
-#[derive(Drop)]
-struct AwayRows;
-
-impl PerTask for AwayRows {
-    ghost rows_of = { λ k set i x. away_row set i x ∷ [] };
-
-    ghost fits = { λ k set i bounds. Unit {0} };
-
-    fn add<T: RowTaker>(
-        &self,
-        alloc: Global,
-        taker: &mut T,
-        set: &TaskSet,
-        i: TaskId,
-        x: TaskId,
-        _jobs: u64,
-        bounds: &[u64],
-        columns: &[Fragment],
-        stretch: (usize, usize),
-    ) -> Result<(), AllocError> {
-        // a set has at most 32 resources, so the slots of a task end before those of the next one
-        let _resources = set.resources();
-        let row = AwayRow { task: x };
-        add_row_within(alloc, taker, &row, set, i, bounds, columns, stretch)
+    fn limit(&self, set: &TaskSet, i: TaskId, x: TaskId, _jobs: u64, bounds: &[u64]) -> u64 {
+        run_beside_away_holdings(set, i, x, self.shared, bounds)
     }
 }
 
@@ -251,6 +275,7 @@ fn add_holding_rows<T: RowTaker>(
     bounds: &[u64],
     columns: &[Fragment],
     places: &[TaskPlace],
+    shared: &[bool],
     windows: &[Option<u64>],
 ) -> Result<(), AllocError>
     requires task { i.0 < length set.now.tasks }
@@ -258,15 +283,16 @@ fn add_holding_rows<T: RowTaker>(
     requires known { AreKnown (length set.now.tasks) (length set.now.resources) columns.now }
     requires order { AreInOrder columns.now }
     requires places { ArePlaces set.now (slice_index bounds.now) i.0 (length set.now.tasks) columns.now places.now }
+    requires shared { AreSharedOut set.now i.0 shared.now }
     requires windows { AreWaitWindows set.now (slice_index bounds.now) i.0 windows.now }
     ensures { OnOk result (T.takes taker.old (map column_seen columns.now)
         (per (length set.now.tasks) (shared_holding_row set.now (held_in_waits set.now i.0) i.0)
         ++ per_pair (length set.now.tasks) (length set.now.resources) (resource_holding_row set.now (held_in_waits set.now i.0) i.0))
         bounds.now taker.new) }
 {
-    let of_tasks = EachTask(SharedHoldingRow { windows });
+    let of_tasks = SharedHoldingRows { shared, windows };
     add_per_task(alloc, taker, &of_tasks, set, i, bounds, columns, places)?;
-    let of_requests = ResourceHoldingRows { windows };
+    let of_requests = ResourceHoldingRows { shared, windows };
     let tasks = set.tasks();
     add_per_request_at(
         alloc,
@@ -361,8 +387,11 @@ fn add_further_rows<T: RowTaker>(
 {
     let shared = shared_out(alloc, set, i)?;
     let intervals = 1 + requests_shared_out(set, i, &shared);
-    add_holding_rows(alloc, taker, set, i, bounds, columns, places, windows)?;
-    add_per_task(alloc, taker, &AwayRows, set, i, bounds, columns, places)?;
+    add_holding_rows(
+        alloc, taker, set, i, bounds, columns, places, &shared, windows,
+    )?;
+    let of_away = EachTask(AwayRow { shared: &shared });
+    add_per_task(alloc, taker, &of_away, set, i, bounds, columns, places)?;
     add_interval_rows(alloc, taker, set, i, bounds, columns, places, intervals)?;
     add_single_rows(alloc, taker, set, i, bounds, columns, intervals)?;
     Ok(())

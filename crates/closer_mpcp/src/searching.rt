@@ -6,7 +6,6 @@ ghost use Rattle.program_sources.specs.Bounds.{AreWithinDeadlines};
 ghost use Rattle.mpcp_window_laws.specs.MpcpWindows.{wait_window};
 
 use crate::lower_holders::longest_lower_holding;
-use crate::tables::ticks_of_tasks;
 use crate::ticks::ticks_held;
 use sporadic_model::{ResourceId, TaskId, TaskSet};
 
@@ -22,11 +21,10 @@ pub(crate) fn wait_window(set: &TaskSet, i: TaskId, q: ResourceId, bounds: &[u64
     ensures within { IfSome result (λ w. (1 ≤ w) × (w ≤ (task_at set.now i.0).deadline)) }
 {
     let deadline = set.deadline(i);
-    let table = ticks_of_tasks(set, q);
-    let lower = longest_lower_holding(set, i, q, &table);
+    let lower = longest_lower_holding(set, i, q);
     let mut span = 1u64;
     while span <= deadline {
-        let held = ticks_held(set, i, q, bounds, &table, lower, span);
+        let held = ticks_held(set, i, q, bounds, lower, span);
         if held <= u128::from(span) {
             return Some(span);
         }

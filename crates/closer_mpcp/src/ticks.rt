@@ -6,10 +6,9 @@ ghost use Rattle.program_sources.specs.Bounds.{AreWithinDeadlines};
 ghost use Rattle.blocking_columns.specs.Windows.{jobs_during, requests_during};
 ghost use Rattle.mpcp_window_laws.specs.MpcpWindows.{may_run_instead, own_ticks, holdings_beside, ticks_instead};
 ghost use Rattle.mpcp_window_laws.specs.MpcpWindows.{longest_lower_holding, ticks_held};
-ghost use Rattle.closer_mpcp.specs.Tables.{IsTaskTicks, AreTaskTicks};
 
+use crate::first_ticks::first_ticks;
 use crate::lower_holders::may_run_instead;
-use crate::tables::TaskTicks;
 use sporadic_model::{ResourceId, TaskId, TaskSet, jobs_in};
 
 /// How many jobs of `x` can run in a span of ticks?
@@ -35,33 +34,48 @@ fn ticks_of_jobs(set: &TaskSet, bounds: &[u64], span: u64, x: TaskId, time: u64)
     ensures value { result ≡ jobs_during set.now (slice_index bounds.now) span x.0 * time }
     ensures most { result ≤ 64000000000000000000000 }
 {
-    // most tasks don't use the resource
-    if time == 0 {
-        return 0;
-    }
     u128::from(jobs_during(set, bounds, span, x)) * u128::from(time)
 }
 
-// For how many ticks may requests of `q` by tasks higher than `i` run?
-fn own_ticks(
+// For how many ticks may requests of `q` by `x` run, if it is higher than `i`?
+fn own_ticks_of(
     set: &TaskSet,
     i: TaskId,
     q: ResourceId,
     bounds: &[u64],
-    table: &[TaskTicks],
     span: u64,
+    x: TaskId,
 ) -> u128
-    requires task { i.0 < length set.now.tasks }
+    requires resource { q.0 < length set.now.resources }
+    requires other { x.0 < length set.now.tasks }
     requires within { AreWithinDeadlines set.now bounds.now }
-    requires table { AreTaskTicks set.now q.0 table.now }
+    requires span { span ≤ 1000000000 }
+    ensures value { result ≡ only_if (nat_lt x.0 i.0) (own_ticks set.now (slice_index bounds.now) q.0 span x.0) }
+    ensures most { result ≤ 64000000000000000000000 }
+{
+    if x < i {
+        let time = set.count(x, q) * set.length(x, q);
+        ticks_of_jobs(set, bounds, span, x, time)
+    } else {
+        0
+    }
+}
+
+// For how many ticks may requests of `q` by tasks higher than `i` run?
+fn own_ticks(set: &TaskSet, i: TaskId, q: ResourceId, bounds: &[u64], span: u64) -> u128
+    requires task { i.0 < length set.now.tasks }
+    requires resource { q.0 < length set.now.resources }
+    requires within { AreWithinDeadlines set.now bounds.now }
     requires span { span ≤ 1000000000 }
     ensures value { result ≡ sum_below i.0 (own_ticks set.now (slice_index bounds.now) q.0 span) }
-    ensures most { result ≤ i.0 * 64000000000000000000000 }
+    ensures most { result ≤ 4096000000000000000000000 }
 {
+    // a set has at most 64 tasks, so the sum fits
+    let _tasks = set.tasks();
+    let users = set.users(q);
     let mut total = 0u128;
-    for x in 0..i.0 {
-        let own = table[x as usize].own;
-        total += ticks_of_jobs(set, bounds, span, TaskId(x), own);
+    for x in users {
+        total += own_ticks_of(set, i, q, bounds, span, *x);
     }
     total
 }
@@ -119,78 +133,38 @@ fn holdings_beside(
     total
 }
 
-// For how many ticks may `x` run instead, if it runs its longest request in each of these holdings?
-fn ticks_beside(
-    set: &TaskSet,
-    i: TaskId,
-    q: ResourceId,
-    bounds: &[u64],
-    span: u64,
-    x: TaskId,
-    longest: u64,
-) -> u128
+// For how many ticks may `x` run instead? It runs one request in each of these holdings, and no more than its jobs make.
+fn ticks_by(set: &TaskSet, i: TaskId, q: ResourceId, bounds: &[u64], span: u64, x: TaskId) -> u128
     requires task { i.0 < length set.now.tasks }
     requires resource { q.0 < length set.now.resources }
     requires runner { x.0 < length set.now.tasks }
     requires within { AreWithinDeadlines set.now bounds.now }
     requires span { span ≤ 1000000000 }
-    requires longest { longest ≤ 1000000000 }
-    ensures { result ≡ holdings_beside set.now (slice_index bounds.now) i.0 q.0 span x.0 * longest }
-{
-    // for most tasks and resources no request goes first
-    if longest == 0 {
-        return 0;
-    }
-    u128::from(holdings_beside(set, i, q, bounds, span, x)) * u128::from(longest)
-}
-
-// For how many ticks may `x` run instead? It runs no more than its jobs make.
-fn ticks_by(
-    set: &TaskSet,
-    i: TaskId,
-    q: ResourceId,
-    bounds: &[u64],
-    span: u64,
-    x: TaskId,
-    ticks: TaskTicks,
-) -> u128
-    requires task { i.0 < length set.now.tasks }
-    requires resource { q.0 < length set.now.resources }
-    requires runner { x.0 < length set.now.tasks }
-    requires within { AreWithinDeadlines set.now bounds.now }
-    requires span { span ≤ 1000000000 }
-    requires ticks { IsTaskTicks set.now q.0 x.0 ticks }
     ensures value { result ≡ ticks_instead set.now (slice_index bounds.now) i.0 q.0 span x.0 }
     ensures most { result ≤ 64000000000000000000000 }
 {
-    let beside = ticks_beside(set, i, q, bounds, span, x, ticks.longest);
-    // most tasks have no such holder beside them
+    let beside = holdings_beside(set, i, q, bounds, span, x);
+    // beside most tasks no higher one holds it
     if beside == 0 {
         return 0;
     }
-    beside.min(ticks_of_jobs(set, bounds, span, x, ticks.first))
+    let first = first_ticks(set, x, q);
+    let instead = u128::from(beside) * u128::from(first.longest);
+    instead.min(ticks_of_jobs(set, bounds, span, x, first.all))
 }
 
 // For how many ticks may all tasks run instead of the holders?
-fn ticks_instead(
-    set: &TaskSet,
-    i: TaskId,
-    q: ResourceId,
-    bounds: &[u64],
-    table: &[TaskTicks],
-    span: u64,
-) -> u128
+fn ticks_instead(set: &TaskSet, i: TaskId, q: ResourceId, bounds: &[u64], span: u64) -> u128
     requires task { i.0 < length set.now.tasks }
     requires resource { q.0 < length set.now.resources }
     requires within { AreWithinDeadlines set.now bounds.now }
-    requires table { AreTaskTicks set.now q.0 table.now }
     requires span { span ≤ 1000000000 }
     ensures value { result ≡ sum_below (length set.now.tasks) (ticks_instead set.now (slice_index bounds.now) i.0 q.0 span) }
     ensures most { result ≤ 4096000000000000000000000 }
 {
     let mut total = 0u128;
     for x in 0..set.tasks() {
-        total += ticks_by(set, i, q, bounds, span, TaskId(x), table[x as usize]);
+        total += ticks_by(set, i, q, bounds, span, TaskId(x));
     }
     total
 }
@@ -201,21 +175,19 @@ pub(crate) fn ticks_held(
     i: TaskId,
     q: ResourceId,
     bounds: &[u64],
-    table: &[TaskTicks],
     lower: u64,
     span: u64,
 ) -> u128
     requires task { i.0 < length set.now.tasks }
     requires resource { q.0 < length set.now.resources }
     requires within { AreWithinDeadlines set.now bounds.now }
-    requires table { AreTaskTicks set.now q.0 table.now }
     requires lower { lower ≡ longest_lower_holding set.now i.0 q.0 }
     requires span { span ≤ 1000000000 }
     ensures { result ≡ ticks_held set.now (slice_index bounds.now) i.0 q.0 span }
 {
     // a set has at most 64 tasks, so the sum fits
     let _tasks = set.tasks();
-    let own = own_ticks(set, i, q, bounds, table, span);
-    let instead = ticks_instead(set, i, q, bounds, table, span);
+    let own = own_ticks(set, i, q, bounds, span);
+    let instead = ticks_instead(set, i, q, bounds, span);
     u128::from(lower) + (own + instead)
 }

@@ -1,8 +1,25 @@
-use Rattle.std.proofs.Common.{length, refl, arith}
+use Rattle.std.proofs.Common.{◌&&◌, ◌==◌, length, map, refl, arith}
+use Rattle.blocking_columns.specs.ColumnDef.{column_seen}
+use Rattle.fragments.specs.RowStretch.{IsStretch}
 use Rattle.fragments.proofs.RowStretches.{stretch_of_requests, columns_of_requests}
 use Rattle.closer_mpcp_laws.specs.CloserMpcpRows.{resource_holding_row}
 use Rattle.mpcp_window_laws.specs.WaitRows.{held_in_waits}
+use Rattle.closer_mpcp.proofs.NoIndirect.{none_indirect}
 use Rattle.closer_mpcp.proofs.rows.ResourceHoldingRowsPerRequest.add.Goals as goal
+
+pub returns-then-not-has_indirect : goal.returns-then-not-has_indirect
+returns-then-not-has_indirect g c =
+    let set = c.args.set.now in
+    let i = c.args.i.0 in
+    let x = c.args.x.0 in
+    let q = c.args.q.0 in
+    let cs = c.args.columns.now in
+    let row = resource_holding_row set (held_in_waits set i) i x q in
+    let stretch : IsStretch row cs c.args.stretch.0 c.args.stretch.1 = stretch_of_requests x q cs row c.args.stretch.0 c.args.stretch.1
+    c.requires.stretch.from c.requires.stretch.to c.requires.stretch.order (λ column other. rw other refl) in
+    g.met.T.RowTaker.missing c.args.taker.now (map column_seen cs) row c.args.bounds.now
+    (none_indirect (λ column. (column.task == x) && (column.resource == q)) row.limit cs c.args.stretch.0 c.args.stretch.1 stretch
+    (c.has_indirect.ensures c.if-not-has_indirect.true))
 
 pub add_row_limited-requires-clause-stretch : goal.add_row_limited-requires-clause-stretch
 add_row_limited-requires-clause-stretch g c =

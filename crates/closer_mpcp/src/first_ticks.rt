@@ -1,11 +1,10 @@
-//! What a search for a window knows of each task. None of it depends on the bounds, or on how long a job waits.
+//! How long the requests of a task last that go first. That doesn't depend on the bounds, or on how long a job waits.
 
 ghost use Rattle.std.specs.Prelude.{◌≡◌, ◌*◌, ◌<◌, ◌≤◌, length};
 ghost use Rattle.number_laws.specs.Sums.{only_if};
 ghost use Rattle.sporadic_model.specs.Users.{count_of, length_of};
 ghost use Rattle.closer_mpcp_laws.specs.CloserMpcpRows.{goes_first};
 ghost use Rattle.mpcp_window_laws.specs.MpcpWindows.{longest_first, time_first};
-ghost use Rattle.closer_mpcp.specs.Tables.{IsTaskTicks, AreTaskTicks};
 
 use crate::ceilings::goes_first;
 use sporadic_model::{ResourceId, TaskId, TaskSet};
@@ -13,22 +12,11 @@ use sporadic_model::{ResourceId, TaskId, TaskSet};
 /// How long requests of a task that go first last, in ticks. They go first while another task of its processor holds the resource that is
 /// waited for.
 #[derive(Clone, Copy, Drop)]
-struct FirstTicks {
+pub(crate) struct FirstTicks {
     /// The longest one.
-    longest: u64,
-    /// All that one job makes.
-    all: u64,
-}
-
-/// How long requests of a task last, in ticks, while a job waits for a resource.
-#[derive(Clone, Copy, Drop)]
-pub(crate) struct TaskTicks {
-    /// All requests of that resource by one job.
-    pub(crate) own: u64,
-    /// The longest request that goes first while another task of its processor holds that resource.
     pub(crate) longest: u64,
-    /// All requests that go first, by one job.
-    pub(crate) first: u64,
+    /// All that one job makes.
+    pub(crate) all: u64,
 }
 
 // The requests of `r` by `x`, if they go first while another task of `x`'s processor holds `q`.
@@ -41,9 +29,8 @@ fn first_of_resource(set: &TaskSet, x: TaskId, q: ResourceId, r: ResourceId) -> 
     ensures longest_to { result.longest ≤ 1000000000 }
     ensures all_to { result.all ≤ 1000000000000 }
 {
-    let length = set.length(x, r);
-    // `x` uses few resources
-    if length > 0 && goes_first(set, x, r, q) {
+    if goes_first(set, x, r, q) {
+        let length = set.length(x, r);
         FirstTicks {
             longest: length,
             all: set.count(x, r) * length,
@@ -53,8 +40,8 @@ fn first_of_resource(set: &TaskSet, x: TaskId, q: ResourceId, r: ResourceId) -> 
     }
 }
 
-// The requests of all resources by `x` that go first.
-fn first_ticks(set: &TaskSet, x: TaskId, q: ResourceId) -> FirstTicks
+/// The requests of all resources by `x` that go first while another task of its processor holds `q`.
+pub(crate) fn first_ticks(set: &TaskSet, x: TaskId, q: ResourceId) -> FirstTicks
     requires task { x.0 < length set.now.tasks }
     requires held { q.0 < length set.now.resources }
     ensures longest { result.longest ≡ longest_first set.now x.0 q.0 }
@@ -62,43 +49,16 @@ fn first_ticks(set: &TaskSet, x: TaskId, q: ResourceId) -> FirstTicks
     ensures longest_to { result.longest ≤ 1000000000 }
     ensures all_to { result.all ≤ 32000000000000 }
 {
+    // a set has at most 32 resources, so the sum fits, and what isn't used has no length
+    let _resources = set.resources();
+    set.keeps_the_model();
+    let used = set.used_by(x);
     let mut longest = 0;
     let mut all = 0;
-    for r in 0..set.resources() {
-        let some = first_of_resource(set, x, q, ResourceId(r));
+    for r in used {
+        let some = first_of_resource(set, x, q, *r);
         longest = some.longest.max(longest);
         all += some.all;
     }
     FirstTicks { longest, all }
-}
-
-// What a search for a window of `q` knows of `x`.
-fn ticks_of_task(set: &TaskSet, x: TaskId, q: ResourceId) -> TaskTicks
-    requires task { x.0 < length set.now.tasks }
-    requires resource { q.0 < length set.now.resources }
-    ensures { IsTaskTicks set.now q.0 x.0 result }
-{
-    let first = first_ticks(set, x, q);
-    TaskTicks {
-        own: set.count(x, q) * set.length(x, q),
-        longest: first.longest,
-        first: first.all,
-    }
-}
-
-/// The same of each task.
-pub(crate) fn ticks_of_tasks(set: &TaskSet, q: ResourceId) -> [TaskTicks; 64]
-    requires { q.0 < length set.now.resources }
-    ensures { AreTaskTicks set.now q.0 result }
-{
-    // a set has at most 64 tasks
-    let mut table = [TaskTicks {
-        own: 0,
-        longest: 0,
-        first: 0,
-    }; 64];
-    for x in 0..set.tasks() {
-        table[x as usize] = ticks_of_task(set, TaskId(x), q);
-    }
-    table
 }

@@ -1,0 +1,74 @@
+//! Whether the windows of a task's requests are the same at other bounds.
+
+ghost use Rattle.std.specs.Prelude.{◌≡◌, ℕ, ◌<◌, ◌≤◌, true, length, slice_index, IsTrue};
+ghost use Rattle.sporadic_model.specs.Users.{is_user};
+ghost use Rattle.program_sources.specs.Bounds.{AreWithinDeadlines};
+ghost use Rattle.blocking_columns.specs.Windows.{jobs_during};
+ghost use Rattle.mpcp_window_laws.specs.KeptWindows.{KeepsWindow, KeepsWindows};
+
+use crate::searching::wait_window;
+use crate::ticks::jobs_during;
+use fragments::uses;
+use sporadic_model::{ResourceId, TaskId, TaskSet};
+
+// Can exactly as many jobs of each user of `q` run in this span at these bounds as at the earlier ones?
+fn keeps_jobs_of_users(
+    set: &TaskSet,
+    q: ResourceId,
+    span: u64,
+    earlier: &[u64],
+    bounds: &[u64],
+) -> bool
+    requires resource { q.0 < length set.now.resources }
+    requires span { span ≤ 1000000000 }
+    requires earlier { AreWithinDeadlines set.now earlier.now }
+    requires within { AreWithinDeadlines set.now bounds.now }
+    ensures { IsTrue result → (x : ℕ) → x < length set.now.tasks → is_user set.now q.0 x ≡ true
+        → jobs_during set.now (slice_index earlier.now) span x ≡ jobs_during set.now (slice_index bounds.now) span x }
+{
+    for x in 0..set.tasks() {
+        let task = TaskId(x);
+        if uses(set, task, q)
+            && jobs_during(set, earlier, span, task) != jobs_during(set, bounds, span, task)
+        {
+            return false;
+        }
+    }
+    true
+}
+
+// Has a request of `q` by `i` the same window at these bounds as at the earlier ones, and can as many jobs run in it?
+fn keeps_window(set: &TaskSet, i: TaskId, q: ResourceId, earlier: &[u64], bounds: &[u64]) -> bool
+    requires task { i.0 < length set.now.tasks }
+    requires resource { q.0 < length set.now.resources }
+    requires earlier { AreWithinDeadlines set.now earlier.now }
+    requires within { AreWithinDeadlines set.now bounds.now }
+    ensures { IsTrue result → KeepsWindow set.now (slice_index earlier.now) (slice_index bounds.now) i.0 q.0 }
+{
+    // no deadline is above the limits of every set
+    let _deadline = set.deadline(i);
+    let window = wait_window(set, i, q, bounds);
+    if wait_window(set, i, q, earlier) != window {
+        return false;
+    }
+    match window {
+        Some(span) => keeps_jobs_of_users(set, q, span, earlier, bounds),
+        None => true,
+    }
+}
+
+/// Is that so for each resource that `i` requests?
+pub(crate) fn keeps_windows(set: &TaskSet, i: TaskId, earlier: &[u64], bounds: &[u64]) -> bool
+    requires task { i.0 < length set.now.tasks }
+    requires earlier { AreWithinDeadlines set.now earlier.now }
+    requires within { AreWithinDeadlines set.now bounds.now }
+    ensures { IsTrue result → KeepsWindows set.now i.0 earlier.now bounds.now }
+{
+    for q in 0..set.resources() {
+        let resource = ResourceId(q);
+        if uses(set, i, resource) && !keeps_window(set, i, resource, earlier, bounds) {
+            return false;
+        }
+    }
+    true
+}
