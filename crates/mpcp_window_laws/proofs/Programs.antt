@@ -1,5 +1,5 @@
 -- The programs of the closer analysis of MPCP are programs, rise with the bounds, and have few rows.
-use Rattle.std.proofs.Common.{◌++◌, ℕ, ◌<◌, ◌≤◌, List, length, arith}
+use Rattle.std.proofs.Common.{◌++◌, ◌≡◌, ℕ, ◌<◌, ◌≤◌, List, length, arith}
 use Rattle.std.specs.List.{All, Contains}
 use Rattle.std.specs.Prelude.{slice_index}
 use Rattle.std.proofs.Math.Nat.{mul-le-mul_right}
@@ -23,22 +23,23 @@ use Rattle.blocking_columns.proofs.KnownColumns.{passing_known, columns_are_requ
 use Rattle.direct_constraints.specs.Rows.{request_row}
 use Rattle.indirect_constraints.specs.Rows.{is_beside}
 use Rattle.program_laws.specs.Programs.{rows_of}
-use Rattle.program_laws.specs.Written.{IsSmallRow, Rises, HasJobsAtMost}
+use Rattle.program_laws.specs.Written.{IsSmallRow, Rises, HasJobsAtMost, KeepsJobs}
 use Rattle.program_laws.proofs.Lists.{sum_at_most}
 use Rattle.program_laws.proofs.RowKinds.{each_row, all_per_pair}
-use Rattle.program_laws.proofs.RisingLimits.{jobs_rise, limits_rise}
+use Rattle.program_laws.proofs.RisingLimits.{jobs_rise, jobs_stay, limits_rise}
 use Rattle.program_laws.proofs.SmallNumbers.{rows_small, requests_small, flag_small}
 use Rattle.program_laws.proofs.CoveredColumns.{covered_by}
 use Rattle.program_laws.proofs.ListLengths.{Few, few, pair_at_most, rows_few}
 use Rattle.program_laws.proofs.FewRows.{first_rows_few, rows_at_most, turn_of}
 use Rattle.program_laws.proofs.PlacedRows.{there_behind, height_is}
-use Rattle.program_laws.proofs.GivenPrograms.{limits_at_most, is_program, written_where}
+use Rattle.program_laws.proofs.GivenPrograms.{limits_at_most, limits_stay, is_program, written_where}
 use Rattle.closer_laws.proofs.Programs.{request_among}
 use Rattle.closer_mpcp_laws.specs.CloserMpcpRows.{further_rows}
 use Rattle.closer_mpcp_laws.proofs.FurtherRows.{EachFurther, further_each, further_rise, further_small, further_few, further_there}
+use Rattle.mpcp_window_laws.specs.KeptWindows.{KeepsWindows}
 use Rattle.mpcp_window_laws.specs.WaitRows.{requests_in_waits, direct_wait_row, held_in_waits, wait_rows}
 use Rattle.mpcp_window_laws.specs.WaitRows.{mpcp_closer_rows, mpcp_closer_source, mpcp_closer_program}
-use Rattle.mpcp_window_laws.proofs.WaitLimits.{direct_wait_limit_rises, held_rises}
+use Rattle.mpcp_window_laws.proofs.WaitLimits.{waits_rise, waits_stay, held_at_most}
 
 -- The rows behind those of MPCP.
 abbrev behind : SetDef → ℕ → List ConstraintDef
@@ -53,19 +54,39 @@ mpcp_closer_each P set i rows further waits =
     (All-append P (further_rows set (held_in_waits set i) i) (wait_rows set i) (further_each P set (held_in_waits set i) i further)
     (all_per_pair P i (length set.resources) (direct_wait_row set i) waits))
 
--- No limit of these falls when bounds rise.
-rows_rise : (set : SetDef) (i : ℕ) (r s : List ℕ) → i < length set.tasks → AtMost (length set.tasks) r s
-    → All (Rises r s) (mpcp_closer_rows set i)
-rows_rise set i r s here most =
-    let jobs : HasJobsAtMost set i r s = jobs_rise set r s i here most in
-    mpcp_closer_each (Rises r s) set i (each_row (Rises r s) protocol.Mpcp set i (limits_rise protocol.Mpcp set i r s here jobs))
-    (further_rise set (held_in_waits set i) i r s here jobs (λ x q a b. held_rises set (slice_index r) (slice_index s) i x q here most))
-    (λ x q a b. direct_wait_limit_rises set (slice_index r) (slice_index s) i x q here (omega (arith, a, here)) most)
+-- Do no more requests run in each wait at the bounds r than at s?
+abbrev WaitsAtMost : SetDef → ℕ → List ℕ → List ℕ → Type 0
+WaitsAtMost set i r s = (x q : ℕ) → x < i → q < length set.resources
+    → requests_in_waits set (slice_index r) i q x q ≤ requests_in_waits set (slice_index s) i q x q
 
+-- Then no limit falls, where as many jobs can run or more.
+rows_rise : (set : SetDef) (i : ℕ) (r s : List ℕ) → i < length set.tasks → HasJobsAtMost set i r s → WaitsAtMost set i r s
+    → All (Rises r s) (mpcp_closer_rows set i)
+rows_rise set i r s here jobs waits =
+    mpcp_closer_each (Rises r s) set i (each_row (Rises r s) protocol.Mpcp set i (limits_rise protocol.Mpcp set i r s here jobs))
+    (further_rise set (held_in_waits set i) i r s here jobs
+    (λ x q a b. held_at_most set (slice_index r) (slice_index s) i x q (λ y l. waits y q l b)))
+    (λ x q a b. waits x q a b)
+
+-- So none falls when bounds rise.
 pub mpcp_closer_rises : (set : SetDef) (i : ℕ) (r s : List ℕ) → i < length set.tasks → AtMost (length set.tasks) r s
     → HasLimitsAtMost (mpcp_closer_program set i r) (mpcp_closer_program set i s)
 mpcp_closer_rises set i r s here most =
-    limits_at_most set (columns_of protocol.Mpcp set i) (mpcp_closer_rows set i) r s (rows_rise set i r s here most)
+    limits_at_most set (columns_of protocol.Mpcp set i) (mpcp_closer_rows set i) r s
+    (rows_rise set i r s here (jobs_rise set r s i here most)
+    (λ x q a b. waits_rise set (slice_index r) (slice_index s) i q x q here (omega (arith, a, here)) most))
+
+-- And all limits stay where as many jobs can run, and windows stay.
+pub mpcp_closer_follows : (set : SetDef) (i : ℕ) (r s : List ℕ) → i < length set.tasks → KeepsJobs set i r s → KeepsWindows set i r s
+    → (mpcp_closer_program set i r).limits ≡ (mpcp_closer_program set i s).limits
+mpcp_closer_follows set i r s here same windows =
+    let both = jobs_stay set r s i same in
+    let stay : (x q : ℕ) → x < i → q < length set.resources
+    → requests_in_waits set (slice_index r) i q x q ≡ requests_in_waits set (slice_index s) i q x q =
+    λ x q a b. waits_stay set (slice_index r) (slice_index s) i q x (omega (arith, a, here)) (same x (omega (arith, a, here))) (windows q b) in
+    limits_stay set (columns_of protocol.Mpcp set i) (mpcp_closer_rows set i) r s
+    (rows_rise set i r s here both.0 (λ x q a b. omega (arith, stay x q a b)))
+    (rows_rise set i s r here both.1 (λ x q a b. omega (arith, stay x q a b)))
 
 -- None of them is large.
 held_small : (set : SetDef) (i x q : ℕ) (r : List ℕ) → IsAccepted set → AreWithinDeadlines set r → i < length set.tasks

@@ -1,3 +1,4 @@
+pub mod KeptWindows
 pub mod MpcpWindows
 pub mod WaitRows
 pub mod Worked
