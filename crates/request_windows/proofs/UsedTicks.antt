@@ -1,9 +1,8 @@
 -- The requests of a task are of the resources that it uses: sums and greatest values over these.
-use Rattle.std.proofs.Common.{◌≡◌, ℕ, zero, suc, ◌*◌, ◌==◌, Bool, true, false, List, [], ◌∷◌, ◌++◌, map, length, max, refl, ap, ◌∙◌}
-use Rattle.std.proofs.Common.{arith, if◌then◌else◌}
+use Rattle.std.proofs.Common.{◌≡◌, ℕ, ◌*◌, ◌==◌, false, List, map, length, refl, ap, ◌∙◌, arith}
 use Rattle.std.specs.List.{flat_map, sum_by}
 use Rattle.std.proofs.lemmas.Bool.{ltb-false}
-use Rattle.number_laws.specs.Sums.{only_if, collect_below}
+use Rattle.number_laws.specs.Sums.{only_if}
 use Rattle.number_laws.proofs.OnlyIfLaws.{only_if-nothing}
 use Rattle.sporadic_model.specs.SetDef.{SetDef}
 use Rattle.sporadic_model.specs.Users.{count_of, length_of, is_user, used_by}
@@ -12,6 +11,7 @@ use Rattle.sporadic_model.specs.declared.ids.ResourceId.{ResourceId}
 use Rattle.schedule_model.specs.Measures.{greatest_below}
 use Rattle.blocking_columns.proofs.KeptNumbers.{sum_where_kept, collected_of_kept}
 use Rattle.window_laws.specs.Windows.{time_at, may_hold_up}
+use Rattle.window_laws.proofs.KeptGreatest.{greatest_of, some_if, greatest_collected}
 
 none_unused : (set : SetDef) (x q : ℕ) → is_user set q x ≡ false → count_of set x q ≡ 0
 none_unused set x q unused = omega (arith, ltb-false 0 (count_of set x q) unused)
@@ -23,33 +23,6 @@ used_time set x k qs same = sum_where_kept (λ (q : ResourceId). q.0) qs (λ q. 
     (λ q unused. let none : count_of set x q * length_of set x q ≡ 0 =
     ap (λ n. n * length_of set x q) (none_unused set x q unused) ∙ omega arith in
     ap (only_if (home_in set q == k)) none ∙ only_if-nothing (home_in set q == k))
-
--- The greatest of a list of numbers.
-abbrev pub greatest_of : List ℕ → ℕ
-greatest_of [] = 0
-greatest_of (v ∷ vs) = max v (greatest_of vs)
-
-greatest_of-append : (vs ws : List ℕ) → greatest_of (vs ++ ws) ≡ max (greatest_of vs) (greatest_of ws)
-greatest_of-append [] ws = omega arith
-greatest_of-append (v ∷ vs) ws =
-    let rest : greatest_of (vs ++ ws) ≡ max (greatest_of vs) (greatest_of ws) = greatest_of-append vs ws in
-    omega (arith, rest)
-
--- The value, if the test passes.
-abbrev pub some_if : Bool → ℕ → List ℕ
-some_if b n = if b then n ∷ [] else []
-
-greatest_some : (b : Bool) (n : ℕ) → greatest_of (some_if b n) ≡ only_if b n
-greatest_some true n = omega arith
-greatest_some false n = refl
-
-greatest_collected : (n : ℕ) (p : ℕ → Bool) (f : ℕ → ℕ)
-    → greatest_of (collect_below n (λ k. some_if (p k) (f k))) ≡ greatest_below n (λ k. only_if (p k) (f k))
-greatest_collected zero p f = refl
-greatest_collected (suc n) p f =
-    let first : greatest_of (collect_below n (λ k. some_if (p k) (f k))) ≡ greatest_below n (λ k. only_if (p k) (f k)) = greatest_collected n p f in
-    let last : greatest_of (some_if (p n) (f n)) ≡ only_if (p n) (f n) = greatest_some (p n) (f n) in
-    greatest_of-append (collect_below n (λ k. some_if (p k) (f k))) (some_if (p n) (f n)) ∙ omega (arith, first, last)
 
 -- How long the requests last of these resources by task x that may hold up a request of i on processor k.
 abbrev pub holding_up : SetDef → ℕ → ℕ → ℕ → List ResourceId → List ℕ

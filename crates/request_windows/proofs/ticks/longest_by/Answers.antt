@@ -1,6 +1,7 @@
 use Rattle.std.proofs.Common.{◌≡◌, max, arith}
 use Rattle.std.proofs.lemmas.List.{drop_all}
-use Rattle.request_windows.proofs.UsedTicks.{greatest_of, holding_up, longest_used}
+use Rattle.window_laws.proofs.KeptGreatest.{greatest_of}
+use Rattle.request_windows.proofs.UsedTicks.{holding_up, longest_used}
 use Rattle.request_windows.proofs.ticks.longest_by.Goals as goal
 
 pub returns-clause-value : goal.returns-clause-value

@@ -1,5 +1,6 @@
 use Rattle.std.proofs.Common.{◌≡◌, ◌≤◌, max, drop}
-use Rattle.request_windows.proofs.UsedTicks.{greatest_of, holding_up}
+use Rattle.window_laws.proofs.KeptGreatest.{greatest_of}
+use Rattle.request_windows.proofs.UsedTicks.{holding_up}
 use Rattle.request_windows.proofs.ticks.longest_by.Given as goal
 
 abbrev pub invariant-loop-q : goal.invariant-loop-q
