@@ -10,7 +10,9 @@ from typing import Iterator
 from block_script import TOP
 
 MOST_EDITS = 5
-# docs/DECISIONS.md names each crate with more edits in this paragraph, as "`low` has six".
+# docs/DECISIONS.md names each crate without edits in this section, with the reason.
+SECTION = "### Must-fail edits"
+# It names each crate with more edits in this paragraph of it, as "`low` has six".
 PARAGRAPH = "- **A crate has at most five edits**"
 MORE = {"six": 6, "seven": 7, "eight": 8, "nine": 9, "ten": 10}
 
@@ -22,9 +24,11 @@ FAULTY = {
     "crates/high/src/inner.rt": "use crate::beside::two;\n",
     "crates/high/proofs/Lib.antt": "use Rattle.kit_like.specs.Numbers.{one}\n-- Rattle.beside.specs.Numbers isn't used\n",
     "crates/fuller/specs/Lib.antt": "use Rattle.low.specs.Numbers.{one}\n",
-    "docs/DECISIONS.md": f"{PARAGRAPH}, so. So `low` and `beside` have one each. `fuller` has six, `high` has seven.\n",
+    "docs/DECISIONS.md": f"{SECTION}\n\n{PARAGRAPH}, so. So `low` has one. `fuller` has six, `high` has seven.\n- `low` has none.\n\n### `beside`\n",
 } | {f"crates/{name}/must-fail/{k}.edit": "" for name, edits in (("high", 1), ("full", 6), ("fuller", 6)) for k in range(edits)}
 SAID = [
+    "crates/beside: no must-fail edit, and docs/DECISIONS.md doesn't say why",
+    "crates/kit_like: no must-fail edit, and docs/DECISIONS.md doesn't say why",
     "crates.txt: high stands on beside, which no file of it names",
     "crates/high: 1 must-fail edits, and docs/DECISIONS.md says 7",
     "crates/full: 6 must-fail edits, and docs/DECISIONS.md says at most 5",
@@ -60,9 +64,17 @@ def more_edits(top: Path) -> dict[str, int]:
     return {crate: MORE[number] for crate, number in found if number in MORE}
 
 
-def edits_problem(top: Path, crate: str, more: dict[str, int]) -> str | None:
+def with_reasons(top: Path) -> set[str]:
+    """What docs/DECISIONS.md names where it says why a crate has no edits."""
+    section = (top / "docs" / "DECISIONS.md").read_text().partition(f"{SECTION}\n")[2]
+    return set(re.findall(r"`(\w+)`", section.partition("\n#")[0]))
+
+
+def edits_problem(top: Path, crate: str, more: dict[str, int], reasons: set[str]) -> str | None:
     """What is wrong with how many must-fail edits a crate has, or None. A crate that may have more has just as many as is said."""
     count = len(list((top / "crates" / crate).glob("must-fail/*.edit")))
+    if count == 0:
+        return None if crate in reasons else f"crates/{crate}: no must-fail edit, and docs/DECISIONS.md doesn't say why"
     if crate in more:
         return None if count == more[crate] else f"crates/{crate}: {count} must-fail edits, and docs/DECISIONS.md says {more[crate]}"
     return None if count <= MOST_EDITS else f"crates/{crate}: {count} must-fail edits, and docs/DECISIONS.md says at most {MOST_EDITS}"
@@ -70,11 +82,11 @@ def edits_problem(top: Path, crate: str, more: dict[str, int]) -> str | None:
 
 def crate_problems(top: Path) -> Iterator[str | None]:
     """What is wrong, or None, with what is said of each crate of a tree."""
-    more = more_edits(top)
+    more, reasons = more_edits(top), with_reasons(top)
     for crate, stands_on in lines_of(top):
         needless = sorted(set(stands_on) - named(top / "crates" / crate))
         yield f"crates.txt: {crate} stands on {', '.join(needless)}, which no file of it names" if needless else None
-        yield edits_problem(top, crate, more)
+        yield edits_problem(top, crate, more, reasons)
 
 
 def problems(folder: str, program: Path) -> Iterator[str | None]:
