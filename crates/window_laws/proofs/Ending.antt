@@ -24,7 +24,7 @@ use Rattle.schedule_laws.proofs.Segments.{open_listed}
 use Rattle.charge_laws.specs.Windows.{EndedBy}
 use Rattle.row_laws.proofs.Joined.{periods_from}
 use Rattle.window_laws.specs.Windows.{ticks_by, ticks_there, is_enough, window_of}
-use Rattle.window_laws.proofs.Rising.{enough_is}
+use Rattle.window_laws.proofs.Enough.{enough_is}
 use Rattle.window_laws.proofs.OpenRequests.{Open, is_by, span_parts}
 use Rattle.window_laws.proofs.OwnTicks.{own_ticks}
 use Rattle.window_laws.proofs.LowerTicks.{lower_ticks}
@@ -57,7 +57,7 @@ pub ends_in_window : (w : Trace) (bound : ℕ → ℕ) (n u v j m q b : ℕ) →
 ends_in_window w bound n u v j m q b stays e =
     let found : (b < suc (task_at w.set (task_of w j)).deadline) × (is_enough w.set bound (task_of w j) q b ≡ true) =
     found_below-is (suc (task_at w.set (task_of w j)).deadline) (is_enough w.set bound (task_of w j) q) b e in
-    ends_within w bound n u v j m q b stays (enough_is w.set bound (task_of w j) q b found.1).1
+    ends_within w bound n u v j m q b stays (enough_is (ticks_there w.set bound (task_of w j) q) b found.1).1
 
 -- In a lawful schedule: an open request is less than its window past its issue, where each job whose bound had passed by then had ended.
 pub open_since_issue : (w : Trace) (bound : ℕ → ℕ) (n t j m q b : ℕ) → IsFormed w.set → AreLawfulJobs (jobs_of w)

@@ -1,4 +1,5 @@
 pub mod Least
+pub mod Enough
 pub mod KeptGreatest
 pub mod Rising
 pub mod Programs

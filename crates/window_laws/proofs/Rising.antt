@@ -1,12 +1,12 @@
 -- Windows never shrink where bounds rise, and no limit of a row of windows falls.
 use Rattle.std.proofs.Common.{◌≡◌, ℕ, suc, ◌+◌, ◌*◌, ◌<◌, ◌≤◌, ◌==◌, ◌&&◌, true, false, length, refl, arith, inl, inr}
-use Rattle.std.proofs.Common.{Option, Some, None, nat_lt, nat_le, is_none}
+use Rattle.std.proofs.Common.{Option, Some, None, is_none}
 use Rattle.std.proofs.Math.Nat.{mul-le-mul_left, mul-le-mul_right}
-use Rattle.std.proofs.lemmas.Bool.{cases_Bool, and_parts, and_from, leb-true, le-leb, ltb-true}
+use Rattle.std.proofs.lemmas.Bool.{cases_Bool, and_parts, ltb-true}
 use Rattle.number_laws.specs.Sums.{sum_below, only_if}
 use Rattle.number_laws.proofs.SumLaws.{sum_below-monotone, sum_below-term}
 use Rattle.number_laws.proofs.OnlyIfLaws.{only_if-rises}
-use Rattle.number_laws.proofs.TestLaws.{any_below-none, any_below-some, found_below-is}
+use Rattle.number_laws.proofs.TestLaws.{any_below-none, any_below-some}
 use Rattle.sporadic_model.specs.SetDef.{SetDef, task_at}
 use Rattle.sporadic_model.specs.Users.{count_of, is_user}
 use Rattle.sporadic_model.specs.Homes.{home_in}
@@ -14,7 +14,8 @@ use Rattle.program_sources.proofs.RecurrenceLaws.{div_ceil_rises}
 use Rattle.blocking_columns.specs.Windows.{requests_in}
 use Rattle.window_laws.specs.Windows.{time_at, ticks_by, ticks_there, is_enough, window_of}
 use Rattle.window_laws.specs.WindowRows.{meets_there, lacks_window, requests_there, requests_met, window_row}
-use Rattle.window_laws.proofs.Least.{Found, found_from}
+use Rattle.window_laws.proofs.Least.{Found}
+use Rattle.window_laws.proofs.Enough.{found_if_fewer}
 
 -- The bounds r are at most s.
 abbrev pub IsBelow : SetDef → (ℕ → ℕ) → (ℕ → ℕ) → Type 0
@@ -33,30 +34,12 @@ ticks_there_rise set r s i q v w more h =
     (λ x l. ticks_by_rise set r s (home_in set q) v w x more (h x l)) in
     omega (arith, each)
 
-pub enough_is : (set : SetDef) (bounds : ℕ → ℕ) (i q w : ℕ) → is_enough set bounds i q w ≡ true
-    → (nat_lt 0 w ≡ true) × (ticks_there set bounds i q w ≤ w)
-enough_is set bounds i q w h =
-    let parts : (nat_lt 0 w ≡ true) × (nat_le (ticks_there set bounds i q w) w ≡ true) = and_parts _ _ h in
-    (parts.0, leb-true (ticks_there set bounds i q w) w parts.1)
-
-pub enough_from : (set : SetDef) (bounds : ℕ → ℕ) (i q w : ℕ) → nat_lt 0 w ≡ true → ticks_there set bounds i q w ≤ w
-    → is_enough set bounds i q w ≡ true
-enough_from set bounds i q w some most = and_from _ _ some (le-leb (ticks_there set bounds i q w) w most)
-
--- What is enough at greater bounds is enough.
-enough_falls : (set : SetDef) (r s : ℕ → ℕ) (i q w : ℕ) → ((x : ℕ) → x < i → r x ≤ s x) → is_enough set s i q w ≡ true
-    → is_enough set r i q w ≡ true
-enough_falls set r s i q w h enough =
-    let parts : (nat_lt 0 w ≡ true) × (ticks_there set s i q w ≤ w) = enough_is set s i q w enough in
-    enough_from set r i q w parts.0 (omega (arith, parts.1, ticks_there_rise set r s i q w w (omega arith) h))
-
 -- So where there is a window at greater bounds, there is one, which isn't greater.
 pub window_below : (set : SetDef) (r s : ℕ → ℕ) (i q b : ℕ) → ((x : ℕ) → x < i → r x ≤ s x) → window_of set s i q ≡ Some b
     → Found (suc (task_at set i).deadline) (is_enough set r i q) b
 window_below set r s i q b h e =
-    let found : (b < suc (task_at set i).deadline) × (is_enough set s i q b ≡ true) =
-    found_below-is (suc (task_at set i).deadline) (is_enough set s i q) b e in
-    found_from (suc (task_at set i).deadline) (is_enough set r i q) b found.0 (enough_falls set r s i q b h found.1)
+    found_if_fewer (ticks_there set r i q) (ticks_there set s i q) (suc (task_at set i).deadline) b
+    (λ w. ticks_there_rise set r s i q w w (omega arith) h) e
 
 some_of : {A : Type 0} (o : Option A) → is_none o ≡ false → (a : A) × (o ≡ Some a)
 some_of None h = absurd (cc)

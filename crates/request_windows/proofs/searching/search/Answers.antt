@@ -1,15 +1,18 @@
-use Rattle.std.proofs.Common.{◌≤◌, sym, arith}
+use Rattle.std.proofs.Common.{◌≤◌, suc, sym, arith}
 use Rattle.std.specs.Prelude.{slice_index}
+use Rattle.sporadic_model.specs.SetDef.{task_at}
 use Rattle.window_laws.specs.Windows.{ticks_there}
-use Rattle.request_windows.proofs.Search.{none_below_next, found_window, no_window}
+use Rattle.window_laws.proofs.Enough.{none_below_next, least_is, none_is}
+use Rattle.window_laws.proofs.Rising.{ticks_there_rise}
 use Rattle.request_windows.proofs.searching.search.Goals as goal
 
 pub returns-then-there-from-clause-value : goal.returns-then-there-from-clause-value
 returns-then-there-from-clause-value c =
     let there : ticks_there c.args.set.now (slice_index c.args.bounds.now) c.args.i.0 c.args.q.0 c.loop-span.span ≤ c.loop-span.span =
     omega (arith, c.ticks_there-there.ensures, c.from.ensures, c.if-there-from.true) in
-    sym (found_window c.args.set.now (slice_index c.args.bounds.now) c.args.i.0 c.args.q.0 c.loop-span.span c.loop-span.invariant.none
-    c.loop-span.invariant.from (omega (arith, c.loop-span-test.true, c.deadline-deadline.ensures.value)) there)
+    sym (least_is (ticks_there c.args.set.now (slice_index c.args.bounds.now) c.args.i.0 c.args.q.0)
+    (suc (task_at c.args.set.now c.args.i.0).deadline) c.loop-span.span c.loop-span.invariant.none c.loop-span.invariant.from
+    (omega (arith, c.loop-span-test.true, c.deadline-deadline.ensures.value)) there)
 
 pub loop-span-preserved : goal.loop-span-preserved
 loop-span-preserved c = record {
@@ -25,12 +28,15 @@ loop-span-preserved c = record {
     arith,
     c.min-span.ensures,
     c.ticks_there-there.ensures,
-    none_below_next c.args.set.now (slice_index c.args.bounds.now) c.args.i.0 c.args.q.0 c.loop-span.span c.loop-span.invariant.none m
-        enough,
+    none_below_next (ticks_there c.args.set.now (slice_index c.args.bounds.now) c.args.i.0 c.args.q.0) c.loop-span.span
+        (λ v w more. ticks_there_rise c.args.set.now (slice_index c.args.bounds.now) (slice_index c.args.bounds.now) c.args.i.0 c.args.q.0
+        v w more (λ x l. omega arith))
+        c.loop-span.invariant.none m enough,
   );
 }
 
 pub returns-clause-value : goal.returns-clause-value
 returns-clause-value c =
-    sym (no_window c.args.set.now (slice_index c.args.bounds.now) c.args.i.0 c.args.q.0 c.loop-span.span c.loop-span.invariant.none
+    sym (none_is (ticks_there c.args.set.now (slice_index c.args.bounds.now) c.args.i.0 c.args.q.0)
+    (suc (task_at c.args.set.now c.args.i.0).deadline) c.loop-span.span c.loop-span.invariant.none
     (omega (arith, c.loop-span-test.false, c.deadline-deadline.ensures.value)))
