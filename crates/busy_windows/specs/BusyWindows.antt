@@ -2,8 +2,9 @@
 -- a law would have to show.
 --
 -- A busy window of task i begins when no job of i's processor that is as high as i, and was released before, is left. It ends when the next
--- such tick comes. If it is no longer than i's bound, it holds one job of i. So no job of a higher task of the processor that was released
--- before the window runs in it, while the recurrence of spin locks counts such jobs.
+-- such tick comes. If it is no longer than i's bound, at most one job of i is in it, since i's bound and jitter together are at most its
+-- period. No job of a higher task of the processor that was released before the window runs in it, while the recurrence of spin locks counts
+-- such jobs.
 use Rattle.std.specs.Prelude.{◌≡◌, refl, ℕ, ◌+◌, ◌*◌, ◌<◌, ◌≤◌, ◌==◌, ◌&&◌, ◌||◌, not, Bool, true, false, nat_le, nat_lt, List}
 use Rattle.std.specs.Prelude.{[], ◌∷◌, ◌++◌, length, slice_index}
 use Rattle.std.specs.Option.{option_map_or}
