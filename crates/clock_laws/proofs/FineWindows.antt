@@ -1,23 +1,19 @@
 -- Windows in cycles, under any protocol. A window is the least number of ticks that is enough: at least one, and as many as are taken in
 -- that many. If in k times as many cycles k times as many are taken, these are enough. So the window in cycles is at most k times as
 -- long as in ticks, and no more requests run within it.
-use Rattle.std.proofs.Common.{◌≡◌, ℕ, suc, ◌*◌, ◌<◌, ◌≤◌, ◌&&◌, Bool, true, nat_lt, nat_le, arith, Some}
+use Rattle.std.proofs.Common.{◌≡◌, ℕ, suc, ◌*◌, ◌<◌, ◌≤◌, true, arith, Some}
 use Rattle.std.proofs.Math.Nat.{mul-le-mul_left}
-use Rattle.std.proofs.lemmas.Bool.{and_parts, and_from, lt-ltb, ltb-true, leb-true, le-leb}
 use Rattle.number_laws.specs.Tests.{found_below}
 use Rattle.number_laws.proofs.TestLaws.{found_below-is}
 use Rattle.sporadic_model.specs.SetDef.{SetDef, task_at}
 use Rattle.sporadic_model.specs.Users.{count_of}
 use Rattle.blocking_columns.specs.Windows.{requests_during}
 use Rattle.window_laws.proofs.Least.{Found, found_from}
+use Rattle.window_laws.proofs.Enough.{is_enough_of, enough_is, enough_from}
 use Rattle.mpcp_window_laws.proofs.Rising.{jobs_rise}
 use Rattle.clock_laws.specs.Cycles.{in_cycles}
 use Rattle.clock_laws.proofs.Sets.{deadline_in}
 use Rattle.clock_laws.proofs.Jobs.{fine, requests_in_cycles}
-
--- Are w ticks enough if so many are taken in them?
-abbrev pub is_enough_of : (ℕ → ℕ) → ℕ → Bool
-is_enough_of taken w = nat_lt 0 w && nat_le (taken w) w
 
 pub fine_least : (k : ℕ) (set : SetDef) (i w : ℕ) (taken fine_taken : ℕ → ℕ) → 0 < k → fine_taken (k * w) ≡ k * taken w
     → found_below (suc (task_at set i).deadline) (is_enough_of taken) ≡ Some w
@@ -25,12 +21,12 @@ pub fine_least : (k : ℕ) (set : SetDef) (i w : ℕ) (taken fine_taken : ℕ �
 fine_least k set i w taken fine_taken some times e =
     let found : (w < suc (task_at set i).deadline) × (is_enough_of taken w ≡ true) =
     found_below-is (suc (task_at set i).deadline) (is_enough_of taken) w e in
-    let parts : (nat_lt 0 w ≡ true) × (nat_le (taken w) w ≡ true) = and_parts _ _ found.1 in
+    let enough : (0 < w) × (taken w ≤ w) = enough_is taken w found.1 in
     let within : k * w ≤ k * (task_at set i).deadline = mul-le-mul_left k (omega (arith, found.0)) in
-    let most : k * taken w ≤ k * w = mul-le-mul_left k (leb-true (taken w) w parts.1) in
-    let positive : k * 1 ≤ k * w = mul-le-mul_left k (omega (arith, ltb-true 0 w parts.0)) in
+    let most : k * taken w ≤ k * w = mul-le-mul_left k enough.1 in
+    let positive : k * 1 ≤ k * w = mul-le-mul_left k enough.0 in
     found_from (suc (task_at (in_cycles k set) i).deadline) (is_enough_of fine_taken) (k * w) (omega (arith, within, deadline_in k set i))
-    (and_from _ _ (lt-ltb 0 (k * w) (omega (arith, some, positive))) (le-leb (fine_taken (k * w)) (k * w) (omega (arith, times, most))))
+    (enough_from fine_taken (k * w) (omega (arith, some, positive)) (omega (arith, times, most)))
 
 -- In at most k times as many cycles no more requests run.
 pub fewer_in_cycles : (k : ℕ) (set : SetDef) (bounds : ℕ → ℕ) (v w x q : ℕ) → 0 < k → v ≤ k * w
