@@ -3,4 +3,3 @@ mod FirstUsed
 mod ListedSums
 mod NoIndirect
 mod Pushed
-mod Search
