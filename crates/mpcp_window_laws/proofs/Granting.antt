@@ -1,6 +1,6 @@
 -- A request waits less than each number of ticks that is enough for it.
-use Rattle.std.proofs.Common.{◌≡◌, ℕ, suc, ◌+◌, ◌<◌, ◌≤◌, true, false, length, arith, inl, inr, Some, nat_lt, refl}
-use Rattle.std.proofs.lemmas.Bool.{cases_lt, cases_Bool, eq-eqb, lt-ltb, ltb-true}
+use Rattle.std.proofs.Common.{◌≡◌, ℕ, suc, ◌+◌, ◌<◌, ◌≤◌, true, false, length, arith, inl, inr, Some, refl}
+use Rattle.std.proofs.lemmas.Bool.{cases_lt, cases_Bool, eq-eqb, lt-ltb}
 use Rattle.number_laws.specs.Sums.{sum_below, flag}
 use Rattle.number_laws.specs.Tests.{count_below}
 use Rattle.number_laws.proofs.SumLaws.{sum_below-term, sum_below-monotone, sum_below-plus, sum_below-swap, sum_below-constant}
@@ -23,9 +23,9 @@ use Rattle.schedule_laws.proofs.Segments.{open_listed}
 use Rattle.schedule_laws.proofs.SharedLaws.{shared_runs_active}
 use Rattle.charge_laws.specs.Windows.{EndedBy}
 use Rattle.row_laws.proofs.Joined.{periods_from}
+use Rattle.window_laws.proofs.Enough.{enough_is}
 use Rattle.window_laws.proofs.OpenRequests.{is_by}
 use Rattle.mpcp_window_laws.specs.MpcpWindows.{own_ticks, ticks_instead, ticks_held, is_enough_wait, wait_window}
-use Rattle.mpcp_window_laws.proofs.Rising.{enough_is}
 use Rattle.mpcp_window_laws.proofs.Waiting.{Waiting, holder_of, HeldByOther, held_by_other}
 use Rattle.mpcp_window_laws.proofs.HigherHoldings.{is_own_by, higher_runs}
 use Rattle.mpcp_window_laws.proofs.OneHolding.{holding_is, RunsInstead, runs_instead}
@@ -129,9 +129,9 @@ pub waits_in_window : (w : Trace) (bound : ℕ → ℕ) (n u v j m q b : ℕ) �
 waits_in_window w bound n u v j m q b a e =
     let found : (b < suc (task_at w.set (task_of w j)).deadline) × (is_enough_wait w.set bound (task_of w j) q b ≡ true) =
     found_below-is (suc (task_at w.set (task_of w j)).deadline) (is_enough_wait w.set bound (task_of w j) q) b e in
-    let enough : (nat_lt 0 b ≡ true) × (ticks_held w.set bound (task_of w j) q b ≤ b) =
-    enough_is w.set bound (task_of w j) q b found.1 in
-    waits_less w bound n u v j m q b a (ltb-true 0 b enough.0) enough.1
+    let enough : (0 < b) × (ticks_held w.set bound (task_of w j) q b ≤ b) =
+    enough_is (ticks_held w.set bound (task_of w j) q) b found.1 in
+    waits_less w bound n u v j m q b a enough.0 enough.1
 
 -- In a lawful schedule: a request that waits is less than its window past its issue, where each job whose bound had passed by then had
 -- ended.

@@ -1,16 +1,15 @@
 -- Windows of waits never shrink where bounds rise.
-use Rattle.std.proofs.Common.{◌≡◌, ℕ, suc, ◌+◌, ◌*◌, ◌<◌, ◌≤◌, true, length, arith, Some, nat_lt, nat_le}
+use Rattle.std.proofs.Common.{◌≡◌, ℕ, suc, ◌+◌, ◌*◌, ◌<◌, ◌≤◌, length, arith, Some}
 use Rattle.std.proofs.Math.Nat.{mul-le-mul_left, mul-le-mul_right}
-use Rattle.std.proofs.lemmas.Bool.{and_parts, and_from, leb-true, le-leb}
 use Rattle.number_laws.specs.Sums.{sum_below, only_if}
 use Rattle.number_laws.proofs.SumLaws.{sum_below-monotone}
 use Rattle.number_laws.proofs.OnlyIfLaws.{only_if-rises}
-use Rattle.number_laws.proofs.TestLaws.{found_below-is}
 use Rattle.sporadic_model.specs.SetDef.{SetDef, task_at}
 use Rattle.sporadic_model.specs.Users.{count_of, length_of}
 use Rattle.program_sources.proofs.RecurrenceLaws.{div_ceil_rises}
 use Rattle.blocking_columns.specs.Windows.{jobs_during, requests_during}
-use Rattle.window_laws.proofs.Least.{Found, found_from}
+use Rattle.window_laws.proofs.Least.{Found}
+use Rattle.window_laws.proofs.Enough.{found_if_fewer}
 use Rattle.window_laws.proofs.Rising.{IsBelow}
 use Rattle.mpcp_window_laws.specs.MpcpWindows.{longest_first, may_run_instead, holdings_beside, time_first}
 use Rattle.mpcp_window_laws.specs.MpcpWindows.{own_ticks, ticks_instead, ticks_held, is_enough_wait, wait_window}
@@ -48,24 +47,9 @@ ticks_held_rise set r s i q v w known more below =
     (λ x l. instead_rise set r s i q v w x known more below l) in
     omega (arith, own, instead)
 
-pub enough_is : (set : SetDef) (bounds : ℕ → ℕ) (i q w : ℕ) → is_enough_wait set bounds i q w ≡ true
-    → (nat_lt 0 w ≡ true) × (ticks_held set bounds i q w ≤ w)
-enough_is set bounds i q w h =
-    let parts : (nat_lt 0 w ≡ true) × (nat_le (ticks_held set bounds i q w) w ≡ true) = and_parts _ _ h in
-    (parts.0, leb-true (ticks_held set bounds i q w) w parts.1)
-
--- What is enough at greater bounds is enough.
-enough_falls : (set : SetDef) (r s : ℕ → ℕ) (i q w : ℕ) → i < length set.tasks → IsBelow set r s → is_enough_wait set s i q w ≡ true
-    → is_enough_wait set r i q w ≡ true
-enough_falls set r s i q w known below enough =
-    let parts : (nat_lt 0 w ≡ true) × (ticks_held set s i q w ≤ w) = enough_is set s i q w enough in
-    let less : ticks_held set r i q w ≤ w = omega (arith, parts.1, ticks_held_rise set r s i q w w known (omega arith) below) in
-    and_from _ _ parts.0 (le-leb (ticks_held set r i q w) w less)
-
 -- So if there is a window at greater bounds, there is one, which isn't greater.
 pub window_rises : (set : SetDef) (r s : ℕ → ℕ) (i q b : ℕ) → i < length set.tasks → IsBelow set r s → wait_window set s i q ≡ Some b
     → Found (suc (task_at set i).deadline) (is_enough_wait set r i q) b
 window_rises set r s i q b known below e =
-    let found : (b < suc (task_at set i).deadline) × (is_enough_wait set s i q b ≡ true) =
-    found_below-is (suc (task_at set i).deadline) (is_enough_wait set s i q) b e in
-    found_from (suc (task_at set i).deadline) (is_enough_wait set r i q) b found.0 (enough_falls set r s i q b known below found.1)
+    found_if_fewer (ticks_held set r i q) (ticks_held set s i q) (suc (task_at set i).deadline) b
+    (λ w. ticks_held_rise set r s i q w w known (omega arith) below) e

@@ -92,7 +92,7 @@ held_rises set r s i x q known below =
     held_at_most set r s i x q (λ y l. waits_rise set r s i q y q known (omega (arith, l, known)) below)
 
 -- What doesn't use a resource makes no request of it.
-none_by : (set : SetDef) (bounds : ℕ → ℕ) (w x q : ℕ) → is_user set q x ≡ false → requests_during set bounds w x q ≡ 0
+pub none_by : (set : SetDef) (bounds : ℕ → ℕ) (w x q : ℕ) → is_user set q x ≡ false → requests_during set bounds w x q ≡ 0
 none_by set bounds w x q unused =
     let none : count_of set x q ≡ 0 = omega (arith, ltb-false 0 (count_of set x q) unused) in
     let nothing : 0 * jobs_during set bounds w x ≡ 0 = omega arith in
