@@ -2,4 +2,5 @@ pub mod FewColumns
 mod FirstUsed
 mod ListedSums
 mod NoIndirect
+mod OnProcessors
 mod Pushed

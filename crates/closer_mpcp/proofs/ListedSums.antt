@@ -1,10 +1,14 @@
 -- Sums over the users of a resource and over the resources of a task, which are lists.
-use Rattle.std.proofs.Common.{◌≡◌, ℕ, ◌+◌, ◌-◌, ◌*◌, ◌<◌, ◌≤◌, ◌&&◌, Bool, true, false, nat_lt, List, [], length, map, drop}
+use Rattle.std.proofs.Common.{◌≡◌, ℕ, suc, ◌+◌, ◌-◌, ◌*◌, ◌<◌, ◌≤◌, ◌&&◌, Bool, true, false, nat_lt, List, [], length, map, drop}
 use Rattle.std.proofs.Common.{refl, sym, ap, subst, ◌∙◌, arith}
+use Rattle.std.specs.Prelude.{slice_index, slice_index_or}
 use Rattle.std.specs.List.{sum_by}
 use Rattle.std.proofs.Math.Bool.{and-true}
+use Rattle.std.proofs.Math.Numerals.{add-one}
+use Rattle.std.proofs.Math.Seq.{drop-cons}
 use Rattle.std.proofs.lemmas.Bool.{lt-ltb, le-ltb, ltb-false}
-use Rattle.std.proofs.lemmas.List.{drop_all}
+use Rattle.std.proofs.lemmas.List.{drop_all, get_or-map, length-map}
+use Rattle.std.proofs.lemmas.List.Sums.{sum_by-cons}
 use Rattle.number_laws.specs.Sums.{sum_below, only_if}
 use Rattle.number_laws.proofs.SumLaws.{sum_below-agree, sum_below-split, sum_below-zero}
 use Rattle.number_laws.proofs.OnlyIfLaws.{only_if-nothing}
@@ -12,10 +16,11 @@ use Rattle.sporadic_model.specs.SetDef.{SetDef}
 use Rattle.sporadic_model.specs.Users.{count_of, length_of, is_user, users_of, used_by}
 use Rattle.sporadic_model.specs.declared.ids.TaskId.{TaskId}
 use Rattle.sporadic_model.specs.declared.ids.ResourceId.{ResourceId}
-use Rattle.blocking_columns.specs.Windows.{jobs_during, requests_during}
+use Rattle.blocking_columns.specs.Windows.{jobs_during}
 use Rattle.blocking_columns.proofs.KeptNumbers.{sum_of_kept, sum_where_kept, kept_few}
 use Rattle.mpcp_window_laws.specs.MpcpWindows.{own_ticks}
 use Rattle.mpcp_window_laws.specs.WaitRows.{requests_in_waits}
+use Rattle.mpcp_window_laws.proofs.WaitLimits.{none_by}
 
 -- Terms of tasks from i on are none.
 sum_of_higher : (i n : ℕ) (at : ℕ → Bool) (f : ℕ → ℕ) → i ≤ n
@@ -60,13 +65,6 @@ all_higher_users set i r f ys k total same here none past sums =
     total + sum_by (λ (y : TaskId). only_if (t y.0) (f y.0)) (drop k ys) ≡ sum_by (λ (y : TaskId). only_if (t y.0) (f y.0)) ys)
     (λ j. λ y. sym (and-true (nat_lt y i)) j) sums)
 
--- A task that doesn't use r makes no request of it.
-pub none_made : (set : SetDef) (bounds : ℕ → ℕ) (w y r : ℕ) → is_user set r y ≡ false → requests_during set bounds w y r ≡ 0
-none_made set bounds w y r unused =
-    let none : count_of set y r ≡ 0 = omega (arith, ltb-false 0 (count_of set y r) unused) in
-    let nothing : 0 * jobs_during set bounds w y ≡ 0 = omega arith in
-    ap (λ n. n * jobs_during set bounds w y) none ∙ nothing
-
 pub none_own : (set : SetDef) (bounds : ℕ → ℕ) (q w y : ℕ) → is_user set q y ≡ false → own_ticks set bounds q w y ≡ 0
 none_own set bounds q w y unused =
     let none : count_of set y q ≡ 0 = omega (arith, ltb-false 0 (count_of set y q) unused) in
@@ -74,7 +72,7 @@ none_own set bounds q w y unused =
     ap (λ n. jobs_during set bounds w y * (n * length_of set y q)) none ∙ nothing
 
 pub none_in_waits : (set : SetDef) (bounds : ℕ → ℕ) (i y r : ℕ) → is_user set r y ≡ false → requests_in_waits set bounds i r y r ≡ 0
-none_in_waits set bounds i y r unused = omega (arith, none_made set bounds (bounds i) y r unused)
+none_in_waits set bounds i y r unused = omega (arith, none_by set bounds (bounds i) y r unused)
 
 pub users_few : (set : SetDef) (r : ℕ) (ys : List TaskId) → map (λ (y : TaskId). y.0) ys ≡ users_of set r → length ys ≤ length set.tasks
 users_few set r ys same = kept_few (λ (y : TaskId). y.0) ys (is_user set r) (length set.tasks) same
@@ -94,3 +92,28 @@ used_sum set i test f rs same =
 
 pub used_few : (set : SetDef) (i : ℕ) (rs : List ResourceId) → map (λ (r : ResourceId). r.0) rs ≡ used_by set i → length rs ≤ length set.resources
 used_few set i rs same = kept_few (λ (r : ResourceId). r.0) rs (λ r. is_user set r i) (length set.resources) same
+
+-- Whether it is shared out, and what passes, are asked one after the other.
+pub both_asked : (a b : Bool) (n : ℕ) → only_if b (only_if a n) ≡ only_if (a && b) n
+both_asked true b n = refl
+both_asked false true n = refl
+both_asked false false n = refl
+
+-- There are as many as resources that the task uses.
+pub long_as : (set : SetDef) (i : ℕ) (rs : List ResourceId) → map (λ (r : ResourceId). r.0) rs ≡ used_by set i
+    → length rs ≡ length (used_by set i)
+long_as set i rs same = sym (length-map rs (λ (r : ResourceId). r.0)) ∙ ap length same
+
+-- The k-th number of a list is that of its k-th resource.
+pub number_of : (set : SetDef) (i : ℕ) (rs : List ResourceId) (k : ℕ) (d : ResourceId) → map (λ (r : ResourceId). r.0) rs ≡ used_by set i
+    → k < length rs → slice_index (used_by set i) k ≡ (slice_index_or rs k d).0
+number_of set i rs k d same l = ap (λ (ns : List ℕ). slice_index ns k) (sym same) ∙ get_or-map (λ (r : ResourceId). r.0) rs k d 0 l
+
+-- What is summed grows by the k-th term.
+pub one_term_more : (f : ResourceId → ℕ) (rs : List ResourceId) (d : ResourceId) (k n total whole : ℕ) → k < length rs
+    → total + sum_by f (drop k rs) ≡ whole → n ≡ f (slice_index_or rs k d) → (total + n) + sum_by f (drop (k + 1) rs) ≡ whole
+one_term_more f rs d k n total whole l sums term =
+    let rest : sum_by f (drop (k + 1) rs) ≡ sum_by f (drop (suc k) rs) = ap (λ m. sum_by f (drop m rs)) (add-one k) in
+    let step : sum_by f (drop k rs) ≡ f (slice_index_or rs k d) + sum_by f (drop (suc k) rs) =
+    ap (sum_by f) (drop-cons rs k d l) ∙ sum_by-cons f (slice_index_or rs k d) (drop (suc k) rs) in
+    omega (arith, rest, step, sums, term)

@@ -1,8 +1,9 @@
--- A list of windows with one more behind the others.
+-- Lists with one entry more: a window behind the others, or a number written at its place.
 use Rattle.std.proofs.Common.{◌≡◌, ℕ, ◌+◌, ◌<◌, List, [], ◌∷◌, ◌++◌, length, Option, None, subst, sym, arith, inl, inr}
-use Rattle.std.specs.Prelude.{slice_index_or}
-use Rattle.std.proofs.lemmas.Bool.{cases_lt}
-use Rattle.std.proofs.lemmas.List.{get_or_append_left, get_or_push}
+use Rattle.std.specs.Prelude.{slice_index, slice_index_or, slice_set}
+use Rattle.std.proofs.lemmas.Bool.{cases_lt, cases_eq}
+use Rattle.std.proofs.lemmas.List.{get_or_append_left, get_or_push, get_or-set_other}
+use Rattle.std.proofs.lemmas.Grind.{get_or-set_at}
 
 -- What is true of each of them, and of the one behind, is true of each.
 pub one_window_more : (P : ℕ → Option ℕ → Type 0) (n : ℕ) (ws : List (Option ℕ)) (w : Option ℕ) → length ws ≡ n
@@ -12,4 +13,12 @@ one_window_more P n ws w len each last q l = elim (cases_lt q n) [
   | inr here ↦
       let e : n ≡ q = omega (arith, here, l) in
       subst (λ (k : ℕ). P k (slice_index_or (ws ++ w ∷ []) k None)) e (subst (P n) (sym (get_or_push ws w None n len)) last)
+]
+
+-- What is true of each number below the n-th, and of the one written there, is true of each up to it.
+pub one_written : (P : ℕ → ℕ → Type 0) (n v : ℕ) (xs : List ℕ) → n < length xs → ((k : ℕ) → k < n → P k (slice_index xs k)) → P n v
+    → (k : ℕ) → k < n + 1 → P k (slice_index (slice_set xs n v) k)
+one_written P n v xs within each last k l = elim (cases_eq k n) [
+  | inl same ↦ subst (P k) (sym (get_or-set_at xs n k v 0 same within)) (subst (λ (m : ℕ). P m v) (sym same) last)
+  | inr other ↦ subst (P k) (sym (get_or-set_other xs n k v 0 other)) (each k (omega (arith, l, other)))
 ]

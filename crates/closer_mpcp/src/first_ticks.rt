@@ -5,18 +5,28 @@ ghost use Rattle.number_laws.specs.Sums.{only_if};
 ghost use Rattle.sporadic_model.specs.Users.{count_of, length_of};
 ghost use Rattle.closer_mpcp_laws.specs.CloserMpcpRows.{goes_first};
 ghost use Rattle.mpcp_window_laws.specs.MpcpWindows.{longest_first, time_first};
+ghost use Rattle.closer_mpcp.specs.Tables.{AreFirst};
 
 use crate::ceilings::goes_first;
 use sporadic_model::{ResourceId, TaskId, TaskSet};
 
-/// How long requests of a task that go first last, in ticks. They go first while another task of its processor holds the resource that is
-/// waited for.
+// How long requests of a task that go first last, in ticks. They go first while another task of its processor holds the resource that is
+// waited for.
 #[derive(Clone, Copy, Drop)]
-pub(crate) struct FirstTicks {
-    /// The longest one.
-    pub(crate) longest: u64,
-    /// All that one job makes.
-    pub(crate) all: u64,
+struct FirstTicks {
+    // The longest one.
+    longest: u64,
+    // All that one job makes.
+    all: u64,
+}
+
+/// The same of each task, by its number.
+#[derive(Drop)]
+pub(crate) struct FirstOfTasks {
+    /// The longest one of each.
+    pub(crate) longest: [u64; 64],
+    /// All that one job of it makes.
+    pub(crate) all: [u64; 64],
 }
 
 // The requests of `r` by `x`, if they go first while another task of `x`'s processor holds `q`.
@@ -40,8 +50,8 @@ fn first_of_resource(set: &TaskSet, x: TaskId, q: ResourceId, r: ResourceId) -> 
     }
 }
 
-/// The requests of all resources by `x` that go first while another task of its processor holds `q`.
-pub(crate) fn first_ticks(set: &TaskSet, x: TaskId, q: ResourceId) -> FirstTicks
+// The requests of all resources by `x` that go first while another task of its processor holds `q`.
+fn first_ticks(set: &TaskSet, x: TaskId, q: ResourceId) -> FirstTicks
     requires task { x.0 < length set.now.tasks }
     requires held { q.0 < length set.now.resources }
     ensures longest { result.longest ≡ longest_first set.now x.0 q.0 }
@@ -61,4 +71,19 @@ pub(crate) fn first_ticks(set: &TaskSet, x: TaskId, q: ResourceId) -> FirstTicks
         all += some.all;
     }
     FirstTicks { longest, all }
+}
+
+/// Such requests of each task.
+pub(crate) fn first_of_tasks(set: &TaskSet, q: ResourceId) -> FirstOfTasks
+    requires { q.0 < length set.now.resources }
+    ensures { AreFirst set.now q.0 result.longest result.all }
+{
+    let mut longest = [0u64; 64];
+    let mut all = [0u64; 64];
+    for x in 0..set.tasks() {
+        let first = first_ticks(set, TaskId(x), q);
+        longest[x as usize] = first.longest;
+        all[x as usize] = first.all;
+    }
+    FirstOfTasks { longest, all }
 }

@@ -8,14 +8,13 @@ ghost use Rattle.closer_laws.specs.CloserRows.{is_held_there};
 ghost use Rattle.closer_mpcp_laws.specs.CloserMpcpRows.{is_away, shared_holdings, away_holdings, away_row};
 ghost use Rattle.mpcp_window_laws.specs.WaitRows.{held_in_waits};
 ghost use Rattle.shared_requests.specs.Held.{AreSharedOut};
-ghost use Rattle.closer_mpcp.specs.Holdings.{passes, is_lower_at, has_lower, lower_held, held_beside, counts};
+ghost use Rattle.closer_mpcp.specs.Holdings.{passes, is_lower_at, has_lower, lower_held};
 ghost use Rattle.closer_mpcp.specs.Holdings.{runs_there};
-ghost use Rattle.closer_mpcp.specs.Windows.{AreWaitWindows};
+ghost use Rattle.closer_mpcp.specs.Tables.{AreHeldBesideEach};
 
 use crate::ceilings::passes;
 use crate::places::{Place, is_at};
-use crate::waits::held_in_waits;
-use fragments::{cnt, share_processor};
+use fragments::cnt;
 use shared_requests::{Holders, has_holder};
 use sporadic_model::{ResourceId, TaskId, TaskSet};
 
@@ -92,8 +91,8 @@ fn has_lower(set: &TaskSet, place: Place, i: TaskId, x: TaskId, r: ResourceId) -
     false
 }
 
-// How many requests of `r` can they hold while a job of `i` waits for them?
-fn lower_held(set: &TaskSet, place: Place, i: TaskId, x: TaskId, r: ResourceId) -> u64
+/// How many requests of `r` can they hold while a job of `i` waits for them?
+pub(crate) fn lower_held(set: &TaskSet, place: Place, i: TaskId, x: TaskId, r: ResourceId) -> u64
     requires task { i.0 < length set.now.tasks }
     requires runner { x.0 < length set.now.tasks }
     requires resource { r.0 < length set.now.resources }
@@ -107,57 +106,13 @@ fn lower_held(set: &TaskSet, place: Place, i: TaskId, x: TaskId, r: ResourceId) 
     }
 }
 
-// How many requests of `r` can be held beside `x` while a job of `i` waits for them? Higher tasks hold them within the windows of these
-// waits. Where `x` is on `i`'s processor no lower task holds one.
-fn held_beside(
-    set: &TaskSet,
-    i: TaskId,
-    x: TaskId,
-    r: ResourceId,
-    bounds: &[u64],
-    windows: &[Option<u64>],
-) -> u64
-    requires task { i.0 < length set.now.tasks }
-    requires runner { x.0 < length set.now.tasks }
-    requires resource { r.0 < length set.now.resources }
-    requires within { AreWithinDeadlines set.now bounds.now }
-    requires windows { AreWaitWindows set.now (slice_index bounds.now) i.0 windows.now }
-    ensures value { result ≡ held_beside set.now (slice_index bounds.now) i.0 x.0 r.0 }
-    ensures most { result ≤ 128000000001000 }
-{
-    let higher = held_in_waits(set, i, x, r, bounds, windows);
-    if share_processor(set, x, i) {
-        higher
-    } else {
-        higher + lower_held(set, Place::Beside, i, x, r)
-    }
-}
-
-// Those of `r`, if they count: if it is shared out, and `x` may run requests meanwhile.
-fn counted_of(
-    set: &TaskSet,
-    i: TaskId,
-    x: TaskId,
-    q: Option<ResourceId>,
-    r: ResourceId,
-    shared: &[bool],
-    bounds: &[u64],
-    windows: &[Option<u64>],
-) -> u64
-    requires task { i.0 < length set.now.tasks }
+// So many of `r`, if `x` may run requests meanwhile.
+fn counted(set: &TaskSet, x: TaskId, q: Option<ResourceId>, r: ResourceId, held: u64) -> u64
     requires runner { x.0 < length set.now.tasks }
     requires first { IfSome q (λ a. a.0 < length set.now.resources) }
     requires resource { r.0 < length set.now.resources }
-    requires shared { AreSharedOut set.now i.0 shared.now }
-    requires within { AreWithinDeadlines set.now bounds.now }
-    requires windows { AreWaitWindows set.now (slice_index bounds.now) i.0 windows.now }
-    ensures value { result ≡ only_if (counts set.now i.0 x.0 q r.0) (held_beside set.now (slice_index bounds.now) i.0 x.0 r.0) }
-    ensures most { result ≤ 128000000001000 }
+    ensures { result ≡ only_if (passes set.now x.0 q r.0) held }
 {
-    if !shared[r.0 as usize] {
-        return 0;
-    }
-    let held = held_beside(set, i, x, r, bounds, windows);
     // beside most tasks nothing is held, and what passes costs more to tell
     if held > 0 && passes(set, x, q, r) {
         held
@@ -173,25 +128,23 @@ pub(crate) fn shared_holdings(
     i: TaskId,
     x: TaskId,
     q: Option<ResourceId>,
-    shared: &[bool],
     bounds: &[u64],
-    windows: &[Option<u64>],
+    held: &[[u64; 32]],
 ) -> u64
     requires task { i.0 < length set.now.tasks }
     requires runner { x.0 < length set.now.tasks }
     requires first { IfSome q (λ a. a.0 < length set.now.resources) }
-    requires shared { AreSharedOut set.now i.0 shared.now }
-    requires within { AreWithinDeadlines set.now bounds.now }
-    requires windows { AreWaitWindows set.now (slice_index bounds.now) i.0 windows.now }
+    requires held { AreHeldBesideEach set.now (slice_index bounds.now) i.0 held.now }
     ensures value { result ≡ shared_holdings set.now (held_in_waits set.now i.0 (slice_index bounds.now) x.0) i.0 x.0 (passes set.now x.0 q) }
     ensures most { result ≤ 4096000000032000 }
 {
     // a set has at most 32 resources, so the sum fits
     let _resources = set.resources();
     let used = set.used_by(i);
+    let beside = &held[x.0 as usize];
     let mut total = 0;
-    for r in used {
-        total += counted_of(set, i, x, q, *r, shared, bounds, windows);
+    for k in 0..used.len() {
+        total += counted(set, x, q, used[k], beside[k]);
     }
     total
 }

@@ -6,7 +6,8 @@ ghost use Rattle.program_sources.specs.Bounds.{AreWithinDeadlines};
 ghost use Rattle.blocking_columns.specs.Windows.{jobs_during};
 ghost use Rattle.mpcp_window_laws.specs.KeptWindows.{KeepsWindow, KeepsWindows};
 
-use crate::searching::wait_window;
+use crate::lower_holders::other_holders;
+use crate::searching::window_with;
 use crate::ticks::jobs_during;
 use fragments::uses;
 use sporadic_model::{ResourceId, TaskId, TaskSet};
@@ -47,8 +48,9 @@ fn keeps_window(set: &TaskSet, i: TaskId, q: ResourceId, earlier: &[u64], bounds
 {
     // no deadline is above the limits of every set
     let _deadline = set.deadline(i);
-    let window = wait_window(set, i, q, bounds);
-    if wait_window(set, i, q, earlier) != window {
+    let holders = other_holders(set, i, q);
+    let window = window_with(set, i, q, bounds, &holders);
+    if window_with(set, i, q, earlier, &holders) != window {
         return false;
     }
     match window {

@@ -3,6 +3,7 @@
 
 mod ceilings;
 mod first_ticks;
+mod held;
 mod holdings;
 mod keeping;
 mod laws;

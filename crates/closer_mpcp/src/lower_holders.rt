@@ -3,13 +3,23 @@
 ghost use Rattle.std.specs.Prelude.{◌≡◌, ◌<◌, ◌≤◌, length};
 ghost use Rattle.number_laws.specs.Sums.{only_if};
 ghost use Rattle.mpcp_window_laws.specs.MpcpWindows.{may_run_instead, holding_ticks, may_hold_before, longest_lower_holding};
+ghost use Rattle.closer_mpcp.specs.Tables.{AreFirst, AreHolders};
 
-use crate::first_ticks::first_ticks;
+use crate::first_ticks::{FirstOfTasks, first_of_tasks};
 use fragments::{share_processor, uses};
 use sporadic_model::{ResourceId, TaskId, TaskSet};
 
-/// May a request of `x` run in place of `y`'s, for which `i` waits?
-pub(crate) fn may_run_instead(set: &TaskSet, i: TaskId, y: TaskId, x: TaskId) -> bool
+/// What others may do with a resource while the analysed task waits for it, as far as it doesn't depend on the bounds.
+#[derive(Drop)]
+pub(crate) struct OtherHolders {
+    /// Of each task, how long its requests last that go first.
+    pub(crate) first: FirstOfTasks,
+    /// For how many ticks a lower task may hold the resource.
+    pub(crate) lower: u64,
+}
+
+// May a request of `x` run in place of `y`'s, for which `i` waits?
+fn may_run_instead(set: &TaskSet, i: TaskId, y: TaskId, x: TaskId) -> bool
     requires holder { y.0 < length set.now.tasks }
     requires runner { x.0 < length set.now.tasks }
     ensures { result ≡ may_run_instead set.now i.0 y.0 x.0 }
@@ -18,16 +28,17 @@ pub(crate) fn may_run_instead(set: &TaskSet, i: TaskId, y: TaskId, x: TaskId) ->
 }
 
 // For how many ticks may `y` hold `q` while `i` waits?
-fn holding_ticks(set: &TaskSet, i: TaskId, q: ResourceId, y: TaskId) -> u64
+fn holding_ticks(set: &TaskSet, i: TaskId, q: ResourceId, first: &FirstOfTasks, y: TaskId) -> u64
     requires resource { q.0 < length set.now.resources }
     requires holder { y.0 < length set.now.tasks }
+    requires first { AreFirst set.now q.0 first.now.longest first.now.all }
     ensures value { result ≡ holding_ticks set.now i.0 q.0 y.0 }
     ensures most { result ≤ 65000000000 }
 {
     let mut total = set.length(y, q);
     for x in 0..set.tasks() {
         if may_run_instead(set, i, y, TaskId(x)) {
-            total += first_ticks(set, TaskId(x), q).longest;
+            total += first.longest[x as usize];
         }
     }
     total
@@ -44,31 +55,44 @@ fn may_hold_before(set: &TaskSet, i: TaskId, q: ResourceId, y: TaskId) -> bool
 }
 
 // For how many ticks may it hold `q` then?
-fn lower_holding(set: &TaskSet, i: TaskId, q: ResourceId, y: TaskId) -> u64
+fn lower_holding(set: &TaskSet, i: TaskId, q: ResourceId, first: &FirstOfTasks, y: TaskId) -> u64
     requires task { i.0 < length set.now.tasks }
     requires resource { q.0 < length set.now.resources }
     requires holder { y.0 < length set.now.tasks }
+    requires first { AreFirst set.now q.0 first.now.longest first.now.all }
     ensures value { result ≡ only_if (may_hold_before set.now i.0 q.0 y.0) (holding_ticks set.now i.0 q.0 y.0) }
     ensures most { result ≤ 65000000000 }
 {
     if may_hold_before(set, i, q, y) {
-        holding_ticks(set, i, q, y)
+        holding_ticks(set, i, q, first, y)
     } else {
         0
     }
 }
 
-/// For how many ticks may the longest such holding last?
-pub(crate) fn longest_lower_holding(set: &TaskSet, i: TaskId, q: ResourceId) -> u64
+// For how many ticks may the longest such holding last?
+fn longest_lower_holding(set: &TaskSet, i: TaskId, q: ResourceId, first: &FirstOfTasks) -> u64
     requires task { i.0 < length set.now.tasks }
     requires resource { q.0 < length set.now.resources }
+    requires first { AreFirst set.now q.0 first.now.longest first.now.all }
     ensures value { result ≡ longest_lower_holding set.now i.0 q.0 }
     ensures most { result ≤ 65000000000 }
 {
     let users = set.users(q);
     let mut longest = 0;
     for y in users {
-        longest = lower_holding(set, i, q, *y).max(longest);
+        longest = lower_holding(set, i, q, first, *y).max(longest);
     }
     longest
+}
+
+/// What others may do with `q` while `i` waits for it.
+pub(crate) fn other_holders(set: &TaskSet, i: TaskId, q: ResourceId) -> OtherHolders
+    requires task { i.0 < length set.now.tasks }
+    requires resource { q.0 < length set.now.resources }
+    ensures { AreHolders set.now i.0 q.0 result }
+{
+    let first = first_of_tasks(set, q);
+    let lower = longest_lower_holding(set, i, q, &first);
+    OtherHolders { first, lower }
 }

@@ -16,8 +16,10 @@ ghost use Rattle.closer_mpcp_laws.specs.CloserMpcpRows.{shared_holding_row, reso
 ghost use Rattle.closer_mpcp_laws.specs.CloserMpcpRows.{shared_interval_row, lower_wait_row, further_rows};
 ghost use Rattle.mpcp_window_laws.specs.WaitRows.{held_in_waits, wait_rows};
 ghost use Rattle.shared_requests.specs.Held.{AreSharedOut};
+ghost use Rattle.closer_mpcp.specs.Tables.{AreHeldBesideEach};
 ghost use Rattle.closer_mpcp.specs.Windows.{AreWaitWindows};
 
+use crate::held::held_beside_each;
 use crate::holdings::{run_beside_away_holdings, shared_holdings};
 use crate::wait_rows::add_wait_rows;
 use crate::windows::wait_windows;
@@ -63,17 +65,16 @@ impl RowKind for SharedHoldingRow {
     }
 }
 
-/// The rows of shared holdings of each task, with what is shared out, and the windows of the analysed task's requests.
+/// The rows of shared holdings of each task, with what can be held beside each.
 #[derive(Drop)]
 struct SharedHoldingRows<'a> {
-    shared: &'a [bool],
-    windows: &'a [Option<u64>],
+    held: &'a [[u64; 32]],
 }
 
 impl<'a> PerTask for SharedHoldingRows<'a> {
     ghost rows_of = { λ k set i x. shared_holding_row set (held_in_waits set i) i x ∷ [] };
 
-    ghost fits = { λ k set i bounds. AreSharedOut set i k.shared.now × AreWaitWindows set (slice_index bounds) i k.windows.now };
+    ghost fits = { λ k set i bounds. AreHeldBesideEach set (slice_index bounds) i k.held.now };
 
     fn add<T: RowTaker>(
         &self,
@@ -94,7 +95,7 @@ impl<'a> PerTask for SharedHoldingRows<'a> {
             return Ok(());
         }
         let row = SharedHoldingRow { task: x };
-        let most = shared_holdings(set, i, x, None, self.shared, bounds, self.windows);
+        let most = shared_holdings(set, i, x, None, bounds, self.held);
         add_row_limited(alloc, taker, &row, set, i, bounds, columns, stretch, most)
     }
 }
@@ -121,8 +122,7 @@ impl RowKind for ResourceHoldingRow {
 /// The rows of holdings by resource, of each task and each resource, with the same.
 #[derive(Drop)]
 struct ResourceHoldingRows<'a> {
-    shared: &'a [bool],
-    windows: &'a [Option<u64>],
+    held: &'a [[u64; 32]],
 }
 
 impl<'a> PerRequest for ResourceHoldingRows<'a> {
@@ -132,7 +132,7 @@ impl<'a> PerRequest for ResourceHoldingRows<'a> {
 
     ghost apart = { λ k set i x q c other. rw other refl };
 
-    ghost fits = { λ k set i bounds. AreSharedOut set i k.shared.now × AreWaitWindows set (slice_index bounds) i k.windows.now };
+    ghost fits = { λ k set i bounds. AreHeldBesideEach set (slice_index bounds) i k.held.now };
 
     fn add<T: RowTaker>(
         &self,
@@ -157,7 +157,7 @@ impl<'a> PerRequest for ResourceHoldingRows<'a> {
             task: x,
             resource: q,
         };
-        let most = shared_holdings(set, i, x, Some(q), self.shared, bounds, self.windows);
+        let most = shared_holdings(set, i, x, Some(q), bounds, self.held);
         add_row_limited(alloc, taker, &row, set, i, bounds, columns, stretch, most)
     }
 }
@@ -275,24 +275,22 @@ fn add_holding_rows<T: RowTaker>(
     bounds: &[u64],
     columns: &[Fragment],
     places: &[TaskPlace],
-    shared: &[bool],
-    windows: &[Option<u64>],
+    held: &[[u64; 32]],
 ) -> Result<(), AllocError>
     requires task { i.0 < length set.now.tasks }
     requires within { AreWithinDeadlines set.now bounds.now }
     requires known { AreKnown (length set.now.tasks) (length set.now.resources) columns.now }
     requires order { AreInOrder columns.now }
     requires places { ArePlaces set.now (slice_index bounds.now) i.0 (length set.now.tasks) columns.now places.now }
-    requires shared { AreSharedOut set.now i.0 shared.now }
-    requires windows { AreWaitWindows set.now (slice_index bounds.now) i.0 windows.now }
+    requires held { AreHeldBesideEach set.now (slice_index bounds.now) i.0 held.now }
     ensures { OnOk result (T.takes taker.old (map column_seen columns.now)
         (per (length set.now.tasks) (shared_holding_row set.now (held_in_waits set.now i.0) i.0)
         ++ per_pair (length set.now.tasks) (length set.now.resources) (resource_holding_row set.now (held_in_waits set.now i.0) i.0))
         bounds.now taker.new) }
 {
-    let of_tasks = SharedHoldingRows { shared, windows };
+    let of_tasks = SharedHoldingRows { held };
     add_per_task(alloc, taker, &of_tasks, set, i, bounds, columns, places)?;
-    let of_requests = ResourceHoldingRows { shared, windows };
+    let of_requests = ResourceHoldingRows { held };
     let tasks = set.tasks();
     add_per_request_at(
         alloc,
@@ -365,7 +363,7 @@ fn add_single_rows<T: RowTaker>(
     Ok(())
 }
 
-// Adds the rows that the closer analysis had without windows of waits, in their order, with the limits that these windows give.
+// Adds the rows below those of waits, in their order.
 fn add_further_rows<T: RowTaker>(
     alloc: Global,
     taker: &mut T,
@@ -387,9 +385,8 @@ fn add_further_rows<T: RowTaker>(
 {
     let shared = shared_out(alloc, set, i)?;
     let intervals = 1 + requests_shared_out(set, i, &shared);
-    add_holding_rows(
-        alloc, taker, set, i, bounds, columns, places, &shared, windows,
-    )?;
+    let held = held_beside_each(alloc, set, i, &shared, bounds, windows)?;
+    add_holding_rows(alloc, taker, set, i, bounds, columns, places, &held)?;
     let of_away = EachTask(AwayRow { shared: &shared });
     add_per_task(alloc, taker, &of_away, set, i, bounds, columns, places)?;
     add_interval_rows(alloc, taker, set, i, bounds, columns, places, intervals)?;

@@ -4,8 +4,9 @@ ghost use Rattle.std.specs.Prelude.{◌≡◌, ◌<◌, ◌≤◌, length, slice
 ghost use Rattle.sporadic_model.specs.SetDef.{task_at};
 ghost use Rattle.program_sources.specs.Bounds.{AreWithinDeadlines};
 ghost use Rattle.mpcp_window_laws.specs.MpcpWindows.{wait_window};
+ghost use Rattle.closer_mpcp.specs.Tables.{AreHolders};
 
-use crate::lower_holders::longest_lower_holding;
+use crate::lower_holders::{OtherHolders, other_holders};
 use crate::ticks::ticks_held;
 use sporadic_model::{ResourceId, TaskId, TaskSet};
 
@@ -13,6 +14,33 @@ use sporadic_model::{ResourceId, TaskId, TaskSet};
 /// is at least as long as other tasks may hold `q` in that many ticks. None exactly if no such number is within the deadline of `i`. The
 /// search goes up: if a number isn't enough, no number is that is less than the ticks for which `q` may be held in that many. It takes no
 /// memory.
+pub(crate) fn window_with(
+    set: &TaskSet,
+    i: TaskId,
+    q: ResourceId,
+    bounds: &[u64],
+    holders: &OtherHolders,
+) -> Option<u64>
+    requires task { i.0 < length set.now.tasks }
+    requires resource { q.0 < length set.now.resources }
+    requires within { AreWithinDeadlines set.now bounds.now }
+    requires holders { AreHolders set.now i.0 q.0 holders.now }
+    ensures value { result ≡ wait_window set.now (slice_index bounds.now) i.0 q.0 }
+    ensures within { IfSome result (λ w. (1 ≤ w) × (w ≤ (task_at set.now i.0).deadline)) }
+{
+    let deadline = set.deadline(i);
+    let mut span = 1u64;
+    while span <= deadline {
+        let held = ticks_held(set, i, q, bounds, holders, span);
+        if held <= u128::from(span) {
+            return Some(span);
+        }
+        span = held.min(u128::from(deadline) + 1) as u64;
+    }
+    None
+}
+
+/// The same, where it isn't known yet what others may do with `q`.
 pub(crate) fn wait_window(set: &TaskSet, i: TaskId, q: ResourceId, bounds: &[u64]) -> Option<u64>
     requires task { i.0 < length set.now.tasks }
     requires resource { q.0 < length set.now.resources }
@@ -20,15 +48,5 @@ pub(crate) fn wait_window(set: &TaskSet, i: TaskId, q: ResourceId, bounds: &[u64
     ensures value { result ≡ wait_window set.now (slice_index bounds.now) i.0 q.0 }
     ensures within { IfSome result (λ w. (1 ≤ w) × (w ≤ (task_at set.now i.0).deadline)) }
 {
-    let deadline = set.deadline(i);
-    let lower = longest_lower_holding(set, i, q);
-    let mut span = 1u64;
-    while span <= deadline {
-        let held = ticks_held(set, i, q, bounds, lower, span);
-        if held <= u128::from(span) {
-            return Some(span);
-        }
-        span = held.min(u128::from(deadline) + 1) as u64;
-    }
-    None
+    window_with(set, i, q, bounds, &other_holders(set, i, q))
 }

@@ -1,14 +1,14 @@
 //! For how many ticks other tasks may hold a resource in a span of ticks from the issue of a request on.
 
-ghost use Rattle.std.specs.Prelude.{◌≡◌, ◌<◌, ◌≤◌, ◌*◌, ◌&&◌, nat_lt, length, slice_index};
+ghost use Rattle.std.specs.Prelude.{◌≡◌, ◌<◌, ◌≤◌, ◌*◌, nat_lt, length, slice_index};
 ghost use Rattle.number_laws.specs.Sums.{only_if, sum_below};
 ghost use Rattle.program_sources.specs.Bounds.{AreWithinDeadlines};
 ghost use Rattle.blocking_columns.specs.Windows.{jobs_during, requests_during};
-ghost use Rattle.mpcp_window_laws.specs.MpcpWindows.{may_run_instead, own_ticks, holdings_beside, ticks_instead};
-ghost use Rattle.mpcp_window_laws.specs.MpcpWindows.{longest_lower_holding, ticks_held};
+ghost use Rattle.mpcp_window_laws.specs.MpcpWindows.{own_ticks, holdings_beside, ticks_instead, ticks_held};
+ghost use Rattle.closer_mpcp.specs.Tables.{AreFirst, AreHoldings, AreHolders};
 
-use crate::first_ticks::first_ticks;
-use crate::lower_holders::may_run_instead;
+use crate::first_ticks::FirstOfTasks;
+use crate::lower_holders::OtherHolders;
 use sporadic_model::{ResourceId, TaskId, TaskSet, jobs_in};
 
 /// How many jobs of `x` can run in a span of ticks?
@@ -80,39 +80,51 @@ fn own_ticks(set: &TaskSet, i: TaskId, q: ResourceId, bounds: &[u64], span: u64)
     total
 }
 
-// How often may jobs of `y` hold `q` in the span, if it is higher than `i` and `x` may run instead?
-fn holdings_by(
-    set: &TaskSet,
-    i: TaskId,
-    q: ResourceId,
-    bounds: &[u64],
-    span: u64,
-    x: TaskId,
-    y: TaskId,
-) -> u64
+// How often may jobs of `y` hold `q` in the span, if it is higher than `i`?
+fn holdings_by(set: &TaskSet, i: TaskId, q: ResourceId, bounds: &[u64], span: u64, y: TaskId) -> u64
     requires resource { q.0 < length set.now.resources }
-    requires runner { x.0 < length set.now.tasks }
     requires holder { y.0 < length set.now.tasks }
     requires within { AreWithinDeadlines set.now bounds.now }
     requires span { span ≤ 1000000000 }
-    ensures value { result ≡ only_if (nat_lt y.0 i.0 && may_run_instead set.now i.0 y.0 x.0)
-        (requests_during set.now (slice_index bounds.now) span y.0 q.0) }
+    ensures value { result ≡ only_if (nat_lt y.0 i.0) (requests_during set.now (slice_index bounds.now) span y.0 q.0) }
     ensures most { result ≤ 2000000000000 }
 {
-    if y < i && may_run_instead(set, i, y, x) {
-        set.count(y, q) * jobs_during(set, bounds, span, y)
+    let count = set.count(y, q);
+    // most tasks don't request it
+    if y < i && count > 0 {
+        count * jobs_during(set, bounds, span, y)
     } else {
         0
     }
 }
 
-// How often may jobs of higher tasks hold it so?
+// How often may jobs of higher tasks hold it so, on each processor?
+fn holdings_on(set: &TaskSet, i: TaskId, q: ResourceId, bounds: &[u64], span: u64) -> [u64; 65]
+    requires task { i.0 < length set.now.tasks }
+    requires resource { q.0 < length set.now.resources }
+    requires within { AreWithinDeadlines set.now bounds.now }
+    requires span { span ≤ 1000000000 }
+    ensures { AreHoldings set.now (slice_index bounds.now) i.0 q.0 span result }
+{
+    // a set has at most 64 tasks, so each sum fits, and at most 64 processors, which are counted from 1
+    let _tasks = set.tasks();
+    let users = set.users(q);
+    let mut holdings = [0u64; 65];
+    for y in users {
+        let by_user = holdings_by(set, i, q, bounds, span, *y);
+        holdings[set.processor(*y) as usize] += by_user;
+    }
+    holdings
+}
+
+// How often may jobs of higher tasks hold it so that `x` may run instead? These are on its processor, and aren't its own.
 fn holdings_beside(
     set: &TaskSet,
     i: TaskId,
     q: ResourceId,
     bounds: &[u64],
     span: u64,
+    holdings: &[u64],
     x: TaskId,
 ) -> u64
     requires task { i.0 < length set.now.tasks }
@@ -120,51 +132,74 @@ fn holdings_beside(
     requires runner { x.0 < length set.now.tasks }
     requires within { AreWithinDeadlines set.now bounds.now }
     requires span { span ≤ 1000000000 }
+    requires holdings { AreHoldings set.now (slice_index bounds.now) i.0 q.0 span holdings.now }
     ensures value { result ≡ holdings_beside set.now (slice_index bounds.now) i.0 q.0 span x.0 }
     ensures most { result ≤ 128000000000000 }
 {
-    // a set has at most 64 tasks, so the sum fits
-    let _tasks = set.tasks();
-    let users = set.users(q);
-    let mut total = 0;
-    for y in users {
-        total += holdings_by(set, i, q, bounds, span, x, *y);
+    if x == i {
+        return 0;
     }
-    total
+    // a set has at most 64 processors
+    let _tasks = set.tasks();
+    holdings[set.processor(x) as usize] - holdings_by(set, i, q, bounds, span, x)
 }
 
 // For how many ticks may `x` run instead? It runs one request in each of these holdings, and no more than its jobs make.
-fn ticks_by(set: &TaskSet, i: TaskId, q: ResourceId, bounds: &[u64], span: u64, x: TaskId) -> u128
+fn ticks_by(
+    set: &TaskSet,
+    i: TaskId,
+    q: ResourceId,
+    bounds: &[u64],
+    first: &FirstOfTasks,
+    span: u64,
+    holdings: &[u64],
+    x: TaskId,
+) -> u128
     requires task { i.0 < length set.now.tasks }
     requires resource { q.0 < length set.now.resources }
     requires runner { x.0 < length set.now.tasks }
     requires within { AreWithinDeadlines set.now bounds.now }
+    requires first { AreFirst set.now q.0 first.now.longest first.now.all }
     requires span { span ≤ 1000000000 }
+    requires holdings { AreHoldings set.now (slice_index bounds.now) i.0 q.0 span holdings.now }
     ensures value { result ≡ ticks_instead set.now (slice_index bounds.now) i.0 q.0 span x.0 }
     ensures most { result ≤ 64000000000000000000000 }
 {
-    let beside = holdings_beside(set, i, q, bounds, span, x);
+    let longest = first.longest[x.0 as usize];
+    // most tasks have no request that goes first
+    if longest == 0 {
+        return 0;
+    }
+    let beside = holdings_beside(set, i, q, bounds, span, holdings, x);
     // beside most tasks no higher one holds it
     if beside == 0 {
         return 0;
     }
-    let first = first_ticks(set, x, q);
-    let instead = u128::from(beside) * u128::from(first.longest);
-    instead.min(ticks_of_jobs(set, bounds, span, x, first.all))
+    let instead = u128::from(beside) * u128::from(longest);
+    instead.min(ticks_of_jobs(set, bounds, span, x, first.all[x.0 as usize]))
 }
 
 // For how many ticks may all tasks run instead of the holders?
-fn ticks_instead(set: &TaskSet, i: TaskId, q: ResourceId, bounds: &[u64], span: u64) -> u128
+fn ticks_instead(
+    set: &TaskSet,
+    i: TaskId,
+    q: ResourceId,
+    bounds: &[u64],
+    first: &FirstOfTasks,
+    span: u64,
+) -> u128
     requires task { i.0 < length set.now.tasks }
     requires resource { q.0 < length set.now.resources }
     requires within { AreWithinDeadlines set.now bounds.now }
+    requires first { AreFirst set.now q.0 first.now.longest first.now.all }
     requires span { span ≤ 1000000000 }
     ensures value { result ≡ sum_below (length set.now.tasks) (ticks_instead set.now (slice_index bounds.now) i.0 q.0 span) }
     ensures most { result ≤ 4096000000000000000000000 }
 {
+    let holdings = holdings_on(set, i, q, bounds, span);
     let mut total = 0u128;
     for x in 0..set.tasks() {
-        total += ticks_by(set, i, q, bounds, span, TaskId(x));
+        total += ticks_by(set, i, q, bounds, first, span, &holdings, TaskId(x));
     }
     total
 }
@@ -175,19 +210,19 @@ pub(crate) fn ticks_held(
     i: TaskId,
     q: ResourceId,
     bounds: &[u64],
-    lower: u64,
+    holders: &OtherHolders,
     span: u64,
 ) -> u128
     requires task { i.0 < length set.now.tasks }
     requires resource { q.0 < length set.now.resources }
     requires within { AreWithinDeadlines set.now bounds.now }
-    requires lower { lower ≡ longest_lower_holding set.now i.0 q.0 }
+    requires holders { AreHolders set.now i.0 q.0 holders.now }
     requires span { span ≤ 1000000000 }
     ensures { result ≡ ticks_held set.now (slice_index bounds.now) i.0 q.0 span }
 {
     // a set has at most 64 tasks, so the sum fits
     let _tasks = set.tasks();
     let own = own_ticks(set, i, q, bounds, span);
-    let instead = ticks_instead(set, i, q, bounds, span);
-    u128::from(lower) + (own + instead)
+    let instead = ticks_instead(set, i, q, bounds, &holders.first, span);
+    u128::from(holders.lower) + (own + instead)
 }

@@ -2,7 +2,8 @@ use Rattle.std.proofs.Common.{arith}
 use Rattle.std.specs.Prelude.{slice_index}
 use Rattle.blocking_columns.specs.Windows.{requests_in}
 use Rattle.closer_mpcp_laws.specs.CloserMpcpRows.{is_away}
-use Rattle.closer_mpcp.proofs.ListedSums.{all_users, users_few, none_made}
+use Rattle.mpcp_window_laws.proofs.WaitLimits.{none_by}
+use Rattle.closer_mpcp.proofs.ListedSums.{all_users, users_few}
 use Rattle.closer_mpcp.proofs.holdings.higher_away.Goals as goal
 
 pub overflow_add-total : goal.overflow_add-total
@@ -27,7 +28,7 @@ returns-clause-value c =
     let r = c.args.r.0 in
     all_users set i r (is_away set x) (λ y. requests_in set (slice_index c.args.bounds.now) i y r)
     c.users-users.result.now c.loop-y.y-index c.loop-y.total c.users-users.ensures.value c.requires.task
-    (λ y unused. none_made set (slice_index c.args.bounds.now) (slice_index c.args.bounds.now i) y r unused) (omega (arith, c.loop-y-test.false)) c.loop-y.invariant.value
+    (λ y unused. none_by set (slice_index c.args.bounds.now) (slice_index c.args.bounds.now i) y r unused) (omega (arith, c.loop-y-test.false)) c.loop-y.invariant.value
 
 pub returns-clause-most : goal.returns-clause-most
 returns-clause-most c =

@@ -6,10 +6,10 @@ use Rattle.sporadic_model.specs.declared.ids.ResourceId.{ResourceId}
 use Rattle.closer_mpcp.specs.Holdings.{counts, held_beside}
 use Rattle.closer_mpcp.proofs.holdings.shared_holdings.Given as goal
 
-abbrev pub invariant-loop-r : goal.invariant-loop-r
-invariant-loop-r l = record {
-  value : l.total + sum_by (λ (r : ResourceId). only_if (counts l.set l.i.0 l.x.0 l.q r.0) (held_beside l.set (slice_index l.bounds) l.i.0 l.x.0 r.0))
-      (drop l.r-index l.used)
-      ≡ sum_by (λ (r : ResourceId). only_if (counts l.set l.i.0 l.x.0 l.q r.0) (held_beside l.set (slice_index l.bounds) l.i.0 l.x.0 r.0)) l.used;
-  most : l.total ≤ l.r-index * 128000000001000;
+abbrev pub invariant-loop-k : goal.invariant-loop-k
+invariant-loop-k l = record {
+  value : l.total + sum_by (λ (r : ResourceId). only_if (counts l.set l.fn.i.0 l.x.0 l.q r.0) (held_beside l.set (slice_index l.fn.bounds) l.fn.i.0 l.x.0 r.0))
+      (drop l.k l.used)
+      ≡ sum_by (λ (r : ResourceId). only_if (counts l.set l.fn.i.0 l.x.0 l.q r.0) (held_beside l.set (slice_index l.fn.bounds) l.fn.i.0 l.x.0 r.0)) l.used;
+  most : l.total ≤ l.k * 128000000001000;
 }

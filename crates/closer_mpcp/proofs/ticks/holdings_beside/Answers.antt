@@ -1,42 +1,39 @@
-use Rattle.std.proofs.Common.{arith}
+use Rattle.std.proofs.Common.{◌≡◌, ◌+◌, ◌<◌, ℕ, true, sym, ◌∙◌, subst, arith}
 use Rattle.std.specs.Prelude.{slice_index}
+use Rattle.std.proofs.lemmas.Bool.{eq-eqb, eqb-true}
 use Rattle.blocking_columns.specs.Windows.{requests_during}
-use Rattle.mpcp_window_laws.specs.MpcpWindows.{may_run_instead}
-use Rattle.closer_mpcp.proofs.ListedSums.{all_users, users_few, none_made}
+use Rattle.mpcp_window_laws.specs.MpcpWindows.{holdings_beside}
+use Rattle.closer_mpcp.proofs.OnProcessors.{beside_and_own, none_for_itself}
 use Rattle.closer_mpcp.proofs.ticks.holdings_beside.Goals as goal
 
-pub overflow_add-total : goal.overflow_add-total
-overflow_add-total c =
-    let users = c.users-users.result.now in
-    let few = users_few c.args.set.now c.args.q.0 users c.users-users.ensures.value in
-    omega (
-      arith,
-      few,
-      c.loop-y-test.true,
-      c.tasks-tasks.ensures.value,
-      c.tasks-tasks.ensures.most,
-      c.loop-y.invariant.most,
-      c.holdings_by-total.ensures.most,
-    )
-
-pub returns-clause-value : goal.returns-clause-value
-returns-clause-value c =
+pub returns-then-eq-clause-value : goal.returns-then-eq-clause-value
+returns-then-eq-clause-value c =
     let set = c.args.set.now in
     let i = c.args.i.0 in
-    let x = c.args.x.0 in
-    let q = c.args.q.0 in
-    all_users set i q (λ y. may_run_instead set i y x) (λ y. requests_during set (slice_index c.args.bounds.now) c.args.span y q)
-    c.users-users.result.now c.loop-y.y-index c.loop-y.total c.users-users.ensures.value c.requires.task
-    (λ y unused. none_made set (slice_index c.args.bounds.now) c.args.span y q unused) (omega (arith, c.loop-y-test.false)) c.loop-y.invariant.value
+    let bounds = slice_index c.args.bounds.now in
+    let same : i ≡ c.args.x.0 = sym (eqb-true c.args.x.0 i (sym c.eq.ensures ∙ c.if-eq.true)) in
+    subst (λ (x : ℕ). 0 ≡ holdings_beside set bounds i c.args.q.0 c.args.span x) same
+    (sym (none_for_itself set i (λ y. requests_during set bounds c.args.span y c.args.q.0)))
 
-pub returns-clause-most : goal.returns-clause-most
-returns-clause-most c =
-    let few = users_few c.args.set.now c.args.q.0 c.users-users.result.now c.users-users.ensures.value in
-    omega (
-      arith,
-      few,
-      c.loop-y.auto.y-index-end,
-      c.tasks-tasks.ensures.value,
-      c.tasks-tasks.ensures.most,
-      c.loop-y.invariant.most,
-    )
+pub bounds-holdings-processor : goal.bounds-holdings-processor
+bounds-holdings-processor c =
+    omega (arith, c.processor.ensures.most, c.tasks-tasks.ensures.sizes.processors_to, c.requires.holdings.one_each)
+
+-- What higher tasks make on x's processor, its own and the others'.
+parts : (c : goal.After-holdings_by) → holdings_beside c.args.set.now (slice_index c.args.bounds.now) c.args.i.0 c.args.q.0 c.args.span c.args.x.0
+    + c.holdings_by.result ≡ slice_index c.args.holdings.now c.processor.result
+parts c =
+    let set = c.args.set.now in
+    let f : ℕ → ℕ = λ y. requests_during set (slice_index c.args.bounds.now) c.args.span y c.args.q.0 in
+    let other : c.args.x.0 ≡ c.args.i.0 → ⊥ = λ e.
+    let no : c.eq.result ≡ true = c.eq.ensures ∙ eq-eqb c.args.x.0 c.args.i.0 e in
+    absurd (cc) in
+    let most : c.processor.result < 65 = omega (arith, c.processor.ensures.most, c.tasks-tasks.ensures.sizes.processors_to) in
+    let all = c.requires.holdings.each c.processor.result most in
+    rw (c.holdings_by.ensures.value, c.processor.ensures.value) (beside_and_own set c.args.i.0 c.args.x.0 f other ∙ sym (rw c.processor.ensures.value at all))
+
+pub overflow_sub-result : goal.overflow_sub-result
+overflow_sub-result c = omega (arith, parts c)
+
+pub returns-clause-value : goal.returns-clause-value
+returns-clause-value c = omega (arith, parts c)

@@ -2,7 +2,7 @@ use Rattle.std.proofs.Common.{◌≤◌, ◌+◌, ◌-◌}
 use Rattle.std.specs.Prelude.{slice_index}
 use Rattle.window_laws.proofs.Enough.{NoneBelow}
 use Rattle.mpcp_window_laws.specs.MpcpWindows.{ticks_held}
-use Rattle.closer_mpcp.proofs.searching.wait_window.Given as goal
+use Rattle.closer_mpcp.proofs.searching.window_with.Given as goal
 
 abbrev pub invariant-loop-span : goal.invariant-loop-span
 invariant-loop-span l = record {

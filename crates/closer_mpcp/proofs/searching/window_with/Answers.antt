@@ -4,7 +4,7 @@ use Rattle.sporadic_model.specs.SetDef.{task_at}
 use Rattle.window_laws.proofs.Enough.{none_below_next, least_is, none_is}
 use Rattle.mpcp_window_laws.specs.MpcpWindows.{ticks_held}
 use Rattle.mpcp_window_laws.proofs.Rising.{ticks_held_rise}
-use Rattle.closer_mpcp.proofs.searching.wait_window.Goals as goal
+use Rattle.closer_mpcp.proofs.searching.window_with.Goals as goal
 
 pub returns-then-held-from-clause-value : goal.returns-then-held-from-clause-value
 returns-then-held-from-clause-value c =

@@ -1,0 +1,112 @@
+-- Holdings summed by processor, and those beside a task.
+use Rattle.std.proofs.Common.{◌≡◌, ℕ, suc, ◌+◌, ◌<◌, ◌≤◌, ◌==◌, ◌&&◌, Bool, true, false, nat_lt, List, length, drop}
+use Rattle.std.proofs.Common.{refl, sym, ap, ◌∙◌, arith, inl, inr}
+use Rattle.std.specs.Prelude.{slice_index, slice_index_or, slice_set}
+use Rattle.std.proofs.Math.Seq.{drop-cons}
+use Rattle.std.proofs.Math.Numerals.{add-one}
+use Rattle.std.proofs.lemmas.Bool.{cases_eq, cases_lt, eq-eqb, ne_eqb, lt-ltb, le-ltb}
+use Rattle.std.proofs.lemmas.List.{get_or-set_other}
+use Rattle.std.proofs.lemmas.List.Sums.{sum_by-cons}
+use Rattle.std.proofs.lemmas.Grind.{get_or-set_at}
+use Rattle.number_laws.specs.Sums.{sum_below, only_if}
+use Rattle.number_laws.proofs.SumLaws.{sum_below-agree, sum_below-plus, sum_below-one, sum_below-zero, only_if-true, only_if-false}
+use Rattle.sporadic_model.specs.SetDef.{SetDef, task_at}
+use Rattle.sporadic_model.specs.declared.ids.TaskId.{TaskId}
+use Rattle.mpcp_window_laws.specs.MpcpWindows.{may_run_instead}
+use Rattle.closer_mpcp.proofs.ListedSums.{made_by}
+
+-- One listed task's holdings are added at its processor.
+pub added : (i : ℕ) (p f : ℕ → ℕ) (ys : List TaskId) (d : TaskId) (j k at n total : ℕ) (holdings : List ℕ) → j < length ys
+    → n ≡ only_if (nat_lt (slice_index_or ys j d).0 i) (f (slice_index_or ys j d).0) → at ≡ p (slice_index_or ys j d).0 → at < length holdings
+    → slice_index holdings k + made_by i (λ y. p y == k) f (drop j ys) ≡ total
+    → slice_index (slice_set holdings at (slice_index holdings at + n)) k + made_by i (λ y. p y == k) f (drop (j + 1) ys) ≡ total
+added i p f ys d j k at n total holdings l made here within sums =
+    let y : TaskId = slice_index_or ys j d in
+    let g : TaskId → ℕ = λ y. only_if (nat_lt y.0 i && (p y.0 == k)) (f y.0) in
+    let rest : made_by i (λ y. p y == k) f (drop (j + 1) ys) ≡ made_by i (λ y. p y == k) f (drop (suc j) ys) =
+    ap (λ m. made_by i (λ y. p y == k) f (drop m ys)) (add-one j) in
+    let step : made_by i (λ y. p y == k) f (drop j ys) ≡ g y + made_by i (λ y. p y == k) f (drop (suc j) ys) =
+    ap (λ (zs : List TaskId). made_by i (λ y. p y == k) f zs) (drop-cons ys j d l) ∙ sum_by-cons g y (drop (suc j) ys) in
+    elim (cases_eq k at) [
+      | inl same ↦
+          let new : slice_index (slice_set holdings at (slice_index holdings at + n)) k ≡ slice_index holdings at + n =
+          get_or-set_at holdings at k (slice_index holdings at + n) 0 same within in
+          let old : slice_index holdings k ≡ slice_index holdings at = ap (slice_index holdings) same in
+          let term : g y ≡ n = rw (eq-eqb (p y.0) k (sym here ∙ sym same)) (both_pass (nat_lt y.0 i) (f y.0) ∙ sym made) in
+          omega (arith, new, old, term, rest, step, sums)
+      | inr other ↦
+          let new : slice_index (slice_set holdings at (slice_index holdings at + n)) k ≡ slice_index holdings k =
+          get_or-set_other holdings at k (slice_index holdings at + n) 0 other in
+          let term : g y ≡ 0 = rw (ne_eqb (p y.0) k (λ e. other (sym e ∙ sym here))) (none_passes (nat_lt y.0 i) (f y.0)) in
+          omega (arith, new, term, rest, step, sums)
+    ] where
+      both_pass : (b : Bool) (m : ℕ) → only_if (b && true) m ≡ only_if b m
+      both_pass true m = refl
+      both_pass false m = refl
+
+      none_passes : (b : Bool) (m : ℕ) → only_if (b && false) m ≡ 0
+      none_passes true m = refl
+      none_passes false m = refl
+
+-- None of the sums grows by more than what is added.
+pub added_most : (at k n most more : ℕ) (holdings : List ℕ) → at < length holdings
+    → ((k : ℕ) → k < length holdings → slice_index holdings k ≤ most) → n ≤ more → k < length holdings
+    → slice_index (slice_set holdings at (slice_index holdings at + n)) k ≤ most + more
+added_most at k n most more holdings within each few l = elim (cases_eq k at) [
+  | inl same ↦ omega (arith, get_or-set_at holdings at k (slice_index holdings at + n) 0 same within, each at within, few)
+  | inr other ↦ omega (arith, get_or-set_other holdings at k (slice_index holdings at + n) 0 other, each k l, few)
+]
+
+-- Another task on x's processor than x and i makes the one, and x itself the other.
+split : (set : SetDef) (i x y m : ℕ) → (x ≡ i → ⊥)
+    → only_if (may_run_instead set i y x) m + only_if (y == x) m ≡ only_if ((task_at set y).processor == (task_at set x).processor) m
+split set i x y m other = elim (cases_eq x y) [
+  | inl same ↦ rw (
+    eq-eqb x y same,
+    eq-eqb y x (sym same),
+    eq-eqb (task_at set y).processor (task_at set x).processor (ap (λ t. (task_at set t).processor) (sym same)),
+  ) (omega arith)
+  | inr apart ↦ elim (cases_eq (task_at set x).processor (task_at set y).processor) [
+    | inl there ↦ rw (
+      ne_eqb x y apart,
+      ne_eqb y x (λ e. apart (sym e)),
+      ne_eqb x i other,
+      eq-eqb (task_at set x).processor (task_at set y).processor there,
+      eq-eqb (task_at set y).processor (task_at set x).processor (sym there),
+    ) (omega arith)
+    | inr away ↦ rw (
+      ne_eqb x y apart,
+      ne_eqb y x (λ e. apart (sym e)),
+      ne_eqb (task_at set x).processor (task_at set y).processor away,
+      ne_eqb (task_at set y).processor (task_at set x).processor (λ e. away (sym e)),
+    ) refl
+  ]
+]
+
+-- Of the tasks higher than i one may be x.
+own_term : (i x : ℕ) (f : ℕ → ℕ) → sum_below i (λ y. only_if (y == x) (f y)) ≡ only_if (nat_lt x i) (f x)
+own_term i x f = elim (cases_lt x i) [
+  | inl higher ↦ sum_below-one i (λ y. only_if (y == x) (f y)) x higher (λ y l other. only_if-false (y == x) (f y) (ne_eqb y x other))
+      ∙ (only_if-true (x == x) (f x) (eq-eqb x x refl) ∙ sym (only_if-true (nat_lt x i) (f x) (lt-ltb x i higher)))
+  | inr lower ↦ sum_below-zero i (λ y. only_if (y == x) (f y))
+      (λ y l. only_if-false (y == x) (f y) (ne_eqb y x (λ e. absurd (omega (arith, e, l, lower)))))
+      ∙ sym (only_if-false (nat_lt x i) (f x) (le-ltb x i (omega (arith, lower))))
+]
+
+-- What higher tasks make on x's processor, x itself makes, or those that x may run instead of.
+pub beside_and_own : (set : SetDef) (i x : ℕ) (f : ℕ → ℕ) → (x ≡ i → ⊥)
+    → sum_below i (λ y. only_if (may_run_instead set i y x) (f y)) + only_if (nat_lt x i) (f x)
+    ≡ sum_below i (λ y. only_if ((task_at set y).processor == (task_at set x).processor) (f y))
+beside_and_own set i x f other =
+    ap (λ m. sum_below i (λ y. only_if (may_run_instead set i y x) (f y)) + m) (sym (own_term i x f))
+    ∙ (sym (sum_below-plus i (λ y. only_if (may_run_instead set i y x) (f y)) (λ y. only_if (y == x) (f y)))
+    ∙ sum_below-agree i (λ y. only_if (may_run_instead set i y x) (f y) + only_if (y == x) (f y))
+    (λ y. only_if ((task_at set y).processor == (task_at set x).processor) (f y)) (λ y l. split set i x y (f y) other))
+
+-- The analysed task runs instead of none.
+pub none_for_itself : (set : SetDef) (i : ℕ) (f : ℕ → ℕ) → sum_below i (λ y. only_if (may_run_instead set i y i) (f y)) ≡ 0
+none_for_itself set i f = sum_below-zero i (λ y. only_if (may_run_instead set i y i) (f y))
+    (λ y l. rw (eq-eqb i i refl) (none_passes _ (f y))) where
+      none_passes : (b : Bool) (m : ℕ) → only_if (b && false) m ≡ 0
+      none_passes true m = refl
+      none_passes false m = refl

@@ -1,0 +1,52 @@
+-- What searches and limits look up. In each, i is the analysed task.
+use Rattle.std.specs.Prelude.{◌≡◌, ℕ, ◌<◌, ◌≤◌, ◌==◌, List, [], length, slice_index, slice_index_or}
+use Rattle.number_laws.specs.Sums.{sum_below, only_if}
+use Rattle.sporadic_model.specs.SetDef.{SetDef, task_at}
+use Rattle.sporadic_model.specs.Users.{used_by}
+use Rattle.blocking_columns.specs.Windows.{requests_during}
+use Rattle.closer_laws.specs.CloserRows.{is_shared_out}
+use Rattle.mpcp_window_laws.specs.MpcpWindows.{longest_first, time_first, longest_lower_holding}
+use Rattle.closer_mpcp.specs.Holdings.{held_beside}
+use Rattle.closer_mpcp.specs.declared.lower_holders.OtherHolders.{OtherHolders}
+
+-- Is it said of each task how long its requests last that go first while another task of its processor holds q: the longest one, and all
+-- that one job makes?
+pub record AreFirst (set : SetDef) (q : ℕ) (longest_each all_each : List ℕ) : Type 0 where
+  pub longest_enough : length set.tasks ≤ length longest_each
+  pub all_enough : length set.tasks ≤ length all_each
+  pub longest : (x : ℕ) → x < length set.tasks → slice_index longest_each x ≡ longest_first set x q
+  pub all : (x : ℕ) → x < length set.tasks → slice_index all_each x ≡ time_first set x q
+  pub longest_to : (x : ℕ) → x < length set.tasks → slice_index longest_each x ≤ 1000000000
+  pub all_to : (x : ℕ) → x < length set.tasks → slice_index all_each x ≤ 32000000000000
+
+-- Is this what others may do with q while i waits for it?
+pub record AreHolders (set : SetDef) (i q : ℕ) (holders : OtherHolders) : Type 0 where
+  pub first : AreFirst set q holders.first.longest holders.first.all
+  pub lower : holders.lower ≡ longest_lower_holding set i q
+  pub lower_to : holders.lower ≤ 65000000000
+
+-- How often may jobs of higher tasks hold q on processor k in a span of ticks?
+abbrev pub holdings_on : SetDef → (ℕ → ℕ) → ℕ → ℕ → ℕ → ℕ → ℕ
+holdings_on set bounds i q span k =
+    sum_below i (λ y. only_if ((task_at set y).processor == k) (requests_during set bounds span y q))
+
+-- Is it said of each processor?
+pub record AreHoldings (set : SetDef) (bounds : ℕ → ℕ) (i q span : ℕ) (holdings : List ℕ) : Type 0 where
+  pub one_each : length holdings ≡ 65
+  pub each : (k : ℕ) → k < 65 → slice_index holdings k ≡ holdings_on set bounds i q span k
+  pub small : (k : ℕ) → k < 65 → slice_index holdings k ≤ 128000000000000
+
+-- How many requests of r can be held beside x while i waits for them, if r is shared out?
+abbrev pub shared_beside : SetDef → (ℕ → ℕ) → ℕ → ℕ → ℕ → ℕ
+shared_beside set bounds i x r = only_if (is_shared_out set i r) (held_beside set bounds i x r)
+
+-- Is that said of each resource that i requests, in their order?
+pub record AreHeldBeside (set : SetDef) (bounds : ℕ → ℕ) (i x : ℕ) (held : List ℕ) : Type 0 where
+  pub enough : length held ≡ 32
+  pub each : (k : ℕ) → k < length (used_by set i) → slice_index held k ≡ shared_beside set bounds i x (slice_index (used_by set i) k)
+  pub small : (k : ℕ) → k < length (used_by set i) → slice_index held k ≤ 128000000001000
+
+-- And of each task?
+pub record AreHeldBesideEach (set : SetDef) (bounds : ℕ → ℕ) (i : ℕ) (held : List (List ℕ)) : Type 0 where
+  pub one_each : length held ≡ length set.tasks
+  pub each : (x : ℕ) → x < length set.tasks → AreHeldBeside set bounds i x (slice_index_or held x [])

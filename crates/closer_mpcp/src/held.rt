@@ -1,0 +1,116 @@
+//! What can be held beside each task, computed once for all rows of a program.
+
+ghost use Rattle.std.specs.Prelude.{◌≡◌, ◌<◌, ◌≤◌, length, slice_index, IfOk};
+ghost use Rattle.program_sources.specs.Bounds.{AreWithinDeadlines};
+ghost use Rattle.shared_requests.specs.Held.{AreSharedOut};
+ghost use Rattle.closer_mpcp.specs.Holdings.{held_beside};
+ghost use Rattle.closer_mpcp.specs.Tables.{shared_beside, AreHeldBeside, AreHeldBesideEach};
+ghost use Rattle.closer_mpcp.specs.Windows.{AreWaitWindows};
+
+use crate::holdings::lower_held;
+use crate::places::Place;
+use crate::waits::held_in_waits;
+use fragments::share_processor;
+use sporadic_model::{ResourceId, TaskId, TaskSet};
+use std::alloc::{AllocError, Global};
+
+// How many requests of `r` can be held beside `x` while a job of `i` waits for them? Higher tasks hold them within the windows of these
+// waits. Where `x` is on `i`'s processor no lower task holds one.
+fn held_beside(
+    set: &TaskSet,
+    i: TaskId,
+    x: TaskId,
+    r: ResourceId,
+    bounds: &[u64],
+    windows: &[Option<u64>],
+) -> u64
+    requires task { i.0 < length set.now.tasks }
+    requires runner { x.0 < length set.now.tasks }
+    requires resource { r.0 < length set.now.resources }
+    requires within { AreWithinDeadlines set.now bounds.now }
+    requires windows { AreWaitWindows set.now (slice_index bounds.now) i.0 windows.now }
+    ensures value { result ≡ held_beside set.now (slice_index bounds.now) i.0 x.0 r.0 }
+    ensures most { result ≤ 128000000001000 }
+{
+    let higher = held_in_waits(set, i, x, r, bounds, windows);
+    if share_processor(set, x, i) {
+        higher
+    } else {
+        higher + lower_held(set, Place::Beside, i, x, r)
+    }
+}
+
+// The same, if `r` is shared out.
+fn shared_beside(
+    set: &TaskSet,
+    i: TaskId,
+    x: TaskId,
+    r: ResourceId,
+    shared: &[bool],
+    bounds: &[u64],
+    windows: &[Option<u64>],
+) -> u64
+    requires task { i.0 < length set.now.tasks }
+    requires runner { x.0 < length set.now.tasks }
+    requires resource { r.0 < length set.now.resources }
+    requires shared { AreSharedOut set.now i.0 shared.now }
+    requires within { AreWithinDeadlines set.now bounds.now }
+    requires windows { AreWaitWindows set.now (slice_index bounds.now) i.0 windows.now }
+    ensures value { result ≡ shared_beside set.now (slice_index bounds.now) i.0 x.0 r.0 }
+    ensures most { result ≤ 128000000001000 }
+{
+    if shared[r.0 as usize] {
+        held_beside(set, i, x, r, bounds, windows)
+    } else {
+        0
+    }
+}
+
+// The same for each resource that `i` requests, in their order.
+fn held_beside_task(
+    set: &TaskSet,
+    i: TaskId,
+    x: TaskId,
+    shared: &[bool],
+    bounds: &[u64],
+    windows: &[Option<u64>],
+) -> [u64; 32]
+    requires task { i.0 < length set.now.tasks }
+    requires runner { x.0 < length set.now.tasks }
+    requires shared { AreSharedOut set.now i.0 shared.now }
+    requires within { AreWithinDeadlines set.now bounds.now }
+    requires windows { AreWaitWindows set.now (slice_index bounds.now) i.0 windows.now }
+    ensures { AreHeldBeside set.now (slice_index bounds.now) i.0 x.0 result }
+{
+    // a set has at most 32 resources
+    let _resources = set.resources();
+    let used = set.used_by(i);
+    let mut held = [0u64; 32];
+    for k in 0..used.len() {
+        held[k] = shared_beside(set, i, x, used[k], shared, bounds, windows);
+    }
+    held
+}
+
+/// By task, and by resource that `i` requests: how many requests of the resource can be held beside the task while a job of `i` waits for
+/// them, if it is shared out.
+pub(crate) fn held_beside_each(
+    alloc: Global,
+    set: &TaskSet,
+    i: TaskId,
+    shared: &[bool],
+    bounds: &[u64],
+    windows: &[Option<u64>],
+) -> Result<Vec<[u64; 32]>, AllocError>
+    requires task { i.0 < length set.now.tasks }
+    requires shared { AreSharedOut set.now i.0 shared.now }
+    requires within { AreWithinDeadlines set.now bounds.now }
+    requires windows { AreWaitWindows set.now (slice_index bounds.now) i.0 windows.now }
+    ensures { IfOk result (λ v. AreHeldBesideEach set.now (slice_index bounds.now) i.0 v.items) }
+{
+    let mut held = Vec::with_capacity(alloc, set.tasks() as usize)?;
+    for x in 0..set.tasks() {
+        held.push(held_beside_task(set, i, TaskId(x), shared, bounds, windows))?;
+    }
+    Ok(held)
+}
