@@ -1,7 +1,10 @@
-use crate::simplex_tests::rows_of;
+ghost use Rattle.std.specs.Prelude.{◌<◌, length};
+
+use crate::simplex_tests::{judged, program_of};
 use crate::threads::may_cross_threads;
 use program_form::{Certificate, Dual, MOST_NUMBER, Program, ProgramRefusal, RowBlock};
 use std::alloc::{AllocError, Global};
+use std::process::Abort;
 
 const COSTS: [u64; 3] = [3, 2, 2];
 
@@ -17,80 +20,100 @@ const ROWS: &[&[u64]] = &[
 
 const LIMITS: [u64; 7] = [1, 1, 1, 4, 3, 1, 1];
 
+// The program has these costs and these limits.
+fn has_costs_and_limits(rt: &impl Abort, program: &Program, costs: &[u64], limits: &[u64]) {
+    for c in 0..program.columns() {
+        assert_eq!(rt; Some(program.cost(c)), costs.get(c as usize).copied());
+    }
+    for r in 0..program.rows() {
+        assert_eq!(rt; Some(program.limit(r)), limits.get(r as usize).copied());
+    }
+}
+
+// The program has this row.
+fn has_row(rt: &impl Abort, program: &Program, r: u32, row: &[u64])
+    requires { r < length program.now.rows }
+{
+    for c in 0..program.columns() {
+        assert_eq!(rt;
+            Some(program.entry(r, c)),
+            row.get(c as usize).copied(),
+            "row {r}, column {c}"
+        );
+    }
+}
+
 #[test]
 fn keeps_the_lists_that_it_is_given(rt: HostRuntime) -> Result<(), AllocError> {
-    let costs = Vec::from_slice(rt.alloc(), &COSTS)?;
-    let rows = rows_of(rt.alloc(), ROWS)?;
-    let limits = Vec::from_slice(rt.alloc(), &LIMITS)?;
-    let Ok(program) = Program::new(costs, rows, limits) else {
-        assert!(rt; false, "seven rows over three columns are a program");
-        return Ok(());
-    };
+    let program = program_of(&rt, rt.alloc(), &COSTS, ROWS, &LIMITS)?;
     may_cross_threads(&program);
     assert_eq!(rt; program.columns(), 3);
     assert_eq!(rt; program.rows(), 7);
-    for c in 0..program.columns() {
-        assert_eq!(rt; Some(program.cost(c)), COSTS.get(c as usize).copied());
-    }
+    has_costs_and_limits(&rt, &program, &COSTS, &LIMITS);
     for r in 0..program.rows() {
-        assert_eq!(rt; Some(program.limit(r)), LIMITS.get(r as usize).copied());
         let row = ROWS.get(r as usize).copied().unwrap_or(&[]);
-        for c in 0..program.columns() {
-            assert_eq!(rt;
-                Some(program.entry(r, c)),
-                row.get(c as usize).copied(),
-                "row {r}, column {c}"
-            );
-        }
+        has_row(&rt, &program, r, row);
     }
+    Ok(())
+}
+
+// The lists are refused with this answer.
+fn is_refused(
+    rt: &impl Abort,
+    alloc: Global,
+    costs: &[u64],
+    rows: &[&[u64]],
+    limits: &[u64],
+    wanted: ProgramRefusal,
+) -> Result<(), AllocError> {
+    let refusal = judged(rt, alloc, costs, rows, limits)?.err();
+    assert_eq!(rt; refusal, Some(wanted));
     Ok(())
 }
 
 #[test]
 fn refuses_in_order(rt: HostRuntime) -> Result<(), AllocError> {
     let alloc = rt.alloc();
-    let refusal = Program::new(vec![in alloc; 1]?, Vec::new(alloc), Vec::new(alloc)).err();
-    assert_eq!(rt; refusal, Some(ProgramRefusal::Uncovered(0)));
-    let refusal = Program::new(
-        vec![in alloc; 1]?,
-        vec![in alloc; vec![in alloc; 1, 1]?]?,
-        vec![in alloc; 1]?,
-    )
-    .err();
-    assert_eq!(rt; refusal, Some(ProgramRefusal::Length));
-    let refusal = Program::new(
-        vec![in alloc; MOST_NUMBER + 1]?,
-        vec![in alloc; vec![in alloc; 1]?]?,
-        vec![in alloc; 1]?,
-    )
-    .err();
-    assert_eq!(rt; refusal, Some(ProgramRefusal::Large));
-    let refusal = Program::new(
-        vec![in alloc; MOST_NUMBER + 1]?,
-        vec![in alloc; vec![in alloc; 1]?]?,
-        Vec::new(alloc),
-    )
-    .err();
-    assert_eq!(rt; refusal, Some(ProgramRefusal::Length));
+    let large = MOST_NUMBER + 1;
+    is_refused(&rt, alloc, &[1], &[], &[], ProgramRefusal::Uncovered(0))?;
+    is_refused(&rt, alloc, &[1], &[&[1, 1]], &[1], ProgramRefusal::Length)?;
+    is_refused(&rt, alloc, &[large], &[&[1]], &[1], ProgramRefusal::Large)?;
+    is_refused(&rt, alloc, &[large], &[&[1]], &[], ProgramRefusal::Length)
+}
+
+// The refusal is said in these words.
+fn is_said(
+    rt: &impl Abort,
+    alloc: Global,
+    refusal: ProgramRefusal,
+    words: &str,
+) -> Result<(), AllocError> {
+    let text = format!(in alloc; "{refusal}")?;
+    assert_eq!(rt; text.as_str(), words);
     Ok(())
 }
 
 #[test]
 fn says_why_lists_are_refused(rt: HostRuntime) -> Result<(), AllocError> {
     let alloc = rt.alloc();
-    assert_eq!(rt;
-        format!(in alloc; "{}", ProgramRefusal::Length)?.as_str(),
-        "rows and limits differ in number, or a row and the costs in length"
-    );
-    assert_eq!(rt;
-        format!(in alloc; "{}", ProgramRefusal::Uncovered(7))?.as_str(),
-        "column 7 has no coefficient above zero"
-    );
-    assert_eq!(rt;
-        format!(in alloc; "{}", ProgramRefusal::Large)?.as_str(),
-        "a number is above 2^63 - 1"
-    );
-    Ok(())
+    is_said(
+        &rt,
+        alloc,
+        ProgramRefusal::Length,
+        "rows and limits differ in number, or a row and the costs in length",
+    )?;
+    is_said(
+        &rt,
+        alloc,
+        ProgramRefusal::Uncovered(7),
+        "column 7 has no coefficient above zero",
+    )?;
+    is_said(
+        &rt,
+        alloc,
+        ProgramRefusal::Large,
+        "a number is above 2^63 - 1",
+    )
 }
 
 #[test]

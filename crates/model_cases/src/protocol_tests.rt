@@ -12,6 +12,7 @@ use protocol_programs::{ProgramSource, Written};
 use request_windows::DPCP_WINDOWS;
 use sporadic_model::{Protocol, ResourceId, TaskId, TaskSet};
 use std::alloc::{AllocError, Global};
+use std::process::Abort;
 use std::test::Fail;
 use worked_sets::{BESIDE, SetRow, set_of, suits};
 
@@ -29,6 +30,11 @@ pub(crate) fn are_within(set: &TaskSet, bounds: &[u64]) -> bool
     true
 }
 
+/// The set of the rows. The function has no contract, so what its callers know doesn't have the rows.
+fn built(alloc: Global, rows: SetRow<'_>) -> Result<TaskSet, Fail> {
+    Ok(set_of(alloc, rows)?)
+}
+
 /// The program of the case, made by the source of the protocol's programs.
 fn formed(alloc: Global, set: &TaskSet, case: &Case) -> Result<Program, Fail> {
     let task = TaskId(case.task);
@@ -36,6 +42,12 @@ fn formed(alloc: Global, set: &TaskSet, case: &Case) -> Result<Program, Fail> {
         return Ok(Written(case.protocol).program(alloc, set, task, case.bounds)?);
     }
     Err("out of range".into())
+}
+
+/// The program of the case, with its set built for it.
+fn program_of(alloc: Global, case: &Case) -> Result<Program, Fail> {
+    let set = built(alloc, case.set)?;
+    formed(alloc, &set, case)
 }
 
 /// Are these the columns?
@@ -57,38 +69,64 @@ fn row_of(alloc: Global, program: &Program, r: u32) -> Result<Vec<u64>, AllocErr
     Ok(row)
 }
 
+/// The columns of the case's program.
+fn columns_of(alloc: Global, case: &Case) -> Result<Vec<Fragment>, Fail> {
+    let set = built(alloc, case.set)?;
+    if case.task >= set.tasks() || !suits(&set, case.protocol) {
+        return Err("out of range".into());
+    }
+    Ok(blocking_columns::fragments(alloc, &set, case.protocol, TaskId(case.task))?)
+}
+
+fn has_columns(alloc: Global, case: &Case) -> Result<bool, Fail> {
+    Ok(are_columns(&columns_of(alloc, case)?, case.columns))
+}
+
 #[test]
 fn gives_the_columns(rt: HostRuntime) -> Result<(), Fail> {
     let alloc = rt.alloc();
     for case in CASES {
-        let set = set_of(alloc, case.set)?;
-        if case.task >= set.tasks() || !suits(&set, case.protocol) {
-            return Err("out of range".into());
-        }
-        let columns = blocking_columns::fragments(alloc, &set, case.protocol, TaskId(case.task))?;
-        assert!(rt; are_columns(&columns, case.columns));
+        assert!(rt; has_columns(alloc, case)?);
     }
     Ok(())
 }
 
+// The program has the costs and the limits of the case.
+fn has_costs_and_limits(rt: &impl Abort, program: &Program, case: &Case) {
+    assert_eq!(rt; program.columns() as usize, case.columns.len());
+    assert_eq!(rt; program.rows() as usize, case.limits.len());
+    for c in 0..program.columns() {
+        let wanted = case.columns.get(c as usize).copied();
+        assert_eq!(rt; Some(program.cost(c)), wanted.map(|column| column.3));
+    }
+    for r in 0..program.rows() {
+        assert_eq!(rt;
+            Some(program.limit(r)),
+            case.limits.get(r as usize).copied()
+        );
+    }
+}
+
 #[test]
 fn gives_the_costs_and_the_limits(rt: HostRuntime) -> Result<(), Fail> {
-    let alloc = rt.alloc();
     for case in CASES {
-        let set = set_of(alloc, case.set)?;
-        let program = formed(alloc, &set, case)?;
-        assert_eq!(rt; program.columns() as usize, case.columns.len());
-        assert_eq!(rt; program.rows() as usize, case.limits.len());
-        for c in 0..program.columns() {
-            let wanted = case.columns.get(c as usize).copied();
-            assert_eq!(rt; Some(program.cost(c)), wanted.map(|column| column.3));
-        }
-        for r in 0..program.rows() {
-            assert_eq!(rt;
-                Some(program.limit(r)),
-                case.limits.get(r as usize).copied()
-            );
-        }
+        let program = program_of(rt.alloc(), case)?;
+        has_costs_and_limits(&rt, &program, case);
+    }
+    Ok(())
+}
+
+// The program has the rows of the case.
+fn has_rows(
+    rt: &impl Abort,
+    alloc: Global,
+    program: &Program,
+    rows: &[&[u64]],
+) -> Result<(), AllocError> {
+    assert_eq!(rt; program.rows() as usize, rows.len());
+    for r in 0..program.rows() {
+        let row = row_of(alloc, program, r)?;
+        assert_eq!(rt; Some(row.as_slice()), rows.get(r as usize).copied());
     }
     Ok(())
 }
@@ -97,13 +135,8 @@ fn gives_the_costs_and_the_limits(rt: HostRuntime) -> Result<(), Fail> {
 fn gives_the_rows(rt: HostRuntime) -> Result<(), Fail> {
     let alloc = rt.alloc();
     for case in CASES {
-        let set = set_of(alloc, case.set)?;
-        let program = formed(alloc, &set, case)?;
-        assert_eq!(rt; program.rows() as usize, case.rows.len());
-        for r in 0..program.rows() {
-            let row = row_of(alloc, &program, r)?;
-            assert_eq!(rt; Some(row.as_slice()), case.rows.get(r as usize).copied());
-        }
+        let program = program_of(alloc, case)?;
+        has_rows(&rt, alloc, &program, case.rows)?;
     }
     Ok(())
 }
@@ -115,6 +148,11 @@ fn formed_sparse(alloc: Global, set: &TaskSet, case: &Case) -> Result<SparseProg
         return Ok(Written(case.protocol).sparse_program(alloc, set, task, case.bounds)?);
     }
     Err("out of range".into())
+}
+
+fn sparse_program_of(alloc: Global, case: &Case) -> Result<SparseProgram, Fail> {
+    let set = built(alloc, case.set)?;
+    formed_sparse(alloc, &set, case)
 }
 
 /// The coefficients of a row that aren't zero.
@@ -131,22 +169,32 @@ fn nonzero_of(alloc: Global, program: &Program, r: u32) -> Result<Vec<Coefficien
     Ok(row)
 }
 
+// Both are the same program.
+fn are_the_same(
+    rt: &impl Abort,
+    alloc: Global,
+    sparse: &SparseProgram,
+    program: &Program,
+) -> Result<(), AllocError> {
+    assert!(rt; sparse.columns() == program.columns() && sparse.rows() == program.rows());
+    for c in 0..program.columns() {
+        assert_eq!(rt; sparse.cost(c), program.cost(c));
+    }
+    assert_eq!(rt; sparse.limits(), program.limits());
+    for r in 0..program.rows() {
+        let row = nonzero_of(alloc, program, r)?;
+        assert_eq!(rt; sparse.coefficients(r as usize), row.as_slice());
+    }
+    Ok(())
+}
+
 #[test]
 fn gives_the_same_programs_by_their_nonzero_coefficients(rt: HostRuntime) -> Result<(), Fail> {
     let alloc = rt.alloc();
     for case in CASES {
-        let set = set_of(alloc, case.set)?;
-        let program = formed(alloc, &set, case)?;
-        let sparse = formed_sparse(alloc, &set, case)?;
-        assert!(rt; sparse.columns() == program.columns() && sparse.rows() == program.rows());
-        for c in 0..program.columns() {
-            assert_eq!(rt; sparse.cost(c), program.cost(c));
-        }
-        assert_eq!(rt; sparse.limits(), program.limits());
-        for r in 0..program.rows() {
-            let row = nonzero_of(alloc, &program, r)?;
-            assert_eq!(rt; sparse.coefficients(r as usize), row.as_slice());
-        }
+        let program = program_of(alloc, case)?;
+        let sparse = sparse_program_of(alloc, case)?;
+        are_the_same(&rt, alloc, &sparse, &program)?;
     }
     Ok(())
 }
@@ -158,7 +206,7 @@ fn counted(
     protocol: Protocol,
     bounds: &[u64],
 ) -> Result<u64, Fail> {
-    let set = set_of(alloc, set)?;
+    let set = built(alloc, set)?;
     let at_costs = set.tasks() > 1 && are_within(&set, bounds) && bounds[0] >= set.cost(TaskId(0));
     if at_costs && suits(&set, protocol) {
         return Ok(Written(protocol).interference(&set, TaskId(1), bounds));
@@ -191,22 +239,39 @@ fn is_block(block: &RowBlock, rows: &[&'static [u64]], limits: &[u64]) -> bool {
 /// Bounds equal to the costs of the set of the paths.
 const PATH_BOUNDS: [u64; 6] = [10; 6];
 
+/// The common rows of the fourth task, and those of preemption.
+fn common_and_preemption(alloc: Global, set: &TaskSet) -> Result<(RowBlock, RowBlock), Fail> {
+    if set.tasks() != 6 || !are_within(set, &PATH_BOUNDS) {
+        return Err("out of range".into());
+    }
+    let (i, mpcp) = (TaskId(3), Protocol::Mpcp);
+    let columns = blocking_columns::fragments(alloc, set, mpcp, i)?;
+    let common = direct_constraints::common(alloc, set, mpcp, i, &PATH_BOUNDS, &columns)?;
+    let preemption = preempt_constraints::rows(alloc, set, mpcp, i, &PATH_BOUNDS, &columns)?;
+    Ok((common, preemption))
+}
+
 // Eight common rows of the program of the paths, and none of preemption.
 #[test]
 fn gives_common_rows_and_those_of_preemption(rt: HostRuntime) -> Result<(), Fail> {
     let alloc = rt.alloc();
-    let set = set_of(alloc, PATHS)?;
-    if set.tasks() != 6 || !are_within(&set, &PATH_BOUNDS) {
+    let (common, preemption) = common_and_preemption(alloc, &built(alloc, PATHS)?)?;
+    let limits = [1, 1, 1, 1, 10, 10, 10, 10];
+    assert_eq!(rt; common.limits.as_slice(), limits.as_slice());
+    assert!(rt; is_block(&preemption, &[], &[]));
+    Ok(())
+}
+
+/// The places of the tasks among the columns of the fourth task.
+fn places_of(alloc: Global, set: &TaskSet) -> Result<Vec<TaskPlace>, Fail> {
+    if set.tasks() != 6 || !are_within(set, &PATH_BOUNDS) {
         return Err("out of range".into());
     }
     let (i, mpcp) = (TaskId(3), Protocol::Mpcp);
-    let columns = blocking_columns::fragments(alloc, &set, mpcp, i)?;
-    let common = direct_constraints::common(alloc, &set, mpcp, i, &PATH_BOUNDS, &columns)?;
-    let limits = [1, 1, 1, 1, 10, 10, 10, 10];
-    assert_eq!(rt; common.limits.as_slice(), limits.as_slice());
-    let preemption = preempt_constraints::rows(alloc, &set, mpcp, i, &PATH_BOUNDS, &columns)?;
-    assert!(rt; is_block(&preemption, &[], &[]));
-    Ok(())
+    let columns = blocking_columns::fragments(alloc, set, mpcp, i)?;
+    let columns = columns.as_slice();
+    columns_stand_in_order(set, mpcp, i, columns);
+    Ok(task_places(alloc, set, i, &PATH_BOUNDS, columns)?)
 }
 
 fn place(from: usize, jobs: u64) -> TaskPlace {
@@ -217,15 +282,7 @@ fn place(from: usize, jobs: u64) -> TaskPlace {
 #[test]
 fn gives_the_places_of_tasks(rt: HostRuntime) -> Result<(), Fail> {
     let alloc = rt.alloc();
-    let set = set_of(alloc, PATHS)?;
-    if set.tasks() != 6 || !are_within(&set, &PATH_BOUNDS) {
-        return Err("out of range".into());
-    }
-    let (i, mpcp) = (TaskId(3), Protocol::Mpcp);
-    let columns = blocking_columns::fragments(alloc, &set, mpcp, i)?;
-    let columns = columns.as_slice();
-    columns_stand_in_order(&set, mpcp, i, columns);
-    let places = task_places(alloc, &set, i, &PATH_BOUNDS, columns)?;
+    let places = places_of(alloc, &built(alloc, PATHS)?)?;
     let wanted = [
         place(0, 1),
         place(1, 1),
@@ -239,19 +296,24 @@ fn gives_the_places_of_tasks(rt: HostRuntime) -> Result<(), Fail> {
     Ok(())
 }
 
+/// The rows of direct blocking of the fourth task, and those of indirect blocking.
+fn direct_and_indirect(alloc: Global, set: &TaskSet) -> Result<(RowBlock, RowBlock), Fail> {
+    if set.tasks() != 6 || !are_within(set, &PATH_BOUNDS) {
+        return Err("out of range".into());
+    }
+    let (i, mpcp) = (TaskId(3), Protocol::Mpcp);
+    let columns = blocking_columns::fragments(alloc, set, mpcp, i)?;
+    let own = direct_constraints::own(alloc, set, mpcp, i, &PATH_BOUNDS, &columns)?;
+    let indirect = indirect_constraints::rows(alloc, set, mpcp, i, &PATH_BOUNDS, &columns)?;
+    Ok((own, indirect))
+}
+
 // One row of lower holders, and one of holdings.
 #[test]
 fn gives_direct_and_indirect_rows(rt: HostRuntime) -> Result<(), Fail> {
     let alloc = rt.alloc();
-    let set = set_of(alloc, PATHS)?;
-    if set.tasks() != 6 || !are_within(&set, &PATH_BOUNDS) {
-        return Err("out of range".into());
-    }
-    let (i, mpcp) = (TaskId(3), Protocol::Mpcp);
-    let columns = blocking_columns::fragments(alloc, &set, mpcp, i)?;
-    let own = direct_constraints::own(alloc, &set, mpcp, i, &PATH_BOUNDS, &columns)?;
+    let (own, indirect) = direct_and_indirect(alloc, &built(alloc, PATHS)?)?;
     assert!(rt; is_block(&own, &[&[0, 0, 0, 1]], &[1]));
-    let indirect = indirect_constraints::rows(alloc, &set, mpcp, i, &PATH_BOUNDS, &columns)?;
     assert!(rt; is_block(&indirect, &[&[0, 0, 1, 0]], &[3]));
     Ok(())
 }
@@ -259,7 +321,7 @@ fn gives_direct_and_indirect_rows(rt: HostRuntime) -> Result<(), Fail> {
 // The bounds 60 and 60 together are more than a period of 100, so two jobs count.
 #[test]
 fn counts_the_requests_in_a_window(rt: HostRuntime) -> Result<(), Fail> {
-    let set = set_of(rt.alloc(), PATHS)?;
+    let set = built(rt.alloc(), PATHS)?;
     let bounds = [60; 6];
     if set.tasks() != 6 || set.resources() != 2 || !are_within(&set, &bounds) {
         return Err("out of range".into());

@@ -2,14 +2,14 @@ ghost use Rattle.std.specs.Prelude.{◌≡◌, length, vec_len, IfOk};
 
 use crate::threads::may_cross_threads;
 use fraction128::Frac;
-use program_form::{Dual, Program};
+use program_form::{Dual, Program, ProgramRefusal};
 use simplex::{SolveStop, Solved, solve};
 use std::alloc::{AllocError, Global};
 use std::process::Abort;
 
 const MOST: u64 = u64::MAX;
 
-pub(crate) fn rows_of(alloc: Global, rows: &[&[u64]]) -> Result<Vec<Vec<u64>>, AllocError>
+fn rows_of(alloc: Global, rows: &[&[u64]]) -> Result<Vec<Vec<u64>>, AllocError>
     ensures { IfOk result (λ v. vec_len v ≡ length rows.now) }
 {
     let mut list = Vec::new(alloc);
@@ -19,6 +19,21 @@ pub(crate) fn rows_of(alloc: Global, rows: &[&[u64]]) -> Result<Vec<Vec<u64>>, A
     Ok(list)
 }
 
+/// What `Program::new` answers to these lists.
+pub(crate) fn judged(
+    rt: &impl Abort,
+    alloc: Global,
+    costs: &[u64],
+    rows: &[&[u64]],
+    limits: &[u64],
+) -> Result<Result<Program, ProgramRefusal>, AllocError> {
+    assert!(rt; costs.len() < 1000 && rows.len() < 1000);
+    let costs = Vec::from_slice(alloc, costs)?;
+    let rows = rows_of(alloc, rows)?;
+    let limits = Vec::from_slice(alloc, limits)?;
+    Ok(Program::new(costs, rows, limits))
+}
+
 pub(crate) fn program_of(
     rt: &impl Abort,
     alloc: Global,
@@ -26,11 +41,7 @@ pub(crate) fn program_of(
     rows: &[&[u64]],
     limits: &[u64],
 ) -> Result<Program, AllocError> {
-    assert!(rt; costs.len() < 1000 && rows.len() < 1000);
-    let costs = Vec::from_slice(alloc, costs)?;
-    let rows = rows_of(alloc, rows)?;
-    let limits = Vec::from_slice(alloc, limits)?;
-    Ok(Program::new(costs, rows, limits).expect(rt, "a program"))
+    Ok(judged(rt, alloc, costs, rows, limits)?.expect(rt, "a program"))
 }
 
 fn are_parts(values: &[Frac], parts: &[(i64, i64)]) -> bool {
@@ -246,6 +257,11 @@ fn four_hundred_columns_apart(rt: HostRuntime) -> Result<(), AllocError> {
     Ok(())
 }
 
+// The run of so many units stops with this.
+fn stops(rt: &impl Abort, alloc: Global, program: &Program, units: u64, stop: SolveStop) {
+    assert_eq!(rt; solve(alloc, program, units).err(), Some(stop));
+}
+
 #[test]
 fn wide_runs(rt: HostRuntime) -> Result<(), AllocError> {
     let alloc = rt.alloc();
@@ -258,12 +274,12 @@ fn wide_runs(rt: HostRuntime) -> Result<(), AllocError> {
         &[1, 1, 1],
     )?;
     // The third exchange has a ratio of denominator 2^90.
-    assert_eq!(rt; solve(alloc, &chained, 4).err(), Some(SolveStop::Wide));
-    assert_eq!(rt; solve(alloc, &chained, 3).err(), Some(SolveStop::Units));
+    stops(&rt, alloc, &chained, 4, SolveStop::Wide);
+    stops(&rt, alloc, &chained, 3, SolveStop::Units);
     // The optimum is 2^64.
     let steep = program_of(&rt, alloc, &[1 << 62], &[&[1]], &[4])?;
-    assert_eq!(rt; solve(alloc, &steep, 2).err(), Some(SolveStop::Wide));
-    assert_eq!(rt; solve(alloc, &steep, 1).err(), Some(SolveStop::Units));
+    stops(&rt, alloc, &steep, 2, SolveStop::Wide);
+    stops(&rt, alloc, &steep, 1, SolveStop::Units);
     // 2^62 less the product 2^63 would fit, but the product doesn't.
     let crossed = program_of(
         &rt,
@@ -272,14 +288,20 @@ fn wide_runs(rt: HostRuntime) -> Result<(), AllocError> {
         &[&[1, 2], &[1 << 62, 1 << 62]],
         &[0, 5],
     )?;
-    assert_eq!(rt; solve(alloc, &crossed, 2).err(), Some(SolveStop::Wide));
+    stops(&rt, alloc, &crossed, 2, SolveStop::Wide);
+    Ok(())
+}
+
+#[test]
+fn wide_duals(rt: HostRuntime) -> Result<(), AllocError> {
+    let alloc = rt.alloc();
     // The duals 1/2^62 and 1/3 have no common denominator of 63 bits.
     let apart = program_of(&rt, alloc, &[1, 1], &[&[1 << 62, 0], &[0, 3]], &[0, 0])?;
-    assert_eq!(rt; solve(alloc, &apart, 3).err(), Some(SolveStop::Wide));
-    assert_eq!(rt; solve(alloc, &apart, 2).err(), Some(SolveStop::Units));
+    stops(&rt, alloc, &apart, 3, SolveStop::Wide);
+    stops(&rt, alloc, &apart, 2, SolveStop::Units);
     // The duals 1/4 and 2^62 are 1 and 2^64 over 4.
     let uneven = program_of(&rt, alloc, &[1, 1 << 62], &[&[4, 0], &[0, 1]], &[0, 0])?;
-    assert_eq!(rt; solve(alloc, &uneven, 3).err(), Some(SolveStop::Wide));
+    stops(&rt, alloc, &uneven, 3, SolveStop::Wide);
     Ok(())
 }
 

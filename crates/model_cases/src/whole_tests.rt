@@ -2,7 +2,7 @@ ghost use Rattle.std.specs.Prelude.{◌≡◌, ℕ, ◌<◌, ◌≤◌, length, 
 ghost use Rattle.whole_rows.specs.Marks.{HaveRoom};
 
 use crate::simplex_tests::{CHAINED, Case, FOUR_PRIMES, SEVEN_ROWS, program_of};
-use program_form::SparseProgram;
+use program_form::{Program, SparseProgram};
 use std::alloc::{AllocError, Global};
 use std::process::Abort;
 use whole_rows::{Entry, Large, Pivot, RowMarks, WholeRow, push_num};
@@ -37,12 +37,23 @@ fn runs_end_as_the_solver_answers(rt: HostRuntime) -> Result<(), AllocError> {
     Ok(())
 }
 
+// The run of so many units halts, since a number is too large.
+fn is_large(
+    rt: &impl Abort,
+    alloc: Global,
+    program: &Program,
+    units: u64,
+) -> Result<(), AllocError> {
+    let program = SparseProgram::new(alloc, program)?;
+    assert_eq!(rt; run_whole(alloc, &program, units).err(), Some(Halt::Large));
+    Ok(())
+}
+
 #[test]
 fn numbers_over_one_denominator_are_large(rt: HostRuntime) -> Result<(), AllocError> {
     let alloc = rt.alloc();
     // The last row would be over the product of four primes, which is more than 2^79.
-    let apart = SparseProgram::new(alloc, &FOUR_PRIMES.program(&rt, alloc)?)?;
-    assert_eq!(rt; run_whole(alloc, &apart, 5).err(), Some(Halt::Large));
+    is_large(&rt, alloc, &FOUR_PRIMES.program(&rt, alloc)?, 5)?;
     // This run is wide for the solver too.
     let large = 1 << 30;
     let chained = program_of(
@@ -52,9 +63,7 @@ fn numbers_over_one_denominator_are_large(rt: HostRuntime) -> Result<(), AllocEr
         &[&[large, 0, 0], &[1, large, 0], &[0, 1, large]],
         &[1, 1, 1],
     )?;
-    let chained = SparseProgram::new(alloc, &chained)?;
-    assert_eq!(rt; run_whole(alloc, &chained, 4).err(), Some(Halt::Large));
-    Ok(())
+    is_large(&rt, alloc, &chained, 4)
 }
 
 // Each number is at most this great in size.
@@ -110,6 +119,31 @@ fn take(
     Ok(row.take(k, &pivot))
 }
 
+// What is left fits.
+fn take_off(
+    rt: &impl Abort,
+    alloc: Global,
+    row: &mut WholeRow,
+    k: usize,
+    divided: &WholeRow,
+) -> Result<(), AllocError> {
+    assert!(rt; take(rt, alloc, row, k, divided)?.is_ok());
+    Ok(())
+}
+
+// The divided row is taken from another one, of numbers that aren't greater in size than `most`.
+fn is_taken_away(
+    rt: &impl Abort,
+    alloc: Global,
+    divided: &WholeRow,
+    most: u64,
+) -> Result<(), AllocError> {
+    let mut row = row_of(rt, alloc, &[1, 4, 2], 7, most)?;
+    take_off(rt, alloc, &mut row, 2, divided)?;
+    reads(rt, &row, &[-1, 12, -2], 11, 3);
+    Ok(())
+}
+
 #[test]
 fn a_row_is_divided_and_taken_away(rt: HostRuntime) -> Result<(), AllocError> {
     let alloc = rt.alloc();
@@ -122,12 +156,8 @@ fn a_row_is_divided_and_taken_away(rt: HostRuntime) -> Result<(), AllocError> {
     let entries = [Entry { place: 0, num: 2 }, Entry { place: 2, num: 1 }];
     assert_eq!(rt; pivot.entries(), entries.as_slice());
     // A bound that leaves no room is measured anew.
-    for most in [7, MOST] {
-        let mut row = row_of(&rt, alloc, &[1, 4, 2], 7, most)?;
-        assert_eq!(rt; take(&rt, alloc, &mut row, 2, &divided)?, Ok(()));
-        reads(&rt, &row, &[-1, 12, -2], 11, 3);
-    }
-    Ok(())
+    is_taken_away(&rt, alloc, &divided, 7)?;
+    is_taken_away(&rt, alloc, &divided, MOST)
 }
 
 #[test]
@@ -138,13 +168,13 @@ fn a_common_divisor_is_taken_off(rt: HostRuntime) -> Result<(), AllocError> {
     let mut third = row_of(&rt, alloc, &[1, 3], 2, 3)?;
     enter(&rt, &mut first, 0);
     reads(&rt, &first, &[1, 1], 1, 2);
-    assert_eq!(rt; take(&rt, alloc, &mut second, 0, &first)?, Ok(()));
-    assert_eq!(rt; take(&rt, alloc, &mut third, 0, &first)?, Ok(()));
+    take_off(&rt, alloc, &mut second, 0, &first)?;
+    take_off(&rt, alloc, &mut third, 0, &first)?;
     reads(&rt, &second, &[-1, 3], 5, 2);
     reads(&rt, &third, &[-1, 5], 3, 2);
     enter(&rt, &mut second, 1);
     reads(&rt, &second, &[-1, 2], 5, 3);
-    assert_eq!(rt; take(&rt, alloc, &mut third, 1, &second)?, Ok(()));
+    take_off(&rt, alloc, &mut third, 1, &second)?;
     reads(&rt, &third, &[2, -10], -16, 6);
     // 6, -10 and -16 over 2.
     enter(&rt, &mut third, 0);
