@@ -30,11 +30,6 @@ found_if_fewer taken more n b fewer e =
 abbrev pub NoneBelow : (ℕ → ℕ) → ℕ → Type 0
 NoneBelow taken span = (m : ℕ) → is_enough_of taken m ≡ true → span ≤ m
 
-pub none_below_one : (taken : ℕ → ℕ) → NoneBelow taken 1
-none_below_one taken m enough =
-    let parts : (0 < m) × _ = enough_is taken m enough in
-    omega (arith, parts.0)
-
 -- No number of ticks is enough that is less than how many are taken in fewer.
 pub none_below_next : (taken : ℕ → ℕ) (span : ℕ) → ((v w : ℕ) → v ≤ w → taken v ≤ taken w) → NoneBelow taken span
     → NoneBelow taken (taken span)
