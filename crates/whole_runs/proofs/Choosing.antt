@@ -29,12 +29,12 @@ use Rattle.whole_runs.proofs.Marking.{num_of_cell}
 use Rattle.whole_runs.proofs.Seen.{cell_of_limit}
 
 -- a cell and the limit of a row have one denominator
-one_den : (p : ProgramDef) (row : Option RowDef) (i k : ℕ) → (limit_seen p row i).den ≡ (cell_seen p row i k).den
+pub one_den : (p : ProgramDef) (row : Option RowDef) (i k : ℕ) → (limit_seen p row i).den ≡ (cell_seen p row i k).den
 one_den p None i k = refl
 one_den p (Some row) i k = refl
 
 -- the number of a variable outside the basis is that of its place
-num_of_place : (p : ProgramDef) (rows : List (Option RowDef)) (stands : List Stand) (i v k : ℕ) → v < variables p
+pub num_of_place : (p : ProgramDef) (rows : List (Option RowDef)) (stands : List Stand) (i v k : ℕ) → v < variables p
     → stand_at stands v ≡ Outside k → (table_cell p rows stands i v).num ≡ num_seen p (row_at rows i) i k
 num_of_place p rows stands i v k l at =
     ap (λ (f : Fraction). f.num) (cell_read p rows stands i v (Outside k) l at) ∙ num_of_cell p (row_at rows i) i k
@@ -82,7 +82,7 @@ module _ (p : ProgramDef) (rows : List (Option RowDef)) (basis other : List ℕ)
       )
 
 -- limit over number, where both have one denominator
-quotient_is : (a b : Fraction) (limit num : ℤ) → a.num ≡ limit → b.num ≡ num → a.den ≡ b.den → IsQuotient a b (over limit num)
+pub quotient_is : (a b : Fraction) (limit num : ℤ) → a.num ≡ limit → b.num ≡ num → a.den ≡ b.den → IsQuotient a b (over limit num)
 quotient_is a b limit num is_limit is_num same = record { same = rw (is_limit, is_num, same) (sym (mul-assoc limit b.den num)) }
 
 -- the ratio of row i, at the numbers that were read

@@ -78,13 +78,13 @@ unlisted_below p rows rows' basis stands e k r v j many small at_first enters h 
     elim (outside_cases p basis stands e k r v j at_first variable at) [
       | inl left ↦
           let none_own : (cell_at h.row k).num ≡ pos 0 = ap (num_at h.row) (sym left.1) ∙ none in
-          absurd (inverse_apart (cell_seen p (row_at rows r) r k) (cell_at h.row k) (small.cells r k row_within) (h.divided.small.cells k)
+          absurd (inverse_apart (cell_seen p (row_at rows r) r k) (cell_at h.row k) (small.cells r k row_within) (h.divided.cells.cells k)
           h.divided.own none_own)
       | inr other ↦
           let was : (cell_seen p (row_at rows (height p)) (height p) j).num ≤ℤ pos 0
           = rw (cell_read p rows stands m v (Outside j) variable other.1) at (enters.least v before) in
           below_stays (cell_seen p (row_at rows m) m j) (cell_seen p (row_at rows m) m k) (cell_at h.row j)
-          (cell_seen p (row_at rows' m) m j) (small.cells m j within) (small.cells m k within) (h.divided.small.cells j) none was
+          (cell_seen p (row_at rows' m) m j) (small.cells m j within) (small.cells m k within) (h.divided.cells.cells j) none was
           ((h.taken m within (λ same. omega (arith, same, at_first.row))).others j other.0)
     ]
 
@@ -123,7 +123,7 @@ pub step_placed : (p : ProgramDef) (rows : List (Option RowDef)) (basis : List �
     → IsLeavingOver IsSmall p (table_seen p rows basis stands) e r → ArePlaced p outside stands
     → ArePlaced p (set outside k (slice_index basis r)) (stands_after basis stands e k r)
 step_placed p rows basis stands outside e k r size are enters place leaves placed =
-    placed_after p basis stands outside e k r (begun p rows basis stands e k r size are enters place leaves) placed
+    placed_after p basis stands outside e k r (begun IsSmall p rows basis stands e k r size are enters place leaves) placed
 
 pub step_from : (p : ProgramDef) (rows rows' : List (Option RowDef)) (basis : List ℕ) (stands : List Stand) (outside : List ℕ)
     (pivot : PivotDef) (objective : RowDef) (e k r from : ℕ)
@@ -135,6 +135,6 @@ pub step_from : (p : ProgramDef) (rows rows' : List (Option RowDef)) (basis : Li
     → from ≤ slice_index (set outside k (slice_index basis r)) (entry_at pivot.entries m).place)
     → IsFrom p rows' (stands_after basis stands e k r) from
 step_from p rows rows' basis stands outside pivot objective e k r from size are small enters place leaves h placed last first each =
-    let at = begun p rows basis stands e k r size are enters place leaves in
+    let at = begun IsSmall p rows basis stands e k r size are enters place leaves in
     from_after p rows rows' basis stands (set outside k (slice_index basis r)) pivot objective e k r from size.row_each small at enters h
     (placed_after p basis stands outside e k r at placed) last first each

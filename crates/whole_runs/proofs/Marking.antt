@@ -110,10 +110,10 @@ marked_after p rows rows' marks marks' k r marked small h joined lk lr above = r
         | inr away ↦ elim (cases_eq j k) [
           | inl own ↦
               let at : num_seen p (row_at rows' i) i k ≢ pos 0 = rw own at some in
-              rw own (marked_own p rows marks marks' k i h.row (row_at rows' i) marked small joined h.divided.small.cells l lk
+              rw own (marked_own p rows marks marks' k i h.row (row_at rows' i) marked small joined h.divided.cells.cells l lk
               (h.taken i l away) at)
           | inr other ↦
-              marked_left p rows marks marks' k i j h.row (row_at rows' i) marked small joined h.divided.small.cells l lk lj other
+              marked_left p rows marks marks' k i j h.row (row_at rows' i) marked small joined h.divided.cells.cells l lk lj other
               (h.taken i l away) some
         ]
       ];

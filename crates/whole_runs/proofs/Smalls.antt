@@ -1,4 +1,4 @@
--- Small fractions in an exchange: what is zero or one, and what nothing is taken from.
+-- Values in an exchange: what is small, what is zero or one, and what nothing is taken from.
 use Rattle.std.proofs.Common.{◌≡◌, ◌≢◌, ◌⊎◌, inl, inr, ℕ, zero, suc, ◌<◌, ◌^◌, ℤ, pos, negsuc, ◌-ℤ◌, ◌*ℤ◌, refl, ap, sym, ◌∙◌, arith}
 use Rattle.std.proofs.lemmas.Int.{ints}
 use Rattle.number_laws.proofs.Ring.{mul-one, mul-comm, mul-zero, zero-mul, one-mul}
@@ -49,29 +49,35 @@ less_nothing a = record { same = nothing a.num a.den }
         back : (x y : ℤ) → x ≡ (x *ℤ pos 1) -ℤ (pos 0 *ℤ y)
         back x y = omega (arith, ints)
 
+-- The lemmas that follow hold whatever values `IsCell` allows, if it allows those that they name.
+
 -- If the product is zero, nothing is subtracted.
-kept : (a f y : Fraction) → f.num *ℤ y.num ≡ pos 0 → IsSmall a → IsLessOver IsSmall a f y a
-kept a f y none small = record {
+kept : (IsCell : Fraction → Type 0) → IsCell (whole (pos 0)) → (a f y : Fraction) → f.num *ℤ y.num ≡ pos 0 → IsCell a
+    → IsLessOver IsCell a f y a
+kept IsCell zero_cell a f y none is = record {
   product = whole (pos 0);
-  product_form = small_zero;
+  product_form = zero_cell;
   is_product = no_product f y none;
-  form = small;
+  form = is;
   is_difference = less_nothing a;
 }
 
-pub less_of_zero : (a f y : Fraction) → f.num ≡ pos 0 → IsSmall a → IsLessOver IsSmall a f y a
-less_of_zero a f y none small = kept a f y (ap (λ x. x *ℤ y.num) none ∙ zero-mul y.num) small
+pub less_of_zero : (IsCell : Fraction → Type 0) → IsCell (whole (pos 0)) → (a f y : Fraction) → f.num ≡ pos 0 → IsCell a
+    → IsLessOver IsCell a f y a
+less_of_zero IsCell zero_cell a f y none is = kept IsCell zero_cell a f y (ap (λ x. x *ℤ y.num) none ∙ zero-mul y.num) is
 
-pub less_at_zero : (a f : Fraction) → IsSmall a → IsLessOver IsSmall a f (whole (pos 0)) a
-less_at_zero a f small = kept a f (whole (pos 0)) (mul-zero f.num) small
+pub less_at_zero : (IsCell : Fraction → Type 0) → IsCell (whole (pos 0)) → (a f : Fraction) → IsCell a
+    → IsLessOver IsCell a f (whole (pos 0)) a
+less_at_zero IsCell zero_cell a f is = kept IsCell zero_cell a f (whole (pos 0)) (mul-zero f.num) is
 
 -- A value less itself times one is zero.
-pub less_itself : (a : Fraction) → IsSmall a → IsLessOver IsSmall a a (whole (pos 1)) (whole (pos 0))
-less_itself a small = record {
+pub less_itself : (IsCell : Fraction → Type 0) → IsCell (whole (pos 0)) → (a : Fraction) → IsCell a
+    → IsLessOver IsCell a a (whole (pos 1)) (whole (pos 0))
+less_itself IsCell zero_cell a is = record {
   product = a;
-  product_form = small;
+  product_form = is;
   is_product = record { same = ap (λ x. a.num *ℤ x) (mul-one a.den) ∙ ap (λ x. x *ℤ a.den) (sym (mul-one a.num)) };
-  form = small_zero;
+  form = zero_cell;
   is_difference = record { same = gone (a.num *ℤ a.den) (a.den *ℤ a.den) };
 }
   where
@@ -79,12 +85,13 @@ less_itself a small = record {
     gone x y = omega (arith, ints)
 
 -- Where the factor is zero, zero stays zero over any denominator.
-pub zero_less : (f y : Fraction) → f.num ≡ pos 0 → IsSmall f → IsLessOver IsSmall (whole (pos 0)) f y f
-zero_less f y none small = record {
+pub zero_less : (IsCell : Fraction → Type 0) → IsCell (whole (pos 0)) → (f y : Fraction) → f.num ≡ pos 0 → IsCell f
+    → IsLessOver IsCell (whole (pos 0)) f y f
+zero_less IsCell zero_cell f y none is = record {
   product = whole (pos 0);
-  product_form = small_zero;
+  product_form = zero_cell;
   is_product = no_product f y (ap (λ x. x *ℤ y.num) none ∙ zero-mul y.num);
-  form = small;
+  form = is;
   is_difference = record { same = rw none (gone f.den) };
 }
   where

@@ -16,6 +16,7 @@ use Rattle.whole_runs.specs.declared.stands.Stand.TheVariants.{Outside}
 use Rattle.whole_runs.proofs.Standing.{stands_after, stands_exchanged}
 use Rattle.whole_runs.proofs.Exchanging.{begun, cell_read, exchange_seen, size_exchanged}
 use Rattle.whole_runs.proofs.Marking.{num_of_cell, marked_after}
+use Rattle.whole_runs.proofs.Smalls.{small_zero, small_one}
 use Rattle.whole_runs.proofs.Taking.{listed_cases, unlisted_zero}
 
 -- the number of the leaving row at the entering place
@@ -50,10 +51,10 @@ pub step_done : (p : ProgramDef) (rows rows' : List (Option RowDef)) (basis : Li
     × ((s : ℕ) × IsExchangeOver IsSmall p (table_seen p rows basis stands)
     (table_seen p rows' (set basis r e) (stands_after basis stands e k r)) e s)
 step_done p rows rows' basis stands e k r size are small enters place leaves h =
-    let at = begun p rows basis stands e k r size are enters place leaves in (
-      size_exchanged p rows rows' basis stands e k r size h,
+    let at = begun IsSmall p rows basis stands e k r size are enters place leaves in (
+      size_exchanged IsSmall p rows rows' basis stands e k r size h,
       stands_exchanged p basis stands e k r at,
-      (r, exchange_seen p rows rows' basis stands e k r size.row_each small at enters leaves h),
+      (r, exchange_seen IsSmall small_zero small_one p rows rows' basis stands e k r size.row_each small at enters leaves h),
     )
 
 pub step_marked : (p : ProgramDef) (rows rows' : List (Option RowDef)) (basis : List ℕ) (stands : List Stand) (marks marks' : RowMarks)

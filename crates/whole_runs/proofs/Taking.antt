@@ -6,6 +6,7 @@ use Rattle.std.specs.declared.option.Option.{Option}
 use Rattle.std.proofs.lemmas.Bool.{cases_eq, ne_eqb}
 use Rattle.std.proofs.lemmas.List.FromFn.{length-map-range_with_len}
 use Rattle.fraction128.specs.Fraction.{Fraction, whole}
+use Rattle.exchange_runs.specs.SmallRuns.{IsSmall}
 use Rattle.program_form.specs.Program.{ProgramDef, IsProgram, columns, height, row, entry, limit}
 use Rattle.program_form.specs.SparseRows.{number_at, full_row, AreCoefficients}
 use Rattle.program_form.specs.declared.sparse_rows.Coefficient.{Coefficient}
@@ -19,7 +20,7 @@ use Rattle.whole_runs.specs.Columns.{num_seen, IsColumn}
 use Rattle.whole_runs.specs.Exchanges.{IsTouched, AreSmallRows, IsLeft, IsDivided}
 use Rattle.whole_runs.specs.Takings.{Touches, Divides, IsLeftAt, IsTaken, AreTakenTo, ExchangesRows}
 use Rattle.whole_runs.specs.Starts.{IsFirstRow}
-use Rattle.whole_runs.proofs.Smalls.{small_whole, over_one_same, less_of_zero, zero_less}
+use Rattle.whole_runs.proofs.Smalls.{small_zero, small_whole, over_one_same, less_of_zero, zero_less}
 use Rattle.whole_runs.proofs.Starting.{number_of_row, first_row_is}
 use Rattle.whole_runs.proofs.Marking.{num_of_cell}
 
@@ -83,7 +84,7 @@ left_of_touched p i before row k divided left touched h = record {
 pub divided_of_touched : (p : ProgramDef) (r : ℕ) (before : Option RowDef) (row : RowDef) (k : ℕ) (divided : RowDef)
     → IsTouched p r before row → IsDividedRow row k divided → IsDivided p r before k divided
 divided_of_touched p r before row k divided touched h = record {
-  small = h.small;
+  cells = record { cells = h.small.cells; limit = h.small.limit };
   own = rw (← touched.cells k) h.own;
   others = λ j away. rw (← touched.cells j, ← touched.cells k) (h.others j away);
   limit = rw (← touched.limit, ← touched.cells k) h.limit;
@@ -111,7 +112,7 @@ divided_one p r k pivot before row divided touched h is = record {
 divided_first : (p : ProgramDef) (r k : ℕ) (row : RowDef) → IsProgram p → IsTouched p r None row → entry p r k ≡ 1
     → IsDivided p r None k row
 divided_first p r k row is touched one = record {
-  small = record {
+  cells = record {
     cells = λ j. rw (touched.cells j) (small_whole (entry p r j) (small_of (entry p r j) (is.small.entries r j)));
     limit = rw touched.limit (small_whole (limit p r) (small_of (limit p r) (is.small.limits r)));
   };
@@ -219,9 +220,10 @@ kept_row p rows i k divided small l none =
     let row = row_at rows i in
     let zero_f : (cell_seen p (row_at rows i) i k).num ≡ pos 0 = num_of_cell p row i k ∙ none in
     record {
-      own = zero_less (cell_seen p row i k) (cell_at divided k) zero_f (small.cells i k l);
-      others = λ j away. less_of_zero (cell_seen p row i j) (cell_seen p row i k) (cell_at divided j) zero_f (small.cells i j l);
-      limit = less_of_zero (limit_seen p row i) (cell_seen p row i k) (limit_of divided) zero_f (small.limits i l);
+      own = zero_less IsSmall small_zero (cell_seen p row i k) (cell_at divided k) zero_f (small.cells i k l);
+      others = λ j away.
+          less_of_zero IsSmall small_zero (cell_seen p row i j) (cell_seen p row i k) (cell_at divided j) zero_f (small.cells i j l);
+      limit = less_of_zero IsSmall small_zero (limit_seen p row i) (cell_seen p row i k) (limit_of divided) zero_f (small.limits i l);
     }
 
 -- The rows with row r divided have the places that they had.

@@ -1,13 +1,12 @@
--- What do the parts of an exchange answer?
+-- What do the parts of an exchange answer? The parameter `IsCell` says which values a cell of a row may have.
 use Rattle.std.specs.Prelude.{◌≡◌, ◌≢◌, ℕ, ◌<◌, List, length, Some, None, pos}
 use Rattle.std.specs.declared.option.Option.{Option}
-use Rattle.fraction128.specs.Fraction.{IsQuotient, whole}
+use Rattle.fraction128.specs.Fraction.{Fraction, IsQuotient, whole}
 use Rattle.program_form.specs.Program.{ProgramDef, columns, height}
 use Rattle.exchange_runs.specs.Table.{Table}
-use Rattle.exchange_runs.specs.Exchange.{IsEntering, IsLast, HasRatio, IsLeavingOver}
+use Rattle.exchange_runs.specs.Exchange.{IsEntering, IsLast, HasRatio, IsLeavingOver, IsLessOver}
 use Rattle.exchange_runs.specs.SmallRuns.{IsSmall}
 use Rattle.whole_rows.specs.Rows.{RowDef, limit_of, cell_at}
-use Rattle.whole_rows.specs.Steps.{IsSmallLess, AreSmallCells}
 use Rattle.whole_runs.specs.States.{row_at, cell_seen, limit_seen, stand_at, table_seen, HasPlaces}
 use Rattle.whole_runs.specs.declared.stands.Stand.{Stand}
 use Rattle.whole_runs.specs.declared.stands.Stand.TheVariants.{Outside}
@@ -22,23 +21,30 @@ abbrev pub Leaves : Option ℕ → ProgramDef → Table → ℕ → Type 0
 Leaves (Some r) p t e = IsLeavingOver IsSmall p t e r
 Leaves None p t e = (i : ℕ) → i < height p → HasRatio t e i → ⊥
 
+-- Are these values allowed: its cell at each place, and its limit?
+pub record HasCells (IsCell : Fraction → Type 0) (row : RowDef) : Type 0 where
+  pub cells : (k : ℕ) → IsCell (cell_at row k)
+  pub limit : IsCell (limit_of row)
+
 -- Is `left` what is left of row i if its cell at k times the divided row is subtracted?
-pub record IsLeft (p : ProgramDef) (i : ℕ) (row : Option RowDef) (k : ℕ) (divided : RowDef) (left : Option RowDef) : Type 0 where
-  pub own : IsSmallLess (whole (pos 0)) (cell_seen p row i k) (cell_at divided k) (cell_seen p left i k)
-  pub others : (j : ℕ) → j ≢ k → IsSmallLess (cell_seen p row i j) (cell_seen p row i k) (cell_at divided j) (cell_seen p left i j)
-  pub limit : IsSmallLess (limit_seen p row i) (cell_seen p row i k) (limit_of divided) (limit_seen p left i)
+pub record IsLeftOver (IsCell : Fraction → Type 0) (p : ProgramDef) (i : ℕ) (row : Option RowDef) (k : ℕ) (divided : RowDef)
+    (left : Option RowDef) : Type 0 where
+  pub own : IsLessOver IsCell (whole (pos 0)) (cell_seen p row i k) (cell_at divided k) (cell_seen p left i k)
+  pub others : (j : ℕ) → j ≢ k → IsLessOver IsCell (cell_seen p row i j) (cell_seen p row i k) (cell_at divided j) (cell_seen p left i j)
+  pub limit : IsLessOver IsCell (limit_seen p row i) (cell_seen p row i k) (limit_of divided) (limit_seen p left i)
 
 -- Is row r divided by its cell at k? At k it has 1 divided by that cell, for the variable that leaves.
-pub record IsDivided (p : ProgramDef) (r : ℕ) (row : Option RowDef) (k : ℕ) (divided : RowDef) : Type 0 where
-  pub small : AreSmallCells divided
+pub record IsDividedOver (IsCell : Fraction → Type 0) (p : ProgramDef) (r : ℕ) (row : Option RowDef) (k : ℕ) (divided : RowDef)
+    : Type 0 where
+  pub cells : HasCells IsCell divided
   pub own : IsQuotient (whole (pos 1)) (cell_seen p row r k) (cell_at divided k)
   pub others : (j : ℕ) → j ≢ k → IsQuotient (cell_seen p row r j) (cell_seen p row r k) (cell_at divided j)
   pub limit : IsQuotient (limit_seen p row r) (cell_seen p row r k) (limit_of divided)
 
--- Are all cells of each row small?
-pub record AreSmallRows (p : ProgramDef) (rows : List (Option RowDef)) : Type 0 where
-  pub cells : (i k : ℕ) → i < length rows → IsSmall (cell_seen p (row_at rows i) i k)
-  pub limits : (i : ℕ) → i < length rows → IsSmall (limit_seen p (row_at rows i) i)
+-- Are the values of each row allowed?
+pub record AreCells (IsCell : Fraction → Type 0) (p : ProgramDef) (rows : List (Option RowDef)) : Type 0 where
+  pub cells : (i k : ℕ) → i < length rows → IsCell (cell_seen p (row_at rows i) i k)
+  pub limits : (i : ℕ) → i < length rows → IsCell (limit_seen p (row_at rows i) i)
 
 -- Is it row i as a row of its own: has it a place for each column, the cells and the limit?
 pub record IsTouched (p : ProgramDef) (i : ℕ) (seen : Option RowDef) (row : RowDef) : Type 0 where
@@ -47,10 +53,23 @@ pub record IsTouched (p : ProgramDef) (i : ℕ) (seen : Option RowDef) (row : Ro
   pub limit : limit_of row ≡ limit_seen p seen i
 
 -- Is row r divided in this way, and has its cell at k times the new row r been subtracted from each other row?
-pub record AreExchanged (p : ProgramDef) (before after : List (Option RowDef)) (k r : ℕ) : Type 0 where
+pub record AreExchangedOver (IsCell : Fraction → Type 0) (p : ProgramDef) (before after : List (Option RowDef)) (k r : ℕ) : Type 0 where
   pub as_many : length after ≡ length before
   pub places : (i : ℕ) → i < length before → HasPlaces p i (row_at after i)
   pub row : RowDef
   pub here : IsTouched p r (row_at after r) row
-  pub divided : IsDivided p r (row_at before r) k row
-  pub taken : (i : ℕ) → i < length before → i ≢ r → IsLeft p i (row_at before i) k row (row_at after i)
+  pub divided : IsDividedOver IsCell p r (row_at before r) k row
+  pub taken : (i : ℕ) → i < length before → i ≢ r → IsLeftOver IsCell p i (row_at before i) k row (row_at after i)
+
+-- The same over small fractions.
+abbrev pub IsLeft : ProgramDef → ℕ → Option RowDef → ℕ → RowDef → Option RowDef → Type 0
+IsLeft p i row k divided left = IsLeftOver IsSmall p i row k divided left
+
+abbrev pub IsDivided : ProgramDef → ℕ → Option RowDef → ℕ → RowDef → Type 0
+IsDivided p r row k divided = IsDividedOver IsSmall p r row k divided
+
+abbrev pub AreSmallRows : ProgramDef → List (Option RowDef) → Type 0
+AreSmallRows p rows = AreCells IsSmall p rows
+
+abbrev pub AreExchanged : ProgramDef → List (Option RowDef) → List (Option RowDef) → ℕ → ℕ → Type 0
+AreExchanged p before after k r = AreExchangedOver IsSmall p before after k r

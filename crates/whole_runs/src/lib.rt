@@ -25,6 +25,8 @@ use choice::entering;
 use end::finish;
 use exchange::step;
 use start::first_tableau;
+// definitions of other crates name it
+pub use stands::Stand;
 pub use stops::Halt;
 use tableau::Lines;
 

@@ -2,7 +2,7 @@
 
 /// Where a variable is.
 #[derive(Clone, Copy, Debug, PartialEq, Eq)]
-pub(crate) enum Stand {
+pub enum Stand {
     /// Outside the basis, at this place of the rows.
     Outside(usize),
     /// In the basis, as this row's basic variable.
