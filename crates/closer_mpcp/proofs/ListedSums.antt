@@ -110,10 +110,10 @@ pub number_of : (set : SetDef) (i : ℕ) (rs : List ResourceId) (k : ℕ) (d : R
 number_of set i rs k d same l = ap (λ (ns : List ℕ). slice_index ns k) (sym same) ∙ get_or-map (λ (r : ResourceId). r.0) rs k d 0 l
 
 -- What is summed grows by the k-th term.
-pub one_term_more : (f : ResourceId → ℕ) (rs : List ResourceId) (d : ResourceId) (k n total whole : ℕ) → k < length rs
-    → total + sum_by f (drop k rs) ≡ whole → n ≡ f (slice_index_or rs k d) → (total + n) + sum_by f (drop (k + 1) rs) ≡ whole
-one_term_more f rs d k n total whole l sums term =
-    let rest : sum_by f (drop (k + 1) rs) ≡ sum_by f (drop (suc k) rs) = ap (λ m. sum_by f (drop m rs)) (add-one k) in
-    let step : sum_by f (drop k rs) ≡ f (slice_index_or rs k d) + sum_by f (drop (suc k) rs) =
-    ap (sum_by f) (drop-cons rs k d l) ∙ sum_by-cons f (slice_index_or rs k d) (drop (suc k) rs) in
+pub one_term_more : {A : Type 0} (f : A → ℕ) (xs : List A) (d : A) (k n total whole : ℕ) → k < length xs
+    → total + sum_by f (drop k xs) ≡ whole → n ≡ f (slice_index_or xs k d) → (total + n) + sum_by f (drop (k + 1) xs) ≡ whole
+one_term_more f xs d k n total whole l sums term =
+    let rest : sum_by f (drop (k + 1) xs) ≡ sum_by f (drop (suc k) xs) = ap (λ m. sum_by f (drop m xs)) (add-one k) in
+    let step : sum_by f (drop k xs) ≡ f (slice_index_or xs k d) + sum_by f (drop (suc k) xs) =
+    ap (sum_by f) (drop-cons xs k d l) ∙ sum_by-cons f (slice_index_or xs k d) (drop (suc k) xs) in
     omega (arith, rest, step, sums, term)

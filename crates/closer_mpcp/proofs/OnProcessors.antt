@@ -1,19 +1,17 @@
 -- Holdings summed by processor, and those beside a task.
-use Rattle.std.proofs.Common.{◌≡◌, ℕ, suc, ◌+◌, ◌<◌, ◌≤◌, ◌==◌, ◌&&◌, Bool, true, false, nat_lt, List, length, drop}
+use Rattle.std.proofs.Common.{◌≡◌, ℕ, ◌+◌, ◌<◌, ◌≤◌, ◌==◌, ◌&&◌, nat_lt, List, length, drop}
 use Rattle.std.proofs.Common.{refl, sym, ap, ◌∙◌, arith, inl, inr}
 use Rattle.std.specs.Prelude.{slice_index, slice_index_or, slice_set}
-use Rattle.std.proofs.Math.Seq.{drop-cons}
-use Rattle.std.proofs.Math.Numerals.{add-one}
-use Rattle.std.proofs.lemmas.Bool.{cases_eq, cases_lt, eq-eqb, ne_eqb, lt-ltb, le-ltb}
+use Rattle.std.proofs.Math.Bool.{and-true, and-false}
+use Rattle.std.proofs.lemmas.Bool.{and_right, cases_eq, cases_lt, eq-eqb, ne_eqb, lt-ltb, le-ltb}
 use Rattle.std.proofs.lemmas.List.{get_or-set_other}
-use Rattle.std.proofs.lemmas.List.Sums.{sum_by-cons}
 use Rattle.std.proofs.lemmas.Grind.{get_or-set_at}
 use Rattle.number_laws.specs.Sums.{sum_below, only_if}
 use Rattle.number_laws.proofs.SumLaws.{sum_below-agree, sum_below-plus, sum_below-one, sum_below-zero, only_if-true, only_if-false}
 use Rattle.sporadic_model.specs.SetDef.{SetDef, task_at}
 use Rattle.sporadic_model.specs.declared.ids.TaskId.{TaskId}
 use Rattle.mpcp_window_laws.specs.MpcpWindows.{may_run_instead}
-use Rattle.closer_mpcp.proofs.ListedSums.{made_by}
+use Rattle.closer_mpcp.proofs.ListedSums.{made_by, one_term_more}
 
 -- One listed task's holdings are added at its processor.
 pub added : (i : ℕ) (p f : ℕ → ℕ) (ys : List TaskId) (d : TaskId) (j k at n total : ℕ) (holdings : List ℕ) → j < length ys
@@ -23,30 +21,22 @@ pub added : (i : ℕ) (p f : ℕ → ℕ) (ys : List TaskId) (d : TaskId) (j k a
 added i p f ys d j k at n total holdings l made here within sums =
     let y : TaskId = slice_index_or ys j d in
     let g : TaskId → ℕ = λ y. only_if (nat_lt y.0 i && (p y.0 == k)) (f y.0) in
-    let rest : made_by i (λ y. p y == k) f (drop (j + 1) ys) ≡ made_by i (λ y. p y == k) f (drop (suc j) ys) =
-    ap (λ m. made_by i (λ y. p y == k) f (drop m ys)) (add-one j) in
-    let step : made_by i (λ y. p y == k) f (drop j ys) ≡ g y + made_by i (λ y. p y == k) f (drop (suc j) ys) =
-    ap (λ (zs : List TaskId). made_by i (λ y. p y == k) f zs) (drop-cons ys j d l) ∙ sum_by-cons g y (drop (suc j) ys) in
+    let more : (slice_index holdings k + g y) + made_by i (λ y. p y == k) f (drop (j + 1) ys) ≡ total =
+    one_term_more g ys d j (g y) (slice_index holdings k) total l sums refl in
     elim (cases_eq k at) [
       | inl same ↦
           let new : slice_index (slice_set holdings at (slice_index holdings at + n)) k ≡ slice_index holdings at + n =
           get_or-set_at holdings at k (slice_index holdings at + n) 0 same within in
           let old : slice_index holdings k ≡ slice_index holdings at = ap (slice_index holdings) same in
-          let term : g y ≡ n = rw (eq-eqb (p y.0) k (sym here ∙ sym same)) (both_pass (nat_lt y.0 i) (f y.0) ∙ sym made) in
-          omega (arith, new, old, term, rest, step, sums)
+          let term : g y ≡ n = rw (eq-eqb (p y.0) k (sym here ∙ sym same), and-true (nat_lt y.0 i)) (sym made) in
+          omega (arith, new, old, term, more)
       | inr other ↦
           let new : slice_index (slice_set holdings at (slice_index holdings at + n)) k ≡ slice_index holdings k =
           get_or-set_other holdings at k (slice_index holdings at + n) 0 other in
-          let term : g y ≡ 0 = rw (ne_eqb (p y.0) k (λ e. other (sym e ∙ sym here))) (none_passes (nat_lt y.0 i) (f y.0)) in
-          omega (arith, new, term, rest, step, sums)
-    ] where
-      both_pass : (b : Bool) (m : ℕ) → only_if (b && true) m ≡ only_if b m
-      both_pass true m = refl
-      both_pass false m = refl
-
-      none_passes : (b : Bool) (m : ℕ) → only_if (b && false) m ≡ 0
-      none_passes true m = refl
-      none_passes false m = refl
+          let term : g y ≡ 0 = only_if-false (nat_lt y.0 i && (p y.0 == k)) (f y.0)
+          (and_right (nat_lt y.0 i) (p y.0 == k) (ne_eqb (p y.0) k (λ e. other (sym e ∙ sym here)))) in
+          omega (arith, new, term, more)
+    ]
 
 -- None of the sums grows by more than what is added.
 pub added_most : (at k n most more : ℕ) (holdings : List ℕ) → at < length holdings
@@ -106,7 +96,4 @@ beside_and_own set i x f other =
 -- The analysed task runs instead of none.
 pub none_for_itself : (set : SetDef) (i : ℕ) (f : ℕ → ℕ) → sum_below i (λ y. only_if (may_run_instead set i y i) (f y)) ≡ 0
 none_for_itself set i f = sum_below-zero i (λ y. only_if (may_run_instead set i y i) (f y))
-    (λ y l. rw (eq-eqb i i refl) (none_passes _ (f y))) where
-      none_passes : (b : Bool) (m : ℕ) → only_if (b && false) m ≡ 0
-      none_passes true m = refl
-      none_passes false m = refl
+    (λ y l. rw (eq-eqb i i refl) (only_if-false _ (f y) (and-false _)))

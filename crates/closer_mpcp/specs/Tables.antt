@@ -7,21 +7,25 @@ use Rattle.blocking_columns.specs.Windows.{requests_during}
 use Rattle.closer_laws.specs.CloserRows.{is_shared_out}
 use Rattle.mpcp_window_laws.specs.MpcpWindows.{longest_first, time_first, longest_lower_holding}
 use Rattle.closer_mpcp.specs.Holdings.{held_beside}
+use Rattle.closer_mpcp.specs.declared.first_ticks.FirstTicks.{FirstTicks}
 use Rattle.closer_mpcp.specs.declared.lower_holders.OtherHolders.{OtherHolders}
 
--- Is it said of each task how long its requests last that go first while another task of its processor holds q: the longest one, and all
--- that one job makes?
-pub record AreFirst (set : SetDef) (q : ℕ) (longest_each all_each : List ℕ) : Type 0 where
-  pub longest_enough : length set.tasks ≤ length longest_each
-  pub all_enough : length set.tasks ≤ length all_each
-  pub longest : (x : ℕ) → x < length set.tasks → slice_index longest_each x ≡ longest_first set x q
-  pub all : (x : ℕ) → x < length set.tasks → slice_index all_each x ≡ time_first set x q
-  pub longest_to : (x : ℕ) → x < length set.tasks → slice_index longest_each x ≤ 1000000000
-  pub all_to : (x : ℕ) → x < length set.tasks → slice_index all_each x ≤ 32000000000000
+-- Is it said how long x's requests last that go first while another task of its processor holds q: the longest one, and all that one job
+-- makes?
+pub record AreFirstOf (set : SetDef) (x q : ℕ) (first : FirstTicks) : Type 0 where
+  pub longest : first.longest ≡ longest_first set x q
+  pub all : first.all ≡ time_first set x q
+  pub longest_to : first.longest ≤ 1000000000
+  pub all_to : first.all ≤ 32000000000000
+
+-- Is it said of each task?
+pub record AreFirst (set : SetDef) (q : ℕ) (first : List FirstTicks) : Type 0 where
+  pub enough : length set.tasks ≤ length first
+  pub each : (x : ℕ) → x < length set.tasks → AreFirstOf set x q (slice_index_or first x (record { longest = 0; all = 0 }))
 
 -- Is this what others may do with q while i waits for it?
 pub record AreHolders (set : SetDef) (i q : ℕ) (holders : OtherHolders) : Type 0 where
-  pub first : AreFirst set q holders.first.longest holders.first.all
+  pub first : AreFirst set q holders.first
   pub lower : holders.lower ≡ longest_lower_holding set i q
   pub lower_to : holders.lower ≤ 65000000000
 

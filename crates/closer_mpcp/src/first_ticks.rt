@@ -4,29 +4,19 @@ ghost use Rattle.std.specs.Prelude.{◌≡◌, ◌*◌, ◌<◌, ◌≤◌, leng
 ghost use Rattle.number_laws.specs.Sums.{only_if};
 ghost use Rattle.sporadic_model.specs.Users.{count_of, length_of};
 ghost use Rattle.closer_mpcp_laws.specs.CloserMpcpRows.{goes_first};
-ghost use Rattle.mpcp_window_laws.specs.MpcpWindows.{longest_first, time_first};
-ghost use Rattle.closer_mpcp.specs.Tables.{AreFirst};
+ghost use Rattle.closer_mpcp.specs.Tables.{AreFirst, AreFirstOf};
 
 use crate::ceilings::goes_first;
 use sporadic_model::{ResourceId, TaskId, TaskSet};
 
-// How long requests of a task that go first last, in ticks. They go first while another task of its processor holds the resource that is
-// waited for.
+/// How long requests of a task that go first last, in ticks. They go first while another task of its processor holds the resource that is
+/// waited for.
 #[derive(Clone, Copy, Drop)]
-struct FirstTicks {
-    // The longest one.
-    longest: u64,
-    // All that one job makes.
-    all: u64,
-}
-
-/// The same of each task, by its number.
-#[derive(Drop)]
-pub(crate) struct FirstOfTasks {
-    /// The longest one of each.
-    pub(crate) longest: [u64; 64],
-    /// All that one job of it makes.
-    pub(crate) all: [u64; 64],
+pub(crate) struct FirstTicks {
+    /// The longest one.
+    pub(crate) longest: u64,
+    /// All that one job makes.
+    pub(crate) all: u64,
 }
 
 // The requests of `r` by `x`, if they go first while another task of `x`'s processor holds `q`.
@@ -54,10 +44,7 @@ fn first_of_resource(set: &TaskSet, x: TaskId, q: ResourceId, r: ResourceId) -> 
 fn first_ticks(set: &TaskSet, x: TaskId, q: ResourceId) -> FirstTicks
     requires task { x.0 < length set.now.tasks }
     requires held { q.0 < length set.now.resources }
-    ensures longest { result.longest ≡ longest_first set.now x.0 q.0 }
-    ensures all { result.all ≡ time_first set.now x.0 q.0 }
-    ensures longest_to { result.longest ≤ 1000000000 }
-    ensures all_to { result.all ≤ 32000000000000 }
+    ensures { AreFirstOf set.now x.0 q.0 result }
 {
     // a set has at most 32 resources, so the sum fits, and what isn't used has no length
     let _resources = set.resources();
@@ -73,17 +60,14 @@ fn first_ticks(set: &TaskSet, x: TaskId, q: ResourceId) -> FirstTicks
     FirstTicks { longest, all }
 }
 
-/// Such requests of each task.
-pub(crate) fn first_of_tasks(set: &TaskSet, q: ResourceId) -> FirstOfTasks
+/// Such requests of each task, by its number.
+pub(crate) fn first_of_tasks(set: &TaskSet, q: ResourceId) -> [FirstTicks; 64]
     requires { q.0 < length set.now.resources }
-    ensures { AreFirst set.now q.0 result.longest result.all }
+    ensures { AreFirst set.now q.0 result }
 {
-    let mut longest = [0u64; 64];
-    let mut all = [0u64; 64];
+    let mut first = [FirstTicks { longest: 0, all: 0 }; 64];
     for x in 0..set.tasks() {
-        let first = first_ticks(set, TaskId(x), q);
-        longest[x as usize] = first.longest;
-        all[x as usize] = first.all;
+        first[x as usize] = first_ticks(set, TaskId(x), q);
     }
-    FirstOfTasks { longest, all }
+    first
 }

@@ -14,6 +14,14 @@ use fragments::share_processor;
 use sporadic_model::{ResourceId, TaskId, TaskSet};
 use std::alloc::{AllocError, Global};
 
+/// How many requests can be held beside each task while a job of the analysed task waits for them. The numbers count requests, not ticks.
+#[derive(Drop)]
+pub(crate) struct HeldBesideTasks {
+    /// By task, and by resource that the analysed task requests, in their order. It is 0 for a resource that isn't shared out. Places behind
+    /// the last of these resources say nothing.
+    pub(crate) requests: Vec<[u64; 32]>,
+}
+
 // How many requests of `r` can be held beside `x` while a job of `i` waits for them? Higher tasks hold them within the windows of these
 // waits. Where `x` is on `i`'s processor no lower task holds one.
 fn held_beside(
@@ -92,8 +100,7 @@ fn held_beside_task(
     held
 }
 
-/// By task, and by resource that `i` requests: how many requests of the resource can be held beside the task while a job of `i` waits for
-/// them, if it is shared out.
+/// The same for each task.
 pub(crate) fn held_beside_each(
     alloc: Global,
     set: &TaskSet,
@@ -101,16 +108,16 @@ pub(crate) fn held_beside_each(
     shared: &[bool],
     bounds: &[u64],
     windows: &[Option<u64>],
-) -> Result<Vec<[u64; 32]>, AllocError>
+) -> Result<HeldBesideTasks, AllocError>
     requires task { i.0 < length set.now.tasks }
     requires shared { AreSharedOut set.now i.0 shared.now }
     requires within { AreWithinDeadlines set.now bounds.now }
     requires windows { AreWaitWindows set.now (slice_index bounds.now) i.0 windows.now }
-    ensures { IfOk result (λ v. AreHeldBesideEach set.now (slice_index bounds.now) i.0 v.items) }
+    ensures { IfOk result (λ v. AreHeldBesideEach set.now (slice_index bounds.now) i.0 v.requests.items) }
 {
-    let mut held = Vec::with_capacity(alloc, set.tasks() as usize)?;
+    let mut requests = Vec::with_capacity(alloc, set.tasks() as usize)?;
     for x in 0..set.tasks() {
-        held.push(held_beside_task(set, i, TaskId(x), shared, bounds, windows))?;
+        requests.push(held_beside_task(set, i, TaskId(x), shared, bounds, windows))?;
     }
-    Ok(held)
+    Ok(HeldBesideTasks { requests })
 }

@@ -13,6 +13,7 @@ ghost use Rattle.closer_mpcp.specs.Holdings.{runs_there};
 ghost use Rattle.closer_mpcp.specs.Tables.{AreHeldBesideEach};
 
 use crate::ceilings::passes;
+use crate::held::HeldBesideTasks;
 use crate::places::{Place, is_at};
 use fragments::cnt;
 use shared_requests::{Holders, has_holder};
@@ -91,7 +92,7 @@ fn has_lower(set: &TaskSet, place: Place, i: TaskId, x: TaskId, r: ResourceId) -
     false
 }
 
-/// How many requests of `r` can they hold while a job of `i` waits for them?
+/// How many requests of `r` can lower tasks than `i` at this place of `x` hold while a job of `i` waits for them?
 pub(crate) fn lower_held(set: &TaskSet, place: Place, i: TaskId, x: TaskId, r: ResourceId) -> u64
     requires task { i.0 < length set.now.tasks }
     requires runner { x.0 < length set.now.tasks }
@@ -107,7 +108,13 @@ pub(crate) fn lower_held(set: &TaskSet, place: Place, i: TaskId, x: TaskId, r: R
 }
 
 // So many of `r`, if `x` may run requests meanwhile.
-fn counted(set: &TaskSet, x: TaskId, q: Option<ResourceId>, r: ResourceId, held: u64) -> u64
+fn count_if_passing(
+    set: &TaskSet,
+    x: TaskId,
+    q: Option<ResourceId>,
+    r: ResourceId,
+    held: u64,
+) -> u64
     requires runner { x.0 < length set.now.tasks }
     requires first { IfSome q (λ a. a.0 < length set.now.resources) }
     requires resource { r.0 < length set.now.resources }
@@ -129,22 +136,22 @@ pub(crate) fn shared_holdings(
     x: TaskId,
     q: Option<ResourceId>,
     bounds: &[u64],
-    held: &[[u64; 32]],
+    held: &HeldBesideTasks,
 ) -> u64
     requires task { i.0 < length set.now.tasks }
     requires runner { x.0 < length set.now.tasks }
     requires first { IfSome q (λ a. a.0 < length set.now.resources) }
-    requires held { AreHeldBesideEach set.now (slice_index bounds.now) i.0 held.now }
+    requires held { AreHeldBesideEach set.now (slice_index bounds.now) i.0 held.now.requests.items }
     ensures value { result ≡ shared_holdings set.now (held_in_waits set.now i.0 (slice_index bounds.now) x.0) i.0 x.0 (passes set.now x.0 q) }
     ensures most { result ≤ 4096000000032000 }
 {
     // a set has at most 32 resources, so the sum fits
     let _resources = set.resources();
     let used = set.used_by(i);
-    let beside = &held[x.0 as usize];
+    let beside = &held.requests[x.0 as usize];
     let mut total = 0;
     for k in 0..used.len() {
-        total += counted(set, x, q, used[k], beside[k]);
+        total += count_if_passing(set, x, q, used[k], beside[k]);
     }
     total
 }

@@ -5,15 +5,15 @@ ghost use Rattle.number_laws.specs.Sums.{only_if};
 ghost use Rattle.mpcp_window_laws.specs.MpcpWindows.{may_run_instead, holding_ticks, may_hold_before, longest_lower_holding};
 ghost use Rattle.closer_mpcp.specs.Tables.{AreFirst, AreHolders};
 
-use crate::first_ticks::{FirstOfTasks, first_of_tasks};
+use crate::first_ticks::{FirstTicks, first_of_tasks};
 use fragments::{share_processor, uses};
 use sporadic_model::{ResourceId, TaskId, TaskSet};
 
 /// What others may do with a resource while the analysed task waits for it, as far as it doesn't depend on the bounds.
 #[derive(Drop)]
 pub(crate) struct OtherHolders {
-    /// Of each task, how long its requests last that go first.
-    pub(crate) first: FirstOfTasks,
+    /// Of each task, by its number, how long its requests last that go first.
+    pub(crate) first: [FirstTicks; 64],
     /// For how many ticks a lower task may hold the resource.
     pub(crate) lower: u64,
 }
@@ -28,17 +28,17 @@ fn may_run_instead(set: &TaskSet, i: TaskId, y: TaskId, x: TaskId) -> bool
 }
 
 // For how many ticks may `y` hold `q` while `i` waits?
-fn holding_ticks(set: &TaskSet, i: TaskId, q: ResourceId, first: &FirstOfTasks, y: TaskId) -> u64
+fn holding_ticks(set: &TaskSet, i: TaskId, q: ResourceId, first: &[FirstTicks], y: TaskId) -> u64
     requires resource { q.0 < length set.now.resources }
     requires holder { y.0 < length set.now.tasks }
-    requires first { AreFirst set.now q.0 first.now.longest first.now.all }
+    requires first { AreFirst set.now q.0 first.now }
     ensures value { result ≡ holding_ticks set.now i.0 q.0 y.0 }
     ensures most { result ≤ 65000000000 }
 {
     let mut total = set.length(y, q);
     for x in 0..set.tasks() {
         if may_run_instead(set, i, y, TaskId(x)) {
-            total += first.longest[x as usize];
+            total += first[x as usize].longest;
         }
     }
     total
@@ -55,11 +55,11 @@ fn may_hold_before(set: &TaskSet, i: TaskId, q: ResourceId, y: TaskId) -> bool
 }
 
 // For how many ticks may it hold `q` then?
-fn lower_holding(set: &TaskSet, i: TaskId, q: ResourceId, first: &FirstOfTasks, y: TaskId) -> u64
+fn lower_holding(set: &TaskSet, i: TaskId, q: ResourceId, first: &[FirstTicks], y: TaskId) -> u64
     requires task { i.0 < length set.now.tasks }
     requires resource { q.0 < length set.now.resources }
     requires holder { y.0 < length set.now.tasks }
-    requires first { AreFirst set.now q.0 first.now.longest first.now.all }
+    requires first { AreFirst set.now q.0 first.now }
     ensures value { result ≡ only_if (may_hold_before set.now i.0 q.0 y.0) (holding_ticks set.now i.0 q.0 y.0) }
     ensures most { result ≤ 65000000000 }
 {
@@ -71,10 +71,10 @@ fn lower_holding(set: &TaskSet, i: TaskId, q: ResourceId, first: &FirstOfTasks, 
 }
 
 // For how many ticks may the longest such holding last?
-fn longest_lower_holding(set: &TaskSet, i: TaskId, q: ResourceId, first: &FirstOfTasks) -> u64
+fn longest_lower_holding(set: &TaskSet, i: TaskId, q: ResourceId, first: &[FirstTicks]) -> u64
     requires task { i.0 < length set.now.tasks }
     requires resource { q.0 < length set.now.resources }
-    requires first { AreFirst set.now q.0 first.now.longest first.now.all }
+    requires first { AreFirst set.now q.0 first.now }
     ensures value { result ≡ longest_lower_holding set.now i.0 q.0 }
     ensures most { result ≤ 65000000000 }
 {

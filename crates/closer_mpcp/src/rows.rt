@@ -19,7 +19,7 @@ ghost use Rattle.shared_requests.specs.Held.{AreSharedOut};
 ghost use Rattle.closer_mpcp.specs.Tables.{AreHeldBesideEach};
 ghost use Rattle.closer_mpcp.specs.Windows.{AreWaitWindows};
 
-use crate::held::held_beside_each;
+use crate::held::{HeldBesideTasks, held_beside_each};
 use crate::holdings::{run_beside_away_holdings, shared_holdings};
 use crate::wait_rows::add_wait_rows;
 use crate::windows::wait_windows;
@@ -68,13 +68,13 @@ impl RowKind for SharedHoldingRow {
 /// The rows of shared holdings of each task, with what can be held beside each.
 #[derive(Drop)]
 struct SharedHoldingRows<'a> {
-    held: &'a [[u64; 32]],
+    held: &'a HeldBesideTasks,
 }
 
 impl<'a> PerTask for SharedHoldingRows<'a> {
     ghost rows_of = { λ k set i x. shared_holding_row set (held_in_waits set i) i x ∷ [] };
 
-    ghost fits = { λ k set i bounds. AreHeldBesideEach set (slice_index bounds) i k.held.now };
+    ghost fits = { λ k set i bounds. AreHeldBesideEach set (slice_index bounds) i k.held.now.requests.items };
 
     fn add<T: RowTaker>(
         &self,
@@ -122,7 +122,7 @@ impl RowKind for ResourceHoldingRow {
 /// The rows of holdings by resource, of each task and each resource, with the same.
 #[derive(Drop)]
 struct ResourceHoldingRows<'a> {
-    held: &'a [[u64; 32]],
+    held: &'a HeldBesideTasks,
 }
 
 impl<'a> PerRequest for ResourceHoldingRows<'a> {
@@ -132,7 +132,7 @@ impl<'a> PerRequest for ResourceHoldingRows<'a> {
 
     ghost apart = { λ k set i x q c other. rw other refl };
 
-    ghost fits = { λ k set i bounds. AreHeldBesideEach set (slice_index bounds) i k.held.now };
+    ghost fits = { λ k set i bounds. AreHeldBesideEach set (slice_index bounds) i k.held.now.requests.items };
 
     fn add<T: RowTaker>(
         &self,
@@ -275,14 +275,14 @@ fn add_holding_rows<T: RowTaker>(
     bounds: &[u64],
     columns: &[Fragment],
     places: &[TaskPlace],
-    held: &[[u64; 32]],
+    held: &HeldBesideTasks,
 ) -> Result<(), AllocError>
     requires task { i.0 < length set.now.tasks }
     requires within { AreWithinDeadlines set.now bounds.now }
     requires known { AreKnown (length set.now.tasks) (length set.now.resources) columns.now }
     requires order { AreInOrder columns.now }
     requires places { ArePlaces set.now (slice_index bounds.now) i.0 (length set.now.tasks) columns.now places.now }
-    requires held { AreHeldBesideEach set.now (slice_index bounds.now) i.0 held.now }
+    requires held { AreHeldBesideEach set.now (slice_index bounds.now) i.0 held.now.requests.items }
     ensures { OnOk result (T.takes taker.old (map column_seen columns.now)
         (per (length set.now.tasks) (shared_holding_row set.now (held_in_waits set.now i.0) i.0)
         ++ per_pair (length set.now.tasks) (length set.now.resources) (resource_holding_row set.now (held_in_waits set.now i.0) i.0))

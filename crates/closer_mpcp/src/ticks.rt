@@ -7,7 +7,7 @@ ghost use Rattle.blocking_columns.specs.Windows.{jobs_during, requests_during};
 ghost use Rattle.mpcp_window_laws.specs.MpcpWindows.{own_ticks, holdings_beside, ticks_instead, ticks_held};
 ghost use Rattle.closer_mpcp.specs.Tables.{AreFirst, AreHoldings, AreHolders};
 
-use crate::first_ticks::FirstOfTasks;
+use crate::first_ticks::FirstTicks;
 use crate::lower_holders::OtherHolders;
 use sporadic_model::{ResourceId, TaskId, TaskSet, jobs_in};
 
@@ -150,7 +150,7 @@ fn ticks_by(
     i: TaskId,
     q: ResourceId,
     bounds: &[u64],
-    first: &FirstOfTasks,
+    first: &[FirstTicks],
     span: u64,
     holdings: &[u64],
     x: TaskId,
@@ -159,15 +159,15 @@ fn ticks_by(
     requires resource { q.0 < length set.now.resources }
     requires runner { x.0 < length set.now.tasks }
     requires within { AreWithinDeadlines set.now bounds.now }
-    requires first { AreFirst set.now q.0 first.now.longest first.now.all }
+    requires first { AreFirst set.now q.0 first.now }
     requires span { span ≤ 1000000000 }
     requires holdings { AreHoldings set.now (slice_index bounds.now) i.0 q.0 span holdings.now }
     ensures value { result ≡ ticks_instead set.now (slice_index bounds.now) i.0 q.0 span x.0 }
     ensures most { result ≤ 64000000000000000000000 }
 {
-    let longest = first.longest[x.0 as usize];
+    let of_runner = first[x.0 as usize];
     // most tasks have no request that goes first
-    if longest == 0 {
+    if of_runner.longest == 0 {
         return 0;
     }
     let beside = holdings_beside(set, i, q, bounds, span, holdings, x);
@@ -175,8 +175,8 @@ fn ticks_by(
     if beside == 0 {
         return 0;
     }
-    let instead = u128::from(beside) * u128::from(longest);
-    instead.min(ticks_of_jobs(set, bounds, span, x, first.all[x.0 as usize]))
+    let instead = u128::from(beside) * u128::from(of_runner.longest);
+    instead.min(ticks_of_jobs(set, bounds, span, x, of_runner.all))
 }
 
 // For how many ticks may all tasks run instead of the holders?
@@ -185,13 +185,13 @@ fn ticks_instead(
     i: TaskId,
     q: ResourceId,
     bounds: &[u64],
-    first: &FirstOfTasks,
+    first: &[FirstTicks],
     span: u64,
 ) -> u128
     requires task { i.0 < length set.now.tasks }
     requires resource { q.0 < length set.now.resources }
     requires within { AreWithinDeadlines set.now bounds.now }
-    requires first { AreFirst set.now q.0 first.now.longest first.now.all }
+    requires first { AreFirst set.now q.0 first.now }
     requires span { span ≤ 1000000000 }
     ensures value { result ≡ sum_below (length set.now.tasks) (ticks_instead set.now (slice_index bounds.now) i.0 q.0 span) }
     ensures most { result ≤ 4096000000000000000000000 }

@@ -16,24 +16,25 @@ overflow_add-all c =
       c.first_of_resource-some.ensures.all_to,
     )
 
-pub returns-clause-longest : goal.returns-clause-longest
-returns-clause-longest c =
-    longest_of_used c.args.set.now c.args.x.0 c.args.q.0 c.used_by-used.result.now c.loop-r.r-index c.loop-r.longest
-    c.used_by-used.ensures.value c.keeps_the_model.ensures.accepted c.requires.task (omega (arith, c.loop-r-test.false)) c.loop-r.invariant.longest
-
-pub returns-clause-all : goal.returns-clause-all
-returns-clause-all c =
-    time_of_used c.args.set.now c.args.x.0 c.args.q.0 c.used_by-used.result.now c.loop-r.r-index c.loop-r.all
-    c.used_by-used.ensures.value (omega (arith, c.loop-r-test.false)) c.loop-r.invariant.all
-
-pub returns-clause-all_to : goal.returns-clause-all_to
-returns-clause-all_to c =
-    let few = used_few c.args.set.now c.args.x.0 c.used_by-used.result.now c.used_by-used.ensures.value in
-    omega (
-      arith,
-      few,
-      c.loop-r.auto.r-index-end,
-      c.resources-resources.ensures.value,
-      c.resources-resources.ensures.most,
-      c.loop-r.invariant.all_to,
-    )
+pub returns : goal.returns
+returns c =
+    let set = c.args.set.now in
+    let x = c.args.x.0 in
+    let q = c.args.q.0 in
+    let used = c.used_by-used.result.now in
+    let k = c.loop-r.r-index in
+    record {
+      longest = longest_of_used set x q used k c.loop-r.longest c.used_by-used.ensures.value c.keeps_the_model.ensures.accepted
+          c.requires.task (omega (arith, c.loop-r-test.false)) c.loop-r.invariant.longest;
+      all = time_of_used set x q used k c.loop-r.all c.used_by-used.ensures.value (omega (arith, c.loop-r-test.false))
+          c.loop-r.invariant.all;
+      longest_to = c.loop-r.invariant.longest_to;
+      all_to = omega (
+        arith,
+        used_few set x used c.used_by-used.ensures.value,
+        c.loop-r.auto.r-index-end,
+        c.resources-resources.ensures.value,
+        c.resources-resources.ensures.most,
+        c.loop-r.invariant.all_to,
+      );
+    }

@@ -6,8 +6,9 @@ use Rattle.closer_mpcp.proofs.ListedSums.{used_few, long_as, number_of}
 use Rattle.closer_mpcp.proofs.Pushed.{one_written}
 use Rattle.closer_mpcp.proofs.held.held_beside_task.Goals as goal
 
-pub bounds-held-k : goal.bounds-held-k
-bounds-held-k c =
+-- A set has no more resources than the row has places.
+within : (c : goal.After-shared_beside) → c.loop-k.k < length c.loop-k.held
+within c =
     let few = used_few c.args.set.now c.args.i.0 c.used_by-used.result.now c.used_by-used.ensures.value in
     omega (
       arith,
@@ -18,6 +19,9 @@ bounds-held-k c =
       c.loop-k.invariant.enough,
     )
 
+pub bounds-held-k : goal.bounds-held-k
+bounds-held-k c = omega (arith, within c, c.loop-k.invariant.enough)
+
 pub loop-k-preserved : goal.loop-k-preserved
 loop-k-preserved c =
     let set = c.args.set.now in
@@ -25,22 +29,13 @@ loop-k-preserved c =
     let x = c.args.x.0 in
     let used = c.used_by-used.result.now in
     let bounds = slice_index c.args.bounds.now in
-    let few = used_few set i used c.used_by-used.ensures.value in
-    let within : c.loop-k.k < length c.loop-k.held = omega (
-      arith,
-      few,
-      c.loop-k-test.true,
-      c.resources-resources.ensures.value,
-      c.resources-resources.ensures.most,
-      c.loop-k.invariant.enough,
-    ) in
     let last = c.shared_beside.ensures.value ∙ ap (shared_beside set bounds i x)
     (sym (number_of set i used c.loop-k.k (record { 0 = 0 }) c.used_by-used.ensures.value c.loop-k-test.true)) in
     record {
       enough = search rules;
       each = one_written (λ k n. n ≡ shared_beside set bounds i x (slice_index (used_by set i) k)) c.loop-k.k c.shared_beside.result
-          c.loop-k.held within c.loop-k.invariant.each last;
-      small = one_written (λ k n. n ≤ 128000000001000) c.loop-k.k c.shared_beside.result c.loop-k.held within c.loop-k.invariant.small
+          c.loop-k.held (within c) c.loop-k.invariant.each last;
+      small = one_written (λ k n. n ≤ 128000000001000) c.loop-k.k c.shared_beside.result c.loop-k.held (within c) c.loop-k.invariant.small
           c.shared_beside.ensures.most;
     }
 

@@ -1,7 +1,7 @@
-use Rattle.std.proofs.Common.{◌≡◌, ◌+◌, ◌<◌, ◌≤◌, [], length, ap, ◌∙◌, arith}
+use Rattle.std.proofs.Common.{◌≡◌, ℕ, ◌+◌, ◌<◌, ◌≤◌, List, [], length, ap, ◌∙◌, arith}
 use Rattle.std.specs.Prelude.{slice_index, slice_index_or}
 use Rattle.std.specs.List.{sum_by}
-use Rattle.std.proofs.lemmas.List.{drop_all}
+use Rattle.std.proofs.lemmas.List.{drop_all, get_or_default}
 use Rattle.number_laws.specs.Sums.{only_if}
 use Rattle.number_laws.proofs.SumLaws.{only_if-at_most}
 use Rattle.sporadic_model.specs.Users.{used_by}
@@ -23,34 +23,40 @@ bounds-beside-k c =
       c.resources-resources.ensures.most,
     )
 
-within : (c : goal.After-counted-total) → c.loop-k.k < length (used_by c.args.set.now c.args.i.0)
+within : (c : goal.After-count_if_passing-total) → c.loop-k.k < length (used_by c.args.set.now c.args.i.0)
 within c =
     let used = c.used_by-used.result.now in
     omega (arith, long_as c.args.set.now c.args.i.0 used c.used_by-used.ensures.value, c.loop-k-test.true)
 
--- The entry of the table that is read.
-entry : (c : goal.After-counted-total) → slice_index (slice_index_or c.args.held.now c.args.x.0 []) c.loop-k.k
-    ≡ shared_beside c.args.set.now (slice_index c.args.bounds.now) c.args.i.0 c.args.x.0 (slice_index_or c.used_by-used.result.now c.loop-k.k (record { 0 = 0 })).0
+-- The row of the table that is read.
+row : (c : goal.After-count_if_passing-total) → c.index-beside.result.now ≡ slice_index_or c.args.held.now.requests.items c.args.x.0 []
+row c = c.index-beside.ensures ∙ get_or_default c.args.held.now.requests.items c.args.x.0 c.index-beside.result.now []
+    (omega (arith, c.requires.held.one_each, c.requires.runner))
+
+-- And its entry.
+entry : (c : goal.After-count_if_passing-total) → slice_index c.index-beside.result.now c.loop-k.k
+    ≡ shared_beside c.args.set.now (slice_index c.args.bounds.now) c.args.i.0 c.args.x.0
+    (slice_index_or c.used_by-used.result.now c.loop-k.k (record { 0 = 0 })).0
 entry c =
     let set = c.args.set.now in
     let i = c.args.i.0 in
     let used = c.used_by-used.result.now in
-    (c.requires.held.each c.args.x.0 c.requires.runner).each c.loop-k.k (within c)
+    ap (λ (ns : List ℕ). slice_index ns c.loop-k.k) (row c)
+    ∙ (c.requires.held.each c.args.x.0 c.requires.runner).each c.loop-k.k (within c)
     ∙ ap (shared_beside set (slice_index c.args.bounds.now) i c.args.x.0)
     (number_of set i used c.loop-k.k (record { 0 = 0 }) c.used_by-used.ensures.value c.loop-k-test.true)
 
-small : (c : goal.After-counted-total) → c.counted-total.result ≤ 128000000001000
+small : (c : goal.After-count_if_passing-total) → c.count_if_passing-total.result ≤ 128000000001000
 small c =
-    let row = slice_index_or c.args.held.now c.args.x.0 [] in
-    let most : slice_index row c.loop-k.k ≤ 128000000001000 =
-    (c.requires.held.each c.args.x.0 c.requires.runner).small c.loop-k.k (within c) in
+    let most : slice_index c.index-beside.result.now c.loop-k.k ≤ 128000000001000 =
+    rw (row c) ((c.requires.held.each c.args.x.0 c.requires.runner).small c.loop-k.k (within c)) in
     omega (
       arith,
-      c.counted-total.ensures,
+      c.count_if_passing-total.ensures,
       most,
       only_if-at_most
           (passes c.args.set.now c.args.x.0 c.args.q (slice_index_or c.used_by-used.result.now c.loop-k.k (record { 0 = 0 })).0)
-          (slice_index row c.loop-k.k),
+          (slice_index c.index-beside.result.now c.loop-k.k),
     )
 
 pub overflow_add-total : goal.overflow_add-total
@@ -75,12 +81,12 @@ loop-k-preserved c =
     let bounds = slice_index c.args.bounds.now in
     let used = c.used_by-used.result.now in
     let r = (slice_index_or used c.loop-k.k (record { 0 = 0 })).0 in
-    let term : c.counted-total.result ≡ only_if (counts set i x q r) (held_beside set bounds i x r) =
-    c.counted-total.ensures ∙ (ap (only_if (passes set x q r)) (entry c)
+    let term : c.count_if_passing-total.result ≡ only_if (counts set i x q r) (held_beside set bounds i x r) =
+    c.count_if_passing-total.ensures ∙ (ap (only_if (passes set x q r)) (entry c)
     ∙ both_asked (is_shared_out set i r) (passes set x q r) (held_beside set bounds i x r)) in
     record {
       value = one_term_more (λ (r : ResourceId). only_if (counts set i x q r.0) (held_beside set bounds i x r.0)) used (record { 0 = 0 })
-          c.loop-k.k c.counted-total.result c.loop-k.total _ c.loop-k-test.true c.loop-k.invariant.value term;
+          c.loop-k.k c.count_if_passing-total.result c.loop-k.total _ c.loop-k-test.true c.loop-k.invariant.value term;
       most = omega (arith, c.loop-k.invariant.most, small c);
     }
 
