@@ -1,1 +1,15 @@
 mod Quotients
+mod Entering
+mod Rows
+mod SeenRows
+mod FirstTables
+mod LeastPlaces
+mod LeastRows
+mod Choosing
+mod Takings
+mod Runs
+mod Exchanging
+mod RoundedNumbers
+mod Denominators
+mod Ends
+mod Answering

@@ -1,2 +1,11 @@
 pub mod RowView
+pub mod EntryView
+pub mod PivotView
 pub mod Tables
+pub mod Rows
+pub mod RowSteps
+pub mod Exchanges
+pub mod Choice
+pub mod Rounding
+pub mod EndSteps
+pub mod Ends

@@ -1,8 +1,9 @@
 //! Which variable enters the basis, and which row leaves it.
 
-ghost use Rattle.std.specs.Prelude.{◌≡◌, ◌⊎◌, ℕ, ◌<◌, length, IfOk, IfSome, pos, ◌<ℤ◌};
+ghost use Rattle.std.specs.Prelude.{◌≡◌, ◌⊎◌, ℕ, ◌<◌, ◌≤◌, length, slice_index, IfOk, IfSome, pos, ◌≤ℤ◌, ◌<ℤ◌};
 ghost use Rattle.whole_rows.specs.Rows.{num_at};
 ghost use Rattle.free_search.specs.Tables.{HavePlaces, row_at};
+ghost use Rattle.free_search.specs.Choice.{EntersAt, LeavesAmong, HaveLimits, Precedes, Comes};
 
 use crate::row::FreeRow;
 use std::alloc::{AllocError, Global};
@@ -13,7 +14,9 @@ use whole_numbers::Signed;
 fn lesser(best: Option<usize>, other: usize, outside: &[usize]) -> usize
     requires other { other < length outside.now }
     requires best { IfSome best (λ k. k < length outside.now) }
-    ensures { result < length outside.now }
+    ensures one { (result ≡ other) ⊎ (best ≡ Some result) }
+    ensures other { slice_index outside.now result ≤ slice_index outside.now other }
+    ensures best { IfSome best (λ k. slice_index outside.now result ≤ slice_index outside.now k) }
 {
     match best {
         Some(place) => {
@@ -30,7 +33,7 @@ fn lesser(best: Option<usize>, other: usize, outside: &[usize]) -> usize
 /// The place of the least variable whose number is above 0: of the one that enters.
 pub(crate) fn entering(nums: &[Signed], outside: &[usize]) -> Option<usize>
     requires { length outside.now ≡ length nums.now }
-    ensures { IfSome result (λ k. k < length nums.now) }
+    ensures { EntersAt result nums.now outside.now }
 {
     let mut least = None;
     for k in 0..nums.len() {
@@ -51,7 +54,7 @@ fn num_of(rows: &[FreeRow], i: usize, k: usize) -> &Signed
 }
 
 // Whether row i comes before row j where the variable at place k enters: its ratio is less, or as great and its basic variable less. In
-// a ratio the denominators cancel.
+// a ratio the denominators cancel, and no part of one is below 0.
 fn comes_before(
     alloc: Global,
     rows: &[FreeRow],
@@ -64,6 +67,10 @@ fn comes_before(
     requires other { j < length rows.now }
     requires place { (n : ℕ) × (k < n) × HavePlaces n rows.now }
     requires basis { length basis.now ≡ length rows.now }
+    requires limits { HaveLimits rows.now }
+    requires above { pos 0 <ℤ num_at (row_at rows.now i) k }
+    requires other_above { pos 0 <ℤ num_at (row_at rows.now j) k }
+    ensures { IfOk result (λ comes. Comes comes rows.now basis.now k i j) }
 {
     let ratio = rows[i]
         .limit()
@@ -93,7 +100,12 @@ fn earlier(
     requires best { IfSome best (λ r. r < length rows.now) }
     requires place { (n : ℕ) × (k < n) × HavePlaces n rows.now }
     requires basis { length basis.now ≡ length rows.now }
-    ensures { IfOk result (λ r. (r ≡ i) ⊎ (best ≡ Some r)) }
+    requires limits { HaveLimits rows.now }
+    requires above { pos 0 <ℤ num_at (row_at rows.now i) k }
+    requires best_above { IfSome best (λ r. pos 0 <ℤ num_at (row_at rows.now r) k) }
+    ensures one { IfOk result (λ r. (r ≡ i) ⊎ (best ≡ Some r)) }
+    ensures row { IfOk result (λ r. Precedes rows.now basis.now k r i) }
+    ensures best { IfOk result (λ r. IfSome best (λ b. Precedes rows.now basis.now k r b)) }
 {
     match best {
         Some(r) => {
@@ -113,8 +125,8 @@ pub(crate) fn leaving(
 ) -> Result<Option<usize>, AllocError>
     requires place { (n : ℕ) × (k < n) × HavePlaces n rows.now }
     requires basis { length basis.now ≡ length rows.now }
-    ensures within { IfOk result (λ found. IfSome found (λ r. r < length rows.now)) }
-    ensures above { IfOk result (λ found. IfSome found (λ r. pos 0 <ℤ num_at (row_at rows.now r) k)) }
+    requires limits { HaveLimits rows.now }
+    ensures { IfOk result (λ found. LeavesAmong found (length rows.now) rows.now basis.now k) }
 {
     let mut best = None;
     for i in 0..rows.len() {

@@ -3,11 +3,12 @@
 //! [`search`] makes the exchange run of the program: the least variable enters, the least ratio leaves, and among equal ones the row with
 //! the least basic variable. Each row has one denominator, and a number for each variable outside the basis. No number is too large for it.
 //!
-//! Its contract promises sizes alone, and nothing of what it finds. Whoever calls it tests the point and the dual.
+//! It is proved that it makes this run, and reads off its end.
 #![tactic(auto)]
 
 ghost use Rattle.std.specs.Prelude.{◌≡◌, ◌<◌, ◌≤◌, length, IfOk};
 ghost use Rattle.program_form.specs.Program.{columns, height};
+ghost use Rattle.free_search.specs.Ends.{Searches};
 
 mod choice;
 mod end;
@@ -15,19 +16,23 @@ mod found;
 mod rounding;
 mod row;
 mod start;
+mod step;
 mod tableau;
 
-use choice::{entering, leaving};
-use end::finish;
+use choice::entering;
 pub use found::{Found, SearchStop};
 use program_form::SparseProgram;
 pub use rounding::rounded_down;
 use start::first_tableau;
 use std::alloc::Global;
-use tableau::exchange;
+use step::{answer_at_end, step};
 
 /// Searches the optimum of a program. The search takes 1 unit, and 1 more for each exchange.
+///
+/// `Units` comes only if the run needs more units. `Lost` comes only if a number of the dual at the end of the run is above 2^63 - 1, or the
+/// optimum is 2^64 or more. `Memory` comes only if memory runs out.
 pub fn search(alloc: Global, program: &SparseProgram, units: u64) -> Result<Found, SearchStop>
+    ensures searches { Searches result program.now units }
     ensures columns { IfOk result (λ f. length f.num.items ≡ columns program.now) }
     ensures point_den { IfOk result (λ f. 0 < f.den) }
     ensures rows { IfOk result (λ f. length f.dual.num.items ≡ height program.now) }
@@ -38,17 +43,12 @@ pub fn search(alloc: Global, program: &SparseProgram, units: u64) -> Result<Foun
     for exchanges in 0..units {
         let k = match entering(tableau.objective.nums(), &tableau.outside) {
             Some(k) => k,
-            None => return finish(alloc, program, &tableau, exchanges + 1),
+            None => return answer_at_end(alloc, program, &tableau, exchanges + 1),
         };
         if exchanges + 1 == units {
             return Err(SearchStop::Units);
         }
-        let r = match leaving(alloc, &tableau.rows, &tableau.basis, k)? {
-            Some(r) => r,
-            // no program is unbounded, so some row leaves
-            None => return Err(SearchStop::Lost),
-        };
-        exchange(alloc, &mut tableau, k, r)?;
+        step(alloc, program, &mut tableau, k)?;
     }
     Err(SearchStop::Units)
 }

@@ -1,8 +1,10 @@
 //! The first table.
 
-ghost use Rattle.std.specs.Prelude.{◌≡◌, ◌+◌, ◌<◌, ◌^◌, length, IfOk};
+ghost use Rattle.std.specs.Prelude.{◌≡◌, ℕ, ◌+◌, ◌<◌, ◌^◌, pos, length, slice_index, slice_index_or, IfOk};
 ghost use Rattle.program_form.specs.Program.{columns, height};
-ghost use Rattle.free_search.specs.Tables.{HavePlaces, HasSizes};
+ghost use Rattle.program_form.specs.SparseRows.{number_at, AreCoefficients};
+ghost use Rattle.whole_runs.specs.Starts.{IsFirstRow, IsCostRow, IsFirstBasis, AreFirstOutside};
+ghost use Rattle.free_search.specs.Tables.{row_at, HasSizes, IsAfter};
 
 use crate::row::FreeRow;
 use crate::tableau::Tableau;
@@ -12,7 +14,8 @@ use whole_numbers::{Signed, Whole};
 
 // So many zeros.
 fn zeros(alloc: Global, count: usize) -> Result<Vec<Signed>, AllocError>
-    ensures { IfOk result (λ v. length v.items ≡ count) }
+    ensures as_many { IfOk result (λ v. length v.items ≡ count) }
+    ensures each { IfOk result (λ v. (k : ℕ) → slice_index_or v.items k (pos 0) ≡ pos 0) }
 {
     let mut nums = Vec::with_capacity(alloc, count)?;
     for _ in 0..count {
@@ -23,19 +26,20 @@ fn zeros(alloc: Global, count: usize) -> Result<Vec<Signed>, AllocError>
 
 // Writes the coefficients at their columns.
 fn write_all(alloc: Global, nums: &mut [Signed], coefficients: &[Coefficient])
-    ensures { length nums.new ≡ length nums.old }
+    requires listed { AreCoefficients (length nums.old) coefficients.now }
+    requires zero { (v : ℕ) → slice_index_or nums.old v (pos 0) ≡ pos 0 }
+    ensures as_many { length nums.new ≡ length nums.old }
+    ensures each { (v : ℕ) → slice_index_or nums.new v (pos 0) ≡ pos (number_at coefficients.now v) }
 {
     for coefficient in coefficients {
-        if let Some(num) = nums.get_mut(coefficient.column as usize) {
-            *num = Signed::of(Whole::of(alloc, coefficient.number));
-        }
+        nums[coefficient.column as usize] = Signed::of(Whole::of(alloc, coefficient.number));
     }
 }
 
 // Row i of the program.
 fn first_row(alloc: Global, program: &SparseProgram, i: u32) -> Result<FreeRow, AllocError>
     requires { i < height program.now }
-    ensures { IfOk result (λ row. length row.nums ≡ columns program.now) }
+    ensures { IfOk result (IsFirstRow program.now i) }
 {
     let mut nums = zeros(alloc, program.columns() as usize)?;
     write_all(alloc, &mut nums, program.coefficients(i as usize));
@@ -45,7 +49,7 @@ fn first_row(alloc: Global, program: &SparseProgram, i: u32) -> Result<FreeRow, 
 
 // The objective row.
 fn cost_row(alloc: Global, program: &SparseProgram) -> Result<FreeRow, AllocError>
-    ensures { IfOk result (λ row. length row.nums ≡ columns program.now) }
+    ensures { IfOk result (IsCostRow program.now) }
 {
     let mut nums = Vec::with_capacity(alloc, program.columns() as usize)?;
     for c in 0..program.columns() {
@@ -57,7 +61,7 @@ fn cost_row(alloc: Global, program: &SparseProgram) -> Result<FreeRow, AllocErro
 // The rows.
 fn first_rows(alloc: Global, program: &SparseProgram) -> Result<Vec<FreeRow>, AllocError>
     ensures as_many { IfOk result (λ rows. length rows.items ≡ height program.now) }
-    ensures places { IfOk result (λ rows. HavePlaces (columns program.now) rows.items) }
+    ensures each { IfOk result (λ rows. (i : ℕ) → i < height program.now → IsFirstRow program.now i (row_at rows.items i)) }
 {
     let mut rows = Vec::with_capacity(alloc, program.rows() as usize)?;
     for i in 0..program.rows() {
@@ -69,7 +73,8 @@ fn first_rows(alloc: Global, program: &SparseProgram) -> Result<Vec<FreeRow>, Al
 // The whole numbers from `first` on.
 fn count_from(alloc: Global, first: usize, count: usize) -> Result<Vec<usize>, AllocError>
     requires { first + count < 2 ^ 64 }
-    ensures { IfOk result (λ v. length v.items ≡ count) }
+    ensures as_many { IfOk result (λ v. length v.items ≡ count) }
+    ensures each { IfOk result (λ v. (k : ℕ) → k < count → slice_index v.items k ≡ first + k) }
 {
     let mut list = Vec::with_capacity(alloc, count)?;
     for k in 0..count {
@@ -82,6 +87,11 @@ fn count_from(alloc: Global, first: usize, count: usize) -> Result<Vec<usize>, A
 pub(crate) fn first_tableau(alloc: Global, program: &SparseProgram) -> Result<Tableau, AllocError>
     ensures sizes { IfOk result (HasSizes (columns program.now)) }
     ensures rows { IfOk result (λ t. length t.rows.items ≡ height program.now) }
+    ensures each { IfOk result (λ t. (i : ℕ) → i < height program.now → IsFirstRow program.now i (row_at t.rows.items i)) }
+    ensures objective { IfOk result (λ t. IsCostRow program.now t.objective) }
+    ensures basis { IfOk result (λ t. IsFirstBasis program.now t.basis.items) }
+    ensures outside { IfOk result (λ t. AreFirstOutside program.now t.outside.items) }
+    ensures first { IfOk result (IsAfter program.now 0) }
 {
     let columns = program.columns() as usize;
     let rows = program.rows() as usize;

@@ -1,12 +1,13 @@
 //! The table of a run, and its exchanges.
 
-ghost use Rattle.std.specs.Prelude.{◌≡◌, ℕ, ◌<◌, length, IfOk, OnOk, pos, ◌<ℤ◌};
-ghost use Rattle.whole_rows.specs.Rows.{num_at};
+ghost use Rattle.std.specs.Prelude.{◌≡◌, ◌≢◌, ℕ, ◌<◌, length, IfOk, OnOk, pos, ◌<ℤ◌};
+ghost use Rattle.whole_rows.specs.Rows.{num_at, AreBelow, IsPivotOf};
 ghost use Rattle.free_search.specs.Tables.{HavePlaces, HasSizes, row_at};
+ghost use Rattle.free_search.specs.Rows.{IsDividedRow};
+ghost use Rattle.free_search.specs.Exchanges.{IsTaken, IsExchanged, AreTakenTo, ExchangesRows};
 
 use crate::row::{FreeRow, Pivot};
 use std::alloc::{AllocError, Global};
-use std::mem::swap;
 
 /// The table of a run. A variable of the basis has no place in its rows.
 #[derive(Drop)]
@@ -21,11 +22,14 @@ pub(crate) struct Tableau {
     pub(crate) outside: Vec<usize>,
 }
 
-// Takes the pivot row away from a row, its cell at place k times.
+// Takes the pivot row away from a row, its cell at place k times. If that cell is 0, the row stays.
 fn take_from(alloc: Global, row: &mut FreeRow, k: usize, pivot: &Pivot) -> Result<(), AllocError>
-    requires { k < length row.old.nums }
-    ensures { length row.new.nums ≡ length row.old.nums }
+    requires place { k < length row.old.nums }
+    requires below { AreBelow (length row.old.nums) pivot.now.entries }
+    ensures places { length row.new.nums ≡ length row.old.nums }
+    ensures left { OnOk result (IsTaken row.old k pivot.now row.new) }
 {
+    let _positive = row.den();
     if row.num(k).is_zero() {
         return Ok(());
     }
@@ -35,9 +39,12 @@ fn take_from(alloc: Global, row: &mut FreeRow, k: usize, pivot: &Pivot) -> Resul
 // Divides row r by its number at place k, and reads it as the pivot.
 fn divide(alloc: Global, rows: &mut [FreeRow], k: usize, r: usize) -> Result<Pivot, AllocError>
     requires row { r < length rows.old }
-    requires place { (n : ℕ) × (k < n) × HavePlaces n rows.old }
+    requires place { k < length (row_at rows.old r).nums }
     requires above { pos 0 <ℤ num_at (row_at rows.old r) k }
-    ensures { (n : ℕ) → HavePlaces n rows.old → HavePlaces n rows.new }
+    ensures divided { IfOk result (λ _. IsDividedRow (row_at rows.old r) k (row_at rows.new r)) }
+    ensures others { (i : ℕ) → i ≢ r → row_at rows.new i ≡ row_at rows.old i }
+    ensures as_many { length rows.new ≡ length rows.old }
+    ensures pivot { IfOk result (λ pivot. IsPivotOf pivot (row_at rows.new r)) }
 {
     rows[r].enter(alloc, k)?;
     Pivot::of(alloc, &rows[r])
@@ -53,8 +60,12 @@ fn take_row(
     pivot: &Pivot,
 ) -> Result<(), AllocError>
     requires row { i < length rows.old }
-    requires place { (n : ℕ) × (k < n) × HavePlaces n rows.old }
-    ensures { (n : ℕ) → HavePlaces n rows.old → HavePlaces n rows.new }
+    requires place { k < length (row_at rows.old i).nums }
+    requires below { AreBelow (length (row_at rows.old i).nums) pivot.now.entries }
+    ensures as_many { length rows.new ≡ length rows.old }
+    ensures others { (j : ℕ) → j ≢ i → row_at rows.new j ≡ row_at rows.old j }
+    ensures own { i ≡ r → row_at rows.new i ≡ row_at rows.old i }
+    ensures left { OnOk result (i ≢ r → IsTaken (row_at rows.old i) k pivot.now (row_at rows.new i)) }
 {
     if i == r {
         return Ok(());
@@ -70,8 +81,8 @@ fn take_all(
     r: usize,
     pivot: &Pivot,
 ) -> Result<(), AllocError>
-    requires { (n : ℕ) × (k < n) × HavePlaces n rows.old }
-    ensures { (n : ℕ) → HavePlaces n rows.old → HavePlaces n rows.new }
+    requires places { (n : ℕ) × (k < n) × (HavePlaces n rows.old) × AreBelow n pivot.now.entries }
+    ensures { OnOk result (AreTakenTo (length rows.old) rows.old rows.new k r pivot.now) }
 {
     for i in 0..rows.len() {
         take_row(alloc, rows, i, k, r, pivot)?;
@@ -89,7 +100,7 @@ fn exchange_rows(
     requires row { r < length rows.old }
     requires place { (n : ℕ) × (k < n) × HavePlaces n rows.old }
     requires above { pos 0 <ℤ num_at (row_at rows.old r) k }
-    ensures { (n : ℕ) → HavePlaces n rows.old → HavePlaces n rows.new }
+    ensures { IfOk result (λ pivot. ExchangesRows rows.old rows.new k r pivot) }
 {
     let pivot = divide(alloc, rows, k, r)?;
     take_all(alloc, rows, k, r, &pivot)?;
@@ -107,11 +118,12 @@ pub(crate) fn exchange(
     requires row { r < length tableau.old.rows.items }
     requires above { pos 0 <ℤ num_at (row_at tableau.old.rows.items r) k }
     requires sizes { HasSizes (length tableau.old.outside.items) tableau.old }
-    ensures sizes { OnOk result (HasSizes (length tableau.old.outside.items) tableau.new) }
-    ensures rows { OnOk result (length tableau.new.rows.items ≡ length tableau.old.rows.items) }
+    ensures { OnOk result (IsExchanged tableau.old k r tableau.new) }
 {
     let pivot = exchange_rows(alloc, &mut tableau.rows, k, r)?;
     take_from(alloc, &mut tableau.objective, k, &pivot)?;
-    swap(&mut tableau.outside[k], &mut tableau.basis[r]);
+    let entered = tableau.outside[k];
+    tableau.outside[k] = tableau.basis[r];
+    tableau.basis[r] = entered;
     Ok(())
 }

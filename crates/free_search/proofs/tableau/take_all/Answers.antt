@@ -1,5 +1,8 @@
+use Rattle.free_search.proofs.Takings.{taken_more}
 use Rattle.free_search.proofs.tableau.take_all.Goals as goal
 
-pub take_row-requires-clause-place : goal.take_row-requires-clause-place
-take_row-requires-clause-place c =
-    (c.requires.0, c.requires.1, c.loop-i.invariant c.requires.0 c.requires.2)
+pub loop-i-preserved : goal.loop-i-preserved
+loop-i-preserved c =
+    let step = c.in_ok-take_row.ensures in
+    taken_more c.loop-i.i c.args.rows.now c.loop-i.rows c.take_row.new.rows c.args.k c.args.r c.args.pivot.now c.loop-i.invariant
+    step.as_many step.others step.own step.left
