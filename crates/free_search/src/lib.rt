@@ -22,7 +22,7 @@ mod tableau;
 use choice::entering;
 pub use found::{Found, SearchStop};
 use program_form::SparseProgram;
-pub use rounding::rounded_down;
+pub use rounding::round_down;
 use start::first_tableau;
 use std::alloc::Global;
 use step::{answer_at_end, step};

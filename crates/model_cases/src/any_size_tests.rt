@@ -1,5 +1,5 @@
 use crate::simplex_tests::{CHAINED, program_of};
-use free_search::{Found, rounded_down, search};
+use free_search::{Found, round_down, search};
 use point_tests::is_worth;
 use program_form::{Dual, SparseProgram};
 use std::alloc::{AllocError, Global};
@@ -127,7 +127,7 @@ fn searches_end_as_the_solver_answers(rt: HostRuntime) -> Result<(), Fail> {
         found.dual.num.as_slice(),
         [1047553, 1047552, 1048576].as_slice()
     );
-    let Some(point) = rounded_down(alloc, &found)? else {
+    let Some(point) = round_down(alloc, &found)? else {
         return Err("the point fits".into());
     };
     assert_eq!(rt; point.den, 1073741824);
@@ -152,7 +152,7 @@ fn wide_points_are_rounded_down(rt: HostRuntime) -> Result<(), Fail> {
         },
         used: 1,
     };
-    let Some(point) = rounded_down(alloc, &found)? else {
+    let Some(point) = round_down(alloc, &found)? else {
         return Err("the point fits".into());
     };
     assert_eq!(rt; point.den, 4611686018427387904);

@@ -14,7 +14,7 @@ use sporadic_model::TaskSet;
 use std::alloc::Global;
 
 /// What is answered for this end of a round, with the steps up to there.
-fn ended(stop: RoundStop, steps: Vec<RefusalStep>) -> Result<Answer, RefuteStop>
+fn answer_of_stop(stop: RoundStop, steps: Vec<RefusalStep>) -> Result<Answer, RefuteStop>
     ensures { result ≡ answer_at stop steps }
 {
     match stop {
@@ -46,7 +46,7 @@ fn take_rounds<P: ProgramSource>(
         let left = allowance - spent;
         let next = match take_round(alloc, set, protocol, &bounds, left, plan, &mut steps) {
             Ok(next) => next,
-            Err(stop) => return ended(stop, steps),
+            Err(stop) => return answer_of_stop(stop, steps),
         };
         let Round { used, values, kept } = next;
         if values == bounds {

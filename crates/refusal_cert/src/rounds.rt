@@ -9,7 +9,7 @@ ghost use Rattle.refusal_cert.specs.Answers.{GivesRound};
 use crate::task_run::run_task;
 use program_sources::ProgramSource;
 use refusal_laws::RefusalStep;
-use response_fixpoint::{Planned, Round, RoundStop, begun_or_formed, stopped, take_run};
+use response_fixpoint::{Planned, Round, RoundStop, planned_program, round_stop, take_run};
 use sporadic_model::{TaskId, TaskSet};
 use std::alloc::Global;
 
@@ -40,7 +40,7 @@ pub fn take_round<P: ProgramSource>(
     for i in 0..set.tasks() {
         let task = TaskId(i);
         let begun = plan.next();
-        let planned = begun_or_formed(alloc, set, protocol, task, bounds, left, begun)?;
+        let planned = planned_program(alloc, set, protocol, task, bounds, left, begun)?;
         let Planned { program, ahead, .. } = planned;
         let here = left - round.used;
         let ran = run_task(
@@ -48,7 +48,7 @@ pub fn take_round<P: ProgramSource>(
         );
         let run = match ran {
             Ok(run) => run,
-            Err(stop) => return Err(stopped(stop, task)),
+            Err(stop) => return Err(round_stop(stop, task)),
         };
         match take_run(&mut round, program, run, task, set.latest_bound(task)) {
             Ok(()) => {}

@@ -15,7 +15,7 @@ use sporadic_model::{TaskId, TaskSet};
 use std::alloc::Global;
 
 /// The best point of a run over its least common denominator.
-fn written(alloc: Global, best: &[Frac]) -> Result<Dual, SolveStop>
+fn scaled_point(alloc: Global, best: &[Frac]) -> Result<Dual, SolveStop>
     requires { All (λ f. pos 0 ≤ℤ f.num) best.now }
     ensures { WritesPoint result best.now }
 {
@@ -48,7 +48,7 @@ fn write_step(
     if !gives_step(bound, value) {
         return Ok(());
     }
-    let point = match written(alloc, best) {
+    let point = match scaled_point(alloc, best) {
         Ok(point) => point,
         Err(stop) => return Err(stop),
     };

@@ -35,7 +35,7 @@ pub fn costs(alloc: Global, set: &TaskSet) -> Result<Vec<u64>, AllocError>
 }
 
 /// What the analysis answers for this end of a round.
-fn ended(stop: RoundStop) -> Result<Verdict, Stop>
+fn verdict_of_stop(stop: RoundStop) -> Result<Verdict, Stop>
     ensures { result ≡ answer_at stop }
 {
     match stop {
@@ -60,7 +60,7 @@ fn duals_of(alloc: Global, kept: Vec<Kept>) -> Result<Vec<Dual>, AllocError>
 }
 
 /// What the analysis answers where a round gives the vector that it began with.
-fn settled(alloc: Global, bounds: Vec<u64>, kept: Vec<Kept>) -> Result<Verdict, Stop>
+fn verdict_at_fixpoint(alloc: Global, bounds: Vec<u64>, kept: Vec<Kept>) -> Result<Verdict, Stop>
     ensures { IsSettled result bounds.items (map (λ k. dual_seen k.solution.dual) kept.items) }
 {
     let duals = duals_of(alloc, kept)?;
@@ -87,11 +87,11 @@ fn take_rounds<R: Threads + Sync, P: ProgramSource + Sync>(
         let left = allowance - spent;
         let next = match take_round(rt, alloc, set, protocol, &bounds, left, plan) {
             Ok(next) => next,
-            Err(stop) => return ended(stop),
+            Err(stop) => return verdict_of_stop(stop),
         };
         let Round { used, values, kept } = next;
         if values == bounds {
-            return settled(alloc, values, kept);
+            return verdict_at_fixpoint(alloc, values, kept);
         }
         plan = next_plan(alloc, set, protocol, &bounds, &values, kept)?;
         bounds = values;

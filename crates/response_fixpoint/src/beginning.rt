@@ -113,7 +113,7 @@ fn begin_beside<R: Threads + Sync, P: ProgramSource + Sync>(
 }
 
 /// The program of task `i` as it was begun. If it wasn't begun, it is formed now.
-pub fn begun_or_formed<P: ProgramSource>(
+pub fn planned_program<P: ProgramSource>(
     alloc: Global,
     set: &TaskSet,
     protocol: &P,
@@ -152,7 +152,7 @@ fn in_order<P: ProgramSource>(
     let mut begun = places.into_iter();
     for i in 0..set.tasks() {
         let place = begun.next().flatten();
-        let planned = begun_or_formed(alloc, set, protocol, TaskId(i), bounds, left, place)?;
+        let planned = planned_program(alloc, set, protocol, TaskId(i), bounds, left, place)?;
         plan.push(planned)?;
     }
     Ok(plan)

@@ -30,7 +30,7 @@ pub struct Planned {
 }
 
 /// The program with its solution, both kept.
-fn taken_over(kept: Kept) -> Planned
+fn take_over(kept: Kept) -> Planned
     ensures program { result.program ≡ kept.program }
     ensures ahead { IfSome result.ahead (λ o. (o ≡ Ok kept.solution) × (kept.program ≡ result.program)) }
 {
@@ -44,13 +44,13 @@ fn taken_over(kept: Kept) -> Planned
 
 /// The program with these limits. If they are the old ones, it keeps its solution. If not, its run is likely to be as much work as the
 /// last one.
-fn renewed(kept: Kept, limits: Vec<u64>) -> Planned
+fn renew(kept: Kept, limits: Vec<u64>) -> Planned
     requires { IsProgram (record { costs = kept.program.costs; rows = kept.program.rows; limits = limits.items }) }
     ensures program { result.program ≡ record { costs = kept.program.costs; rows = kept.program.rows; limits = limits.items } }
     ensures ahead { IfSome result.ahead (λ o. (o ≡ Ok kept.solution) × (kept.program ≡ result.program)) }
 {
     if kept.program.limits() == limits.as_slice() {
-        return taken_over(kept);
+        return take_over(kept);
     }
     let Kept {
         mut program,
@@ -86,10 +86,10 @@ fn planned_after<P: ProgramSource>(
     // the lists of a set at bounds within its deadlines are a program
     let _tasks = set.tasks();
     if protocol.keeps_limits(set, i, earlier, bounds) {
-        return Ok(taken_over(kept));
+        return Ok(take_over(kept));
     }
     let limits = protocol.limits(alloc, set, i, bounds)?;
-    Ok(renewed(kept, limits))
+    Ok(renew(kept, limits))
 }
 
 /// The plan of the round at these bounds. It takes the programs of the round before, at the earlier bounds, and renews the limits that

@@ -54,7 +54,7 @@ impl<T: Drop> From<AllocFailed<T>> for RoundStop {
 }
 
 /// The end of a round for this end of a task's run.
-pub fn stopped(stop: SolveStop, task: TaskId) -> RoundStop
+pub fn round_stop(stop: SolveStop, task: TaskId) -> RoundStop
     ensures { result ≡ stop_at stop task.0 }
 {
     match stop {
@@ -120,7 +120,7 @@ pub fn take_round<R: Threads + Sync, P: ProgramSource + Sync>(
         let here = left - round.used;
         let run = match run_task(alloc, set, protocol, task, bounds, &program, here, outcome) {
             Ok(run) => run,
-            Err(stop) => return Err(stopped(stop, task)),
+            Err(stop) => return Err(round_stop(stop, task)),
         };
         match take_run(&mut round, program, run, task, set.latest_bound(task)) {
             Ok(()) => {}

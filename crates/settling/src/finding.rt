@@ -3,7 +3,7 @@
 ghost use Rattle.std.specs.Prelude.{◌≡◌, ◌<◌};
 
 use crate::search::Search;
-use free_search::{Found, SearchStop, rounded_down};
+use free_search::{Found, SearchStop, round_down};
 use program_form::{Dual, MOST_NUMBER, SparseProgram};
 use std::alloc::{AllocError, Global};
 use whole_numbers::Whole;
@@ -41,7 +41,7 @@ fn with_rounded_point(
     program: &SparseProgram,
     found: Found,
 ) -> Result<Option<Found>, AllocError> {
-    let Some(point) = rounded_down(alloc, &found)? else {
+    let Some(point) = round_down(alloc, &found)? else {
         return Ok(None);
     };
     let Found { dual, used, .. } = found;

@@ -60,7 +60,7 @@ fn small_point(alloc: Global, den: &Whole, num: &[Whole]) -> Result<Option<Dual>
 }
 
 /// What is reached stays reached if bounds rise. If the limits stay, no search finds more. This takes a unit.
-fn taken_over(alloc: Global, before: &Reached) -> Result<Reached, AllocError>
+fn take_over(alloc: Global, before: &Reached) -> Result<Reached, AllocError>
     ensures { IfOk result (λ r. r.ticks ≡ before.now.ticks) }
 {
     let point = match &before.point {
@@ -145,7 +145,7 @@ fn reach_task<P: ProgramSource, S: Search>(
     let limits = protocol.limits(alloc, set, i, bounds)?;
     if let Some(last) = before.get(i.0 as usize) {
         if last.limits == limits {
-            let reached = taken_over(alloc, last)?;
+            let reached = take_over(alloc, last)?;
             return Ok(reached);
         }
     }

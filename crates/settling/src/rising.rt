@@ -49,7 +49,7 @@ fn left_after(all: &[Reached], left: u64) -> Result<u64, SettleStop>
 }
 
 /// The end of a walk at bounds that don't rise any more.
-fn ended<P: ProgramSource>(
+fn end_of_walk<P: ProgramSource>(
     alloc: Global,
     set: &TaskSet,
     protocol: &P,
@@ -98,7 +98,7 @@ pub(crate) fn rise<P: ProgramSource, S: Search>(
             return Ok(Risen::Late(steps.refusal()));
         };
         if next == bounds {
-            return ended(alloc, set, protocol, bounds, all);
+            return end_of_walk(alloc, set, protocol, bounds, all);
         }
         reached = all;
         bounds = next;

@@ -49,7 +49,12 @@ fn better(r: usize, least: Frac, i: usize, ratio: Frac, basis: &[usize]) -> (usi
 }
 
 // The same, if there may be no row so far.
-fn chosen(best: Option<(usize, Frac)>, i: usize, ratio: Frac, basis: &[usize]) -> (usize, Frac)
+fn better_or_first(
+    best: Option<(usize, Frac)>,
+    i: usize,
+    ratio: Frac,
+    basis: &[usize],
+) -> (usize, Frac)
     requires within { i < length basis.now }
     requires earlier { IfSome best (λ b. b.0 < i) }
     ensures { (t : Table) (place e : ℕ) → ((k : ℕ) → t.basic k ≡ slice_index basis.now k)
@@ -77,7 +82,7 @@ pub(crate) fn leaving(
         let cell = rows[i].cell(e);
         if cell.is_above_zero() {
             let ratio = rows[i].cell(place).div(cell)?;
-            best = Some(chosen(best, i, ratio, basis));
+            best = Some(better_or_first(best, i, ratio, basis));
         }
     }
     Ok(best)

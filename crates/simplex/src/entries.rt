@@ -109,7 +109,7 @@ pub(crate) fn divide_all(
 }
 
 // What is left of a if f times y is subtracted.
-pub(crate) fn taken(a: Frac, f: Frac, y: Frac) -> Result<Frac, Wide>
+pub(crate) fn less_product(a: Frac, f: Frac, y: Frac) -> Result<Frac, Wide>
     requires { IsForm a }
     ensures { TakesCell result a f y }
 {
@@ -152,7 +152,7 @@ pub(crate) fn take_away(
     let mut v = variable_behind(entries, i, end).min(variable_behind(pivot, j, end));
     while v < end {
         let cell = value_behind(entries, i, v);
-        let rest = taken(cell, f, value_behind(pivot, j, v))?;
+        let rest = less_product(cell, f, value_behind(pivot, j, v))?;
         push_cell(&mut left, v, rest)?;
         i = count_through(entries, i, v);
         j = count_through(pivot, j, v);

@@ -28,7 +28,7 @@ fn take_all(
     for i in 0..rows.len() {
         let cell = rows[i].cell(e);
         if i != r && !cell.is_zero() {
-            let left = rows[i].left(alloc, cell, pivot)?;
+            let left = rows[i].difference(alloc, cell, pivot)?;
             rows[i] = left;
         }
     }
@@ -43,7 +43,7 @@ fn exchange(alloc: Global, rows: &mut [SparseRow], e: usize, r: usize) -> Result
     ensures { ExchangesIn result rows.old rows.new e r }
 {
     let cell = rows[r].cell(e);
-    let pivot = rows[r].divided(alloc, cell)?;
+    let pivot = rows[r].quotient(alloc, cell)?;
     take_all(alloc, rows, e, r, &pivot)?;
     rows[r] = pivot;
     Ok(())

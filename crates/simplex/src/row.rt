@@ -9,7 +9,7 @@ ghost use Rattle.simplex.specs.Ends.{AreMinus};
 ghost use Rattle.simplex.specs.RowSteps.{DividesRow, LeavesRow};
 
 use crate::SolveStop;
-use crate::entries::{Entry, divide_all, first_above, take_away, taken, value_at};
+use crate::entries::{Entry, divide_all, first_above, less_product, take_away, value_at};
 use fraction128::Frac;
 use std::alloc::{AllocError, Global};
 use std::marker::Model;
@@ -85,7 +85,7 @@ impl SparseRow {
     }
 
     // The row with each cell divided.
-    pub(crate) fn divided(&self, alloc: Global, by: Frac) -> Result<SparseRow, SolveStop>
+    pub(crate) fn quotient(&self, alloc: Global, by: Frac) -> Result<SparseRow, SolveStop>
         requires divisor { by.num ≢ pos 0 }
         requires form { IsForm by }
         ensures { DividesRow result self.now by }
@@ -96,7 +96,7 @@ impl SparseRow {
     }
 
     // What is left of the row if f times another is subtracted.
-    pub(crate) fn left(
+    pub(crate) fn difference(
         &self,
         alloc: Global,
         f: Frac,
@@ -105,7 +105,7 @@ impl SparseRow {
         requires { places self.now ≡ places pivot.now }
         ensures { LeavesRow result self.now f pivot.now }
     {
-        let limit = taken(self.limit, f, pivot.limit)?;
+        let limit = less_product(self.limit, f, pivot.limit)?;
         let entries = take_away(alloc, &self.entries, f, &pivot.entries, self.place)?;
         Ok(SparseRow::new(entries, self.place, limit))
     }

@@ -179,7 +179,7 @@ fn better(best: Ratio, next: Ratio, basis: &[usize]) -> Ratio
 }
 
 // The same, if there may be no ratio so far.
-fn chosen(best: Option<Ratio>, next: Ratio, basis: &[usize]) -> Ratio
+fn better_or_first(best: Option<Ratio>, next: Ratio, basis: &[usize]) -> Ratio
     requires earlier { IfSome best (λ b. b.row < next.row) }
     requires within { next.row < length basis.now }
     ensures least { (t : Table) (place e : ℕ) → ((i : ℕ) → t.basic i ≡ slice_index basis.now i) → IsLeastSoFar place t e next.row best
@@ -214,7 +214,7 @@ fn least_ratio(
             return best;
         }
         if let Some(ratio) = ratio_of(program, rows, cell) {
-            best = Some(chosen(best, ratio, basis));
+            best = Some(better_or_first(best, ratio, basis));
         }
     }
     best

@@ -48,7 +48,7 @@ returns-in-Err g c =
     let more : List StepDef = map step_seen c.take_round.new.steps.items in
     let given : GivesRound (Err c.in-Err.stop) f c.loop-next.bounds.items left (map step_seen c.loop-next.steps.items) more =
     rw (c.in-Err.is, c.deref.ensures.value) at c.take_round.ensures in
-    rw (c.ended.ensures) (ended_answers f c.args.allowance s.rounds c.loop-next.spent c.loop-next.bounds.items c.in-Err.stop
+    rw (c.answer_of_stop.ensures) (ended_answers f c.args.allowance s.rounds c.loop-next.spent c.loop-next.bounds.items c.in-Err.stop
     c.take_round.new.steps s.way
     (subst (λ (xs : List StepDef). GivesRound (Err c.in-Err.stop) f c.loop-next.bounds.items left xs more) s.steps_are given))
 

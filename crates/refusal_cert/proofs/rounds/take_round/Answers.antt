@@ -21,8 +21,8 @@ loop-i-init g c =
       planned = rw c.into_iter-plan.ensures.rest c.requires.plan;
     }
 
-pub begun_or_formed-requires-clause-begun : goal.begun_or_formed-requires-clause-begun
-begun_or_formed-requires-clause-begun g c =
+pub planned_program-requires-clause-begun : goal.planned_program-requires-clause-begun
+planned_program-requires-clause-begun g c =
     let f : SourceDef = source_at (g.P.ProgramSource.source c.args.protocol.now) c.args.set.now in
     next_first (IsPlanned f c.args.bounds.now c.args.left) c.loop-i.i c.loop-i.plan.rest.items c.next-begun.new.self.rest.items
     c.next-begun.result c.next-begun.ensures.items c.loop-i.invariant.planned
@@ -37,7 +37,7 @@ run_task-ran-requires-clause-ahead g c =
 pub returns-in-Err : goal.returns-in-Err
 returns-in-Err g c =
     let f : SourceDef = source_at (g.P.ProgramSource.source c.args.protocol.now) c.args.set.now in
-    rw (c.stopped.ensures) (run_halts f c.args.bounds.now c.args.left c.loop-i.i (map step_seen c.args.steps.now.items)
+    rw (c.round_stop.ensures) (run_halts f c.args.bounds.now c.args.left c.loop-i.i (map step_seen c.args.steps.now.items)
     (map step_seen c.loop-i.steps.items) (map step_seen c.run_task-ran.new.steps.items) c.loop-i.round c.in-Err.stop (omega arith)
     c.loop-i.invariant.found c.in-Err.ensures)
 

@@ -52,7 +52,7 @@ returns-then-eq g c =
     rw (c.in-Ok.is, c.deref-in-loop-next.ensures.value) at c.take_round.ensures in
     let ends = settled_ends (rounds_of f) c.args.allowance way.0 c.loop-next.spent c.loop-next.bounds.items (found_of next) way.1
     given.0 (same_vectors next.values.items c.loop-next.bounds.items c.if-eq.ensures) in
-    settled_answers f c.args.allowance c.settled.result (found_of next).values (found_of next).duals ends c.settled.ensures
+    settled_answers f c.args.allowance c.verdict_at_fixpoint.result (found_of next).values (found_of next).duals ends c.verdict_at_fixpoint.ensures
 
 pub loop-next-preserved : goal.loop-next-preserved
 loop-next-preserved g c =

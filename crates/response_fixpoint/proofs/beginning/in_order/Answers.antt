@@ -5,8 +5,8 @@ use Rattle.response_fixpoint.specs.declared.plan.Planned.{Planned}
 use Rattle.response_fixpoint.proofs.PlaceLaws.{each_more, found_first, found_rest}
 use Rattle.response_fixpoint.proofs.beginning.in_order.Goals as goal
 
-pub begun_or_formed-requires-clause-begun : goal.begun_or_formed-requires-clause-begun
-begun_or_formed-requires-clause-begun g c =
+pub planned_program-requires-clause-begun : goal.planned_program-requires-clause-begun
+planned_program-requires-clause-begun g c =
     let f : SourceDef = source_at (g.P.ProgramSource.source c.args.protocol.now) c.args.set.now in
     rw c.flatten-place.ensures (found_first (IsPlanned f c.args.bounds.now c.args.left) c.loop-i.i c.loop-i.begun.rest.items
     c.next.new.self.rest.items c.next.result c.next.ensures.items c.loop-i.invariant.begun)

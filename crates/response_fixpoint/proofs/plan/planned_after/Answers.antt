@@ -7,12 +7,12 @@ use Rattle.response_fixpoint.proofs.plan.planned_after.Goals as goal
 pub returns-then-keeps_limits : goal.returns-then-keeps_limits
 returns-then-keeps_limits g c = λ left.
     let f : SourceDef = source_at (g.P.ProgramSource.source c.args.protocol.now) c.args.set.now in
-    kept_planned f c.args.i.0 c.args.earlier.now c.args.bounds.now c.args.kept c.taken_over.result left
+    kept_planned f c.args.i.0 c.args.earlier.now c.args.bounds.now c.args.kept c.take_over.result left
     (λ q r most. g.met.P.ProgramSource.rises c.args.protocol.now c.args.set.now c.args.i.0 q r c.requires.serves c.requires.task most)
-    c.requires.kept (c.if-keeps_limits.ensures refl) c.taken_over.ensures.program c.taken_over.ensures.ahead
+    c.requires.kept (c.if-keeps_limits.ensures refl) c.take_over.ensures.program c.take_over.ensures.ahead
 
-pub renewed-requires : goal.renewed-requires
-renewed-requires g c =
+pub renew-requires : goal.renew-requires
+renew-requires g c =
     let f : SourceDef = source_at (g.P.ProgramSource.source c.args.protocol.now) c.args.set.now in
     renewed_is_program f c.args.i.0 c.args.earlier.now c.args.bounds.now c.in_ok-limits.limits.items c.args.kept
     (λ q r most. g.met.P.ProgramSource.rises c.args.protocol.now c.args.set.now c.args.i.0 q r c.requires.serves c.requires.task most)
@@ -23,6 +23,6 @@ renewed-requires g c =
 pub returns : goal.returns
 returns g c = λ left.
     let f : SourceDef = source_at (g.P.ProgramSource.source c.args.protocol.now) c.args.set.now in
-    renewed_planned f c.args.i.0 c.args.earlier.now c.args.bounds.now c.in_ok-limits.limits.items c.args.kept c.renewed.result left
+    renewed_planned f c.args.i.0 c.args.earlier.now c.args.bounds.now c.in_ok-limits.limits.items c.args.kept c.renew.result left
     (λ q r most. g.met.P.ProgramSource.rises c.args.protocol.now c.args.set.now c.args.i.0 q r c.requires.serves c.requires.task most)
-    c.requires.kept c.in_ok-limits.ensures c.renewed.ensures.program c.renewed.ensures.ahead
+    c.requires.kept c.in_ok-limits.ensures c.renew.ensures.program c.renew.ensures.ahead

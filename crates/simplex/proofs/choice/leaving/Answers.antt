@@ -9,8 +9,8 @@ use Rattle.simplex.proofs.Ratios.{no_more, ratio_read, has_read, so_far_within, 
 use Rattle.simplex.proofs.choice.leaving.Goals as goal
 use Rattle.simplex.proofs.choice.leaving.Goals.{then-is_above_zero+in_ok-ratio, else-is_above_zero}
 
-pub chosen-requires-clause-earlier : goal.chosen-requires-clause-earlier
-chosen-requires-clause-earlier c =
+pub better_or_first-requires-clause-earlier : goal.better_or_first-requires-clause-earlier
+better_or_first-requires-clause-earlier c =
     so_far_within c.args.place (table_of c.args.rows.now c.args.basis.now) c.args.e c.loop-i.i c.loop-i.best c.loop-i.invariant
 
 pub returns-in_err-ratio : goal.returns-in_err-ratio
@@ -45,7 +45,7 @@ loop-i-preserved c =
           ∙ ap (λ (row : RowDef). cell_at row c.args.place)
           (sym (row_read c.args.rows.now i w.index-rows-i-then-is_above_zero.result within w.index-rows-i-then-is_above_zero.is)) in
           rw w.best-is
-          (w.chosen.ensures t c.args.place c.args.e (λ k. refl) c.loop-i.invariant
+          (w.better_or_first.ensures t c.args.place c.args.e (λ k. refl) c.loop-i.invariant
           (has_read t c.args.e i c.cell-cell.result cell (w.if-is_above_zero.ensures.0 refl))
           (ratio_read c.args.place t c.args.e i w.cell.result c.cell-cell.result w.in_ok-ratio.ratio bound cell
           w.in_ok-ratio.ensures.0 w.in_ok-ratio.ensures.1))

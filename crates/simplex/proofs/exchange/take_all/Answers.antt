@@ -6,8 +6,8 @@ use Rattle.simplex.proofs.exchange.take_all.Goals as goal
 use Rattle.simplex.proofs.exchange.take_all.Goals.{then-i-r+then-not-is_zero+in_ok-left, else-i-r}
 use Rattle.simplex.proofs.exchange.take_all.Goals.{else-i-r-via-then-i-r+else-not-is_zero, else-i-r-via-else-i-r}
 
-pub left-requires : goal.left-requires
-left-requires c =
+pub difference-requires : goal.difference-requires
+difference-requires c =
     rw (still c.loop-i.i c.args.rows.now c.loop-i.rows c.args.e c.args.r c.args.pivot.now c.index-rows-i-then-not-is_zero.result
     c.loop-i.invariant c.loop-i-test.true)
     (c.requires c.loop-i.i c.loop-i-test.true c.if-i-r.true)

@@ -34,15 +34,15 @@ loop-j-preserved c =
       split_through c.args.column.now j (entry_at c.args.column.now j).place c.requires.column.1.sparse inside refl,
       omega (arith, c.if-cell-basis.false),
       elim c.match-ratio_of.branch [
-        | in-Some w ↦ rw w.best-is (omega (arith, w.in-Some.ensures.row, w.chosen.ensures.within))
+        | in-Some w ↦ rw w.best-is (omega (arith, w.in-Some.ensures.row, w.better_or_first.ensures.within))
         | in_default w ↦ rw w.best-is (row_up c.loop-j.best inv.0 ((entry_at c.args.column.now j).place + 1) further inv.3)
       ],
       λ e k stands is l at. elim c.match-ratio_of.branch [
         | in-Some w ↦
             rw w.best-is
             (row_counted p c.args.rows.now c.args.basis.now stands c.args.column.now e k j inv.0 c.loop-j.best is l at inv.1 inside
-            (inv.4 e k stands is l at) w.in-Some.ratio w.chosen.result w.in-Some.ensures
-            (w.chosen.ensures.least (table_seen p c.args.rows.now c.args.basis.now stands) (variables p) e (λ i. refl)))
+            (inv.4 e k stands is l at) w.in-Some.ratio w.better_or_first.result w.in-Some.ensures
+            (w.better_or_first.ensures.least (table_seen p c.args.rows.now c.args.basis.now stands) (variables p) e (λ i. refl)))
         | in_default w ↦
             rw w.best-is
             (row_passed p c.args.rows.now c.args.basis.now stands c.args.column.now e k j inv.0 c.loop-j.best is l at inv.1 inside

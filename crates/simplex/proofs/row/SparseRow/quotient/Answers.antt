@@ -1,7 +1,7 @@
 use Rattle.std.proofs.lemmas.Result.{err_from_is_err_and}
 use Rattle.simplex.specs.RowView.{row_view}
 use Rattle.simplex.proofs.Sparse.{divided_row, divided_stop, wide_limit}
-use Rattle.simplex.proofs.row.SparseRow.divided.Goals as goal
+use Rattle.simplex.proofs.row.SparseRow.quotient.Goals as goal
 
 pub returns-in_err-limit : goal.returns-in_err-limit
 returns-in_err-limit c =

@@ -1,7 +1,7 @@
 use Rattle.simplex.specs.RowView.{row_view}
 use Rattle.std.proofs.lemmas.Result.{err_from_is_err_and}
 use Rattle.simplex.proofs.Sparse.{left_limit_stop, left_stop}
-use Rattle.simplex.proofs.row.SparseRow.left.Goals as goal
+use Rattle.simplex.proofs.row.SparseRow.difference.Goals as goal
 
 pub returns-in_err-limit : goal.returns-in_err-limit
 returns-in_err-limit c =

@@ -1,6 +1,6 @@
 use Rattle.std.proofs.Common.{◌≡◌, pos, rules}
 use Rattle.exchange_runs.proofs.Loops.{less_at_zero}
-use Rattle.simplex.proofs.entries.taken.Goals as goal
+use Rattle.simplex.proofs.entries.less_product.Goals as goal
 
 pub returns-then-is_zero : goal.returns-then-is_zero
 returns-then-is_zero c =
