@@ -2,7 +2,7 @@ ghost use Rattle.std.specs.Prelude.{◌≡◌, ℕ, ◌↔◌, List, IfOk};
 ghost use Rattle.program_sources.specs.Fitting.{AreFitting};
 ghost use Rattle.response_fixpoint.specs.Rounds.{Ending, EndsIn};
 ghost use Rattle.response_fixpoint.specs.Runs.{rounds_of};
-ghost use Rattle.settling.specs.Answers.{Settles, Keeps, IsRight, IsSchedulable, NamesTask, RefusesBySmallSteps};
+ghost use Rattle.settling.specs.Answers.{Settles, Keeps, IsRight, IsSchedulable, IsWideOnlySo, NamesTask, RefusesBySmallSteps};
 ghost use Rattle.named_laws.specs.Named.{HasHomes, source_of};
 
 use closer_distributed::{CLOSER_DFLP, CLOSER_DPCP};
@@ -13,7 +13,7 @@ use dflp_protocol::Dflp;
 use protocol_names::ProtocolName;
 use protocol_programs::Written;
 use request_windows::DPCP_WINDOWS;
-use settling::{Exchanges, SettleStop, Settled, settle_by, settle_with};
+use settling::{SettleStop, Settled, settle_by, settle_with};
 use spin_protocol::Spin;
 use sporadic_model::TaskSet;
 use std::alloc::Global;
@@ -33,13 +33,12 @@ pub fn settle<R: Threads + Sync>(
     ensures keeps { (e : Ending) → EndsIn (rounds_of (source_of protocol set.now)) allowance e → Keeps result e }
     ensures right { IfOk result (λ settled. IsRight settled (source_of protocol set.now)) }
     ensures exactly { IfOk result (λ settled. IsSchedulable settled ↔ ((s : List ℕ) × AreFitting (source_of protocol set.now) s)) }
+    ensures wide { IsWideOnlySo result (source_of protocol set.now) }
     ensures names { NamesTask set.now result }
     ensures small_steps { IfOk result (λ settled. RefusesBySmallSteps settled) }
 {
     match protocol {
-        ProtocolName::Base(base) => {
-            settle_by(rt, alloc, set, &Written(base), &Exchanges, allowance)
-        }
+        ProtocolName::Base(base) => settle_by(rt, alloc, set, &Written(base), allowance),
         ProtocolName::Dflp => settle_with(rt, alloc, set, &Dflp, allowance),
         ProtocolName::Spin => settle_with(rt, alloc, set, &Spin, allowance),
         ProtocolName::DpcpWindows => settle_with(rt, alloc, set, &DPCP_WINDOWS, allowance),

@@ -41,8 +41,8 @@ use Rattle.run_plans.proofs.OnClocks.{analysis_on_clocks, settlement_on_clocks, 
 use Rattle.run_plans.proofs.KeptLaws.{proved_audit}
 use Rattle.run_plans.proofs.RefusedLaws.{proved_refutation, proved_confirmation}
 use Rattle.run_plans.specs.Refused.{IsProvedRefutation, IsProvedConfirmation}
-use Rattle.run_plans.specs.Settled.{SettlesExactly, IsSettling, IsProvedSettlement}
-use Rattle.run_plans.proofs.SettledLaws.{proved_settlement, bounded_settlement, proved_settled_refusal, outcome_exactly}
+use Rattle.run_plans.specs.Settled.{SettlesExactly, IsSettling, IsProvedSettlement, IsLeftWide}
+use Rattle.run_plans.proofs.SettledLaws.{proved_settlement, bounded_settlement, proved_settled_refusal, left_wide, outcome_exactly}
 use Rattle.run_plans.proofs.UpgradedLaws.{proved_upgrade}
 use Rattle.run_plans.proofs.SetTextLaws.{told_reads}
 
@@ -57,6 +57,7 @@ pub record Replied (shelf : Shown) (o : Option Form) (a : Answer) : Type 0 where
   pub long : (form : Form) → o ≡ Some form → (IsWorking (plan_of form) → ⊥) → GREATEST_INPUT_BYTES < shelf.given
       → (word : List ℕ) × (a ≡ refused word (codes "toolong"))
   pub shows : (form : Form) → o ≡ Some form → (a.status ≡ 0) ⊎ (a.status ≡ 1) → IsOutcomeOf (shown_by shelf) (plan_of form) a
+  pub wide_shows : (form : Form) → o ≡ Some form → a.status ≡ 5 → IsOutcomeOf (shown_by shelf) (plan_of form) a
   pub asks : (readings : List Asked) × (shown_by shelf).asked readings × MatchOption o (readings ≡ [])
       (λ form. AsksAll (plan_of form) readings ⊎ (AsksPart (plan_of form) readings × ((a.status ≡ 3) ⊎ (a.status ≡ 4))))
   pub outcome : (inputs : Inputs) → AreInputs shelf inputs
@@ -76,6 +77,7 @@ replied shelf None a (is, none) =
       most = omega (arith, two);
       long = λ form some more long. absurd (none-some form some);
       shows = λ form some verdict. absurd (none-some form some);
+      wide_shows = λ form some e. absurd (none-some form some);
       asks = ([], none, refl);
       outcome = λ inputs tells. inl is;
     }
@@ -90,6 +92,7 @@ replied shelf (Some form) a (inl (rose, small, fault)) =
       most = omega (arith, four);
       long = λ other some more long. absurd (omega (arith, small, long));
       shows = λ other some verdict. absurd (omega (arith, four, at_most_one a verdict));
+      wide_shows = λ other some e. absurd (omega (arith, four, e));
       asks = (
           let asks = fault_asks (shown_by shelf) (plan_of form) a fault in
           (asks.readings, asks.asked, elim asks.are [ inl all ↦ inl all | inr (part, why) ↦ inr (part, inr four) ]));
@@ -108,6 +111,7 @@ replied shelf (Some form) a (inr out) =
           let same : form ≡ other = same_Some form other some in
           plan_longer shelf (plan_of form) (λ w. more (subst (λ (x : Form). IsWorking (plan_of x)) same w)) a out long);
       shows = λ other some verdict. subst (λ (x : Form). IsOutcomeOf (shown_by shelf) (plan_of x) a) (same_Some form other some) out;
+      wide_shows = λ other some e. subst (λ (x : Form). IsOutcomeOf (shown_by shelf) (plan_of x) a) (same_Some form other some) out;
       asks = (
           let asks = outcome_asks (shown_by shelf) (plan_of form) a out in
           (asks.readings, asks.asked, elim asks.are [ inl all ↦ inl all | inr (part, three) ↦ inr (part, inl three) ]));
@@ -223,12 +227,13 @@ caused call protocol digest set (inr (inl sink)) no_shelf no_sink no_want no_wid
 caused call protocol digest set (inr (inr ran)) no_shelf no_sink no_want no_wide no_allowance = absurd (no_want ran)
 
 -- The same for a call that settles a set.
-other_settling : (call : Call) (n : ℕ) → call.status ≡ n → 4 ≤ n
+other_settling : (call : Call) (n : ℕ) → call.status ≡ n → 4 ≤ n → n ≢ 5
     → (Rose call.shelf_before.faults call.shelf_now.faults ⊎ (Rose call.sink_before.faults call.sink_now.faults ⊎ RanOut call))
     → IsSettling call
-other_settling call n is most cause = record {
+other_settling call n is most other cause = record {
   least = λ protocol name more words zero. absurd (omega (arith, is, most, zero));
   refused = λ protocol name more words one. absurd (omega (arith, is, most, one));
+  wide = λ protocol name more words five. absurd (other (sym is ∙ five));
   exactly = λ protocol set settles. caused call protocol (sha256 settles.read.bytes) set cause;
 }
 
@@ -311,6 +316,7 @@ gave_run call replies r gives =
       settled = record {
         least = least;
         refused = refused;
+        wide = left_open;
         exactly = λ protocol set settles. elim (r.outcome settles.inputs settles.has) [
           | inl mine ↦ λ shelf sink ran. outcome_exactly call protocol set settles a mine gives
           | inr fault ↦ caused call protocol (sha256 settles.read.bytes) set (inl fault.0)
@@ -346,6 +352,14 @@ gave_run call replies r gives =
           (λ none. (let two : call.status ≡ 2 = gives.0 ∙ ap (λ x. x.status) (r.none none) in absurd (omega (arith, two, one)))) in
           proved_settled_refusal call protocol name form.0 replies.reply
           (r.shows (Settle protocol name form.0) form.1 (inr (sym gives.0 ∙ one))) gives one
+
+      left_open : (protocol : ProtocolName) (name : List ℕ) (more : List (List ℕ)) → call.words ≡ settle_words protocol name more
+          → call.status ≡ 5 → IsLeftWide call protocol name
+      left_open protocol name more words five =
+          let form = settle_has_form call.words protocol name more words
+          (λ none. (let two : call.status ≡ 2 = gives.0 ∙ ap (λ x. x.status) (r.none none) in absurd (omega (arith, two, five)))) in
+          left_wide call protocol name form.0 replies.reply
+          (r.wide_shows (Settle protocol name form.0) form.1 (sym gives.0 ∙ five)) gives five
 
       analysed : (protocol : ProtocolName) (name : List ℕ) (more : List (List ℕ)) → call.words ≡ analyse_words protocol name more
           → call.status ≡ 0 → IsProvedAnalysis call protocol name
@@ -407,7 +421,7 @@ cut_run call replies r fails =
       audited = λ protocol name cert jobs rows words zero. absurd (omega (arith, four, zero));
       refuted = λ protocol name more words zero. absurd (omega (arith, four, zero));
       confirmed = λ protocol name cert words zero. absurd (omega (arith, four, zero));
-      settled = other_settling call 4 four (omega arith) (inr (inl fails.rose));
+      settled = other_settling call 4 four (omega arith) (λ e. absurd (omega (arith, e))) (inr (inl fails.rose));
       upgraded = λ protocol name cert words zero. absurd (omega (arith, four, zero));
     } where
       asked_cut : (readings : List Asked) × Asks call readings × MatchOption (form_of call.words) (readings ≡ [])
@@ -445,7 +459,7 @@ run_ran_out call ran =
       audited = λ protocol name cert jobs rows words zero. absurd (omega (arith, seven, zero));
       refuted = λ protocol name more words zero. absurd (omega (arith, seven, zero));
       confirmed = λ protocol name cert words zero. absurd (omega (arith, seven, zero));
-      settled = other_settling call 7 seven (omega arith) (inr (inr ran));
+      settled = other_settling call 7 seven (omega arith) (λ e. absurd (omega (arith, e))) (inr (inr ran));
       upgraded = λ protocol name cert words zero. absurd (omega (arith, seven, zero));
     }
 

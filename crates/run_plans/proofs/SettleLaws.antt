@@ -34,7 +34,7 @@ well_settlement : (p : ProtocolName) (digest : List ℕ) (set : SetDef) (n : ℕ
     → IsSettlement p digest set n a → (a.status ≡ 0) ⊎ (a.status ≡ 1)
 well_settlement p digest set n a enough (inl (c, settled, is)) = inl (ap (λ x. x.status) is)
 well_settlement p digest set n a enough (inr (inl (steps, refused, is))) = inr (ap (λ x. x.status) is)
-well_settlement p digest set n a enough (inr (inr (inl (i, here, left, is)))) = absurd (enough (inr (inl left)))
+well_settlement p digest set n a enough (inr (inr (inl (i, here, left, is)))) = absurd (enough (inr (inl left.left)))
 well_settlement p digest set n a enough (inr (inr (inr (short, is)))) = absurd (enough short)
 
 -- Rounds that leave the set open end wide.
@@ -52,7 +52,7 @@ pub wide_settlement : (p : ProtocolName) (digest : List ℕ) (set : SetDef) (n :
 wide_settlement p digest set n a (inl (c, settled, is)) five = (let s : a.status ≡ 0 = ap (λ x. x.status) is in absurd (omega (arith, s, five)))
 wide_settlement p digest set n a (inr (inl (steps, refused, is))) five =
     (let s : a.status ≡ 1 = ap (λ x. x.status) is in absurd (omega (arith, s, five)))
-wide_settlement p digest set n a (inr (inr (inl (i, here, left, is)))) five = open_ends (source_of p set) n left
+wide_settlement p digest set n a (inr (inr (inl (i, here, left, is)))) five = open_ends (source_of p set) n left.left
 wide_settlement p digest set n a (inr (inr (inr (short, is)))) five =
     (let s : a.status ≡ 6 = ap (λ x. x.status) is in absurd (omega (arith, s, five)))
 
@@ -108,7 +108,7 @@ close : (p : ProtocolName) (digest : List ℕ) (set : SetDef) (n : ℕ) (a : Ans
     → IsSettlement p digest set n a → IsClosed p digest set n a
 close p digest set n a closed (inl (c, settled, is)) = close_certified p digest set n c a closed is settled.from
 close p digest set n a closed (inr (inl (steps, refused, is))) = close_refused p digest set n steps a closed is refused.from
-close p digest set n a closed (inr (inr (inl (i, here, left, is)))) = absurd (closed left)
+close p digest set n a closed (inr (inr (inl (i, here, left, is)))) = absurd (closed left.left)
 close p digest set n a closed (inr (inr (inr (inl ends, is)))) = inl (Allowance, ends, tt, is)
 close p digest set n a closed (inr (inr (inr (inr (inl left), is)))) = absurd (closed left)
 close p digest set n a closed (inr (inr (inr (inr (inr (late, ends)), is)))) = inr (late, (Allowance, ends, is))

@@ -1,5 +1,5 @@
--- What the statuses 0 and 1 of `settle` say, whatever is known of the inputs.
-use Rattle.std.proofs.Common.{◌≡◌, ◌≢◌, ℕ, ◌≤◌, ◌↔◌, List, ◌∙◌, ap, subst, arith, inl, inr}
+-- What the statuses 0, 1 and 5 of `settle` say, whatever is known of the inputs.
+use Rattle.std.proofs.Common.{◌≡◌, ◌≢◌, ◌⊎◌, ℕ, ◌<◌, ◌≤◌, ◌↔◌, List, length, ◌∙◌, ap, subst, arith, inl, inr}
 use Rattle.std.specs.Io.KnownBytes.{Appends}
 use Rattle.sha2.specs.Sha256.{sha256}
 use Rattle.program_form.specs.Certificate.{CertificateDef}
@@ -7,14 +7,16 @@ use Rattle.program_sources.specs.Fitting.{AreFitting}
 use Rattle.refusal_laws.specs.Steps.{StepDef}
 use Rattle.refusal_json.specs.Text.{refusal_text}
 use Rattle.cert_json.specs.Text.{certificate_text}
-use Rattle.sporadic_model.specs.SetDef.{SetDef}
+use Rattle.sporadic_model.specs.SetDef.{SetDef, task_at}
 use Rattle.sporadic_model.specs.Accepted.{IsAccepted}
 use Rattle.protocol_names.specs.Names.{word_of}
 use Rattle.protocol_names.specs.declared.ProtocolName.{ProtocolName}
 use Rattle.named_laws.specs.Named.{source_of}
 use Rattle.named_laws.proofs.EachName.{named_sound}
 use Rattle.named_laws.proofs.Refusals.{named_none_fits}
+use Rattle.reply_texts.specs.Texts.{wide_text}
 use Rattle.settling.specs.Rising.{IsProvedLeast}
+use Rattle.settling.specs.Ways.{NothingFits, NeedsMoreBits}
 use Rattle.command_words.specs.Words.{Settle}
 use Rattle.command_words.proofs.SpelledLaws.{settle_is_form}
 use Rattle.command_inputs.specs.Known.{Answer, Known, shown_by}
@@ -25,7 +27,7 @@ use Rattle.run_plans.specs.Outcome.{IsOutcome}
 use Rattle.run_plans.specs.Settling.{IsRefusedBy, IsSettlement, settlement_of}
 use Rattle.run_plans.specs.Headline.{Call}
 use Rattle.run_plans.specs.Refused.{IsProvedRefutation}
-use Rattle.run_plans.specs.Settled.{WritesLeast, IsProvedSettlement, Settles}
+use Rattle.run_plans.specs.Settled.{WritesLeast, IsProvedSettlement, IsLeftWide, Settles}
 use Rattle.run_plans.specs.Run.{shelf_of, Gives}
 use Rattle.run_plans.proofs.PlanLaws.{stopped_status, rest_of}
 use Rattle.run_plans.proofs.InputLaws.{set_reads_once}
@@ -70,6 +72,24 @@ refused_at_one p digest set n a (inr (inr (inl (i, here, left, is)))) one =
 refused_at_one p digest set n a (inr (inr (inr (short, is)))) one =
     (let s : a.status ≡ 6 = ap (λ x. x.status) is in absurd (omega (arith, s, one)))
 
+-- With status 5 it names a task, with the cause.
+pub record WideWith (p : ProtocolName) (set : SetDef) (a : Answer) : Type 0 where
+  pub task : ℕ
+  pub within : task < length set.tasks
+  pub text : a.text ≡ wide_text (task_at set task).name
+  pub cause : (NothingFits (source_of p set)) ⊎ NeedsMoreBits (source_of p set) task
+
+wide_at_five : (p : ProtocolName) (digest : List ℕ) (set : SetDef) (n : ℕ) (a : Answer) → IsSettlement p digest set n a → a.status ≡ 5
+    → WideWith p set a
+wide_at_five p digest set n a (inl (c, settled, is)) five =
+    (let s : a.status ≡ 0 = ap (λ x. x.status) is in absurd (omega (arith, s, five)))
+wide_at_five p digest set n a (inr (inl (steps, refused, is))) five =
+    (let s : a.status ≡ 1 = ap (λ x. x.status) is in absurd (omega (arith, s, five)))
+wide_at_five p digest set n a (inr (inr (inl (i, here, left, is)))) five =
+    record { task = i; within = here; text = ap (λ x. x.text) is; cause = left.cause }
+wide_at_five p digest set n a (inr (inr (inr (short, is)))) five =
+    (let s : a.status ≡ 6 = ap (λ x. x.status) is in absurd (omega (arith, s, five)))
+
 -- The outcomes of `settle` with status 0, and with status 1.
 abbrev pub WroteSettled : Known → ProtocolName → List ℕ → Answer → Type 0
 WroteSettled known p name a = OneSet known p name (λ bytes set. SettledSo p (sha256 bytes) set a)
@@ -77,25 +97,41 @@ WroteSettled known p name a = OneSet known p name (λ bytes set. SettledSo p (sh
 abbrev pub WroteRefused : Known → ProtocolName → List ℕ → ℕ → Answer → Type 0
 WroteRefused known p name n a = OneSet known p name (λ bytes set. RefusedWith p (sha256 bytes) set n a)
 
--- What is true of an outcome with status 0 or 1 follows from what it settles.
+-- What is true of an outcome with such a status follows from what it settles.
 wrote : (known : Known) (p : ProtocolName) (name : List ℕ) (n : ℕ) (a : Answer) (IsSo : List ℕ → SetDef → Type 0)
-    → IsOutcomeOf known (plan_of (Settle p name n)) a → a.status ≤ 1
+    → IsOutcomeOf known (plan_of (Settle p name n)) a → a.status ≢ 3
     → ((bytes : List ℕ) (set : SetDef) → IsSettlement p (sha256 bytes) set n a → IsSo bytes set) → OneSet known p name IsSo
-wrote known p name n a IsSo (inl stopped) most follows = absurd (omega (arith, stopped_status known (set_input p) name a stopped, most))
-wrote known p name n a IsSo (inr (bytes, set, read, last, (is, asked))) most follows =
+wrote known p name n a IsSo (inl stopped) other follows = absurd (other (stopped_status known (set_input p) name a stopped))
+wrote known p name n a IsSo (inr (bytes, set, read, last, (is, asked))) other follows =
     record { bytes = bytes; set = set; read = read; last = last tt; asked = asked; so = follows bytes set is }
 
 pub wrote_settled : (known : Known) (p : ProtocolName) (name : List ℕ) (n : ℕ) (a : Answer) → IsOutcomeOf known (plan_of (Settle p name n)) a
     → a.status ≡ 0 → WroteSettled known p name a
 wrote_settled known p name n a out zero =
-    wrote known p name n a (λ bytes set. SettledSo p (sha256 bytes) set a) out (omega (arith, zero))
+    wrote known p name n a (λ bytes set. SettledSo p (sha256 bytes) set a) out (λ three. absurd (omega (arith, zero, three)))
     (λ bytes set is. settled_at_zero p (sha256 bytes) set n a is zero)
 
 pub wrote_refused : (known : Known) (p : ProtocolName) (name : List ℕ) (n : ℕ) (a : Answer) → IsOutcomeOf known (plan_of (Settle p name n)) a
     → a.status ≡ 1 → WroteRefused known p name n a
 wrote_refused known p name n a out one =
-    wrote known p name n a (λ bytes set. RefusedWith p (sha256 bytes) set n a) out (omega (arith, one))
+    wrote known p name n a (λ bytes set. RefusedWith p (sha256 bytes) set n a) out (λ three. absurd (omega (arith, one, three)))
     (λ bytes set is. refused_at_one p (sha256 bytes) set n a is one)
+
+-- What status 5 says.
+pub left_wide : (call : Call) (p : ProtocolName) (name : List ℕ) (n : ℕ) (a : Answer)
+    → IsOutcomeOf (shown_by (shelf_of call)) (plan_of (Settle p name n)) a → Gives call a → call.status ≡ 5 → IsLeftWide call p name
+left_wide call p name n a out gives five =
+    let at : a.status ≡ 5 = omega (arith, gives.0, five) in
+    let w = wrote (shown_by (shelf_of call)) p name n a (λ bytes set. WideWith p set a) out (λ three. absurd (omega (arith, at, three)))
+    (λ bytes set is. wide_at_five p (sha256 bytes) set n a is at) in
+    record {
+      set = w.set;
+      read = some_read call p name w.bytes w.set w.read;
+      task = w.so.task;
+      within = w.so.within;
+      text = subst (λ (t : List ℕ). Appends call.sink_before.written call.sink_now.written t) w.so.text gives.1;
+      cause = w.so.cause;
+    }
 
 -- ---- what a call says
 

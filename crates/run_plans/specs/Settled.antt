@@ -1,5 +1,5 @@
 -- What `settle` says. With status 0: these are the least bounds, proved. With status 1: nothing fits, and this is why.
-use Rattle.std.specs.Prelude.{◌≡◌, ◌≢◌, ℕ, ◌↔◌, List, [], ◌∷◌, length, Some}
+use Rattle.std.specs.Prelude.{◌≡◌, ◌≢◌, ◌⊎◌, ℕ, ◌<◌, ◌↔◌, List, [], ◌∷◌, length, Some}
 use Rattle.std.specs.Io.KnownBytes.{Appends}
 use Rattle.outside_ports.specs.Counts.{Rose}
 use Rattle.outside_ports.specs.Names.{Inputs, bytes_of}
@@ -9,11 +9,13 @@ use Rattle.program_form.specs.Certificate.{CertificateDef}
 use Rattle.program_sources.specs.Fitting.{AreFitting, AreLeastFitting}
 use Rattle.program_sources.specs.Valid.{IsValid}
 use Rattle.soundness_laws.specs.Analyses.{AreValues}
-use Rattle.sporadic_model.specs.SetDef.{SetDef}
+use Rattle.settling.specs.Ways.{NothingFits, NeedsMoreBits}
+use Rattle.sporadic_model.specs.SetDef.{SetDef, task_at}
 use Rattle.protocol_names.specs.Names.{word_of}
 use Rattle.protocol_names.specs.declared.ProtocolName.{ProtocolName}
 use Rattle.named_laws.specs.Named.{SoundUnder, source_of}
 use Rattle.cert_json.specs.Text.{certificate_text}
+use Rattle.reply_texts.specs.Texts.{wide_text}
 use Rattle.command_words.specs.Spelled.{settle_words, allowance_of}
 use Rattle.run_plans.specs.Headline.{Call, Asks, HasInputs, RanOut, ReadsSome}
 use Rattle.run_plans.specs.Refused.{IsProvedRefutation}
@@ -57,6 +59,17 @@ SettlesExactly call protocol digest set = (Rose call.shelf_before.faults call.sh
     → (Rose call.sink_before.faults call.sink_now.faults → ⊥) → (RanOut call → ⊥) → call.status ≢ 5 → call.status ≢ 6
     → WritesLeast call protocol digest set ↔ ((s : List ℕ) × AreFitting (source_of protocol set) s)
 
+-- What status 5 says. The call names a task of the set that the shelf gave. Either no bounds within all deadlines satisfy the recurrence,
+-- or the task's program needs more than 63 bits: at some vector of the recurrence's rounds its run's end is too great to be written, or its
+-- dual at the least bounds, as it is written, loses the whole part of the optimum.
+pub record IsLeftWide (call : Call) (protocol : ProtocolName) (name : List ℕ) : Type 0 where
+  pub set : SetDef
+  pub read : ReadsSome call protocol name set
+  pub task : ℕ
+  pub within : task < length set.tasks
+  pub text : Appends call.sink_before.written call.sink_now.written (wide_text (task_at set task).name)
+  pub cause : (NothingFits (source_of protocol set)) ⊎ NeedsMoreBits (source_of protocol set) task
+
 -- What is true of every call whose words are those of `settle`.
 pub record IsSettling (call : Call) : Type 0 where
   pub least : (protocol : ProtocolName) (name : List ℕ) (more : List (List ℕ)) → call.words ≡ settle_words protocol name more
@@ -64,5 +77,7 @@ pub record IsSettling (call : Call) : Type 0 where
   -- With status 1 the text is a refusal that holds, so nothing fits.
   pub refused : (protocol : ProtocolName) (name : List ℕ) (more : List (List ℕ)) → call.words ≡ settle_words protocol name more
       → call.status ≡ 1 → IsProvedRefutation call protocol name
+  pub wide : (protocol : ProtocolName) (name : List ℕ) (more : List (List ℕ)) → call.words ≡ settle_words protocol name more
+      → call.status ≡ 5 → IsLeftWide call protocol name
   pub exactly : (protocol : ProtocolName) (set : SetDef) → (settles : Settles call protocol set)
       → SettlesExactly call protocol (sha256 settles.read.bytes) set

@@ -12,6 +12,7 @@ use Rattle.refusal_cert.specs.Refuting.{refuting}
 use Rattle.refusal_cert.specs.Steps.{refusal_of}
 use Rattle.settling.specs.Rising.{IsProvedLeast}
 use Rattle.settling.specs.Answers.{IsNotShown, IsLeftOpen}
+use Rattle.settling.specs.Ways.{NothingFits, NeedsMoreBits}
 use Rattle.cert_json.specs.Text.{certificate_text}
 use Rattle.refusal_json.specs.Ranges.{IsWritable}
 use Rattle.refusal_json.specs.Text.{refusal_text}
@@ -38,6 +39,11 @@ pub record IsRefusedBy (f : SourceDef) (allowance : ℕ) (steps : List StepDef) 
   pub writable : IsWritable steps
   pub from : ((IsNotShown f allowance) × AreStepsOfRounds f allowance steps) ⊎ IsLeftOpen f allowance
 
+-- May the set be left unsettled at task i? The rounds leave it open. And nothing fits, or the task's program needs more than 63 bits.
+pub record MayBeWide (f : SourceDef) (allowance i : ℕ) : Type 0 where
+  pub left : IsLeftOpen f allowance
+  pub cause : (NothingFits f) ⊎ NeedsMoreBits f i
+
 -- May so many units be too few? The analysis wants more, or the rounds of refusals do, for a set that it doesn't show. Or the rounds leave
 -- the set open, and the search wants more.
 abbrev pub MayWantMore : SourceDef → ℕ → Type 0
@@ -63,7 +69,7 @@ abbrev pub IsSettlement : ProtocolName → List ℕ → SetDef → ℕ → Answe
 IsSettlement protocol digest set allowance answer =
     ((c : CertificateDef) × (IsSettledBy (source_of protocol set) allowance c) × (answer ≡ settled_answer protocol digest c))
     ⊎ (((steps : List StepDef) × (IsRefusedBy (source_of protocol set) allowance steps) × (answer ≡ refused_answer protocol digest steps))
-    ⊎ (((i : ℕ) × (i < length set.tasks) × (IsLeftOpen (source_of protocol set) allowance) × (answer ≡ unsettled_answer set i))
+    ⊎ (((i : ℕ) × (i < length set.tasks) × (MayBeWide (source_of protocol set) allowance i) × (answer ≡ unsettled_answer set i))
     ⊎ ((MayWantMore (source_of protocol set) allowance) × (answer ≡ short_answer))))
 
 -- It has status 0 or 1 if neither units nor numbers run out. If the rounds don't leave the set open, there is one answer. If they do, there

@@ -1,5 +1,5 @@
 -- What answers of settling mean, from where they come.
-use Rattle.std.proofs.Common.{◌≡◌, ℕ, ◌<◌, List, map, Ok, Err, IfOk, inl, inr, subst}
+use Rattle.std.proofs.Common.{◌≡◌, ℕ, ◌<◌, List, map, Ok, Err, IfOk, inl, inr, refl, subst}
 use Rattle.std.specs.Prelude.{◌↔◌, Bool, Result}
 use Rattle.program_form.specs.Certificate.{CertificateDef, dual_seen, certificate_seen}
 use Rattle.program_sources.specs.Recurrence.{SourceDef}
@@ -25,7 +25,11 @@ use Rattle.schedule_model.specs.declared.rule.Rule.{Rule}
 use Rattle.soundness_laws.specs.Sound.{Sound}
 use Rattle.soundness_laws.specs.Analyses.{AreValues}
 use Rattle.settling.specs.Answers.{Settles, IsRight, IsSchedulable, Keeps, AnswersSo, GivesWide, GivesRefusal, IsNotShown, IsLeftOpen}
-use Rattle.settling.specs.Answers.{RefusesSo, IsSound}
+use Rattle.settling.specs.Answers.{RefusesSo, IsSound, IsWideOnlySo, StopsWithin}
+use Rattle.settling.specs.Rising.{StopsAt, StopsLost, StopsOpen}
+use Rattle.settling.specs.Ways.{IsAfterRounds, NothingFits}
+use Rattle.settling.specs.declared.finding.Points.{Points}
+use Rattle.settling.specs.declared.finding.Points.TheVariants.{Exact}
 use Rattle.settling.specs.declared.answer.Settled.{Settled}
 use Rattle.settling.specs.declared.answer.Settled.TheVariants as settled
 use Rattle.settling.specs.declared.answer.SettleStop.{SettleStop}
@@ -147,3 +151,40 @@ sound_of f keeps interferes (Ok (settled.Schedulable certificate)) right law =
     λ values are. law (certificate_seen certificate) values right.valid are
 sound_of f keeps interferes (Ok (settled.Refused refusal)) right law = tt
 sound_of f keeps interferes (Err e) right law = tt
+
+-- If nothing fits, a wide stop has its cause. So it has in a walk with exact points, where it names a task that needs more bits.
+pub only_if_nothing : (f : SourceDef) (r : Result Settled SettleStop) → NothingFits f → IsWideOnlySo r f
+only_if_nothing f (Ok settled) nothing = tt
+only_if_nothing f (Err (stop.Wide task)) nothing = inl nothing
+only_if_nothing f (Err stop.Allowance) nothing = tt
+only_if_nothing f (Err stop.Memory) nothing = tt
+
+pub only_if_open : (f : SourceDef) (e : SettleStop) → StopsOpen Exact f e → IsWideOnlySo (Err e) f
+only_if_open f (stop.Wide task) needs = inr (needs refl)
+only_if_open f stop.Allowance needs = tt
+only_if_open f stop.Memory needs = tt
+
+-- Wide stops of a walk.
+pub open_at : (points : Points) (f : SourceDef) (v : List ℕ) (e : SettleStop) → (points ≡ Exact → (k : ℕ) × IsAfterRounds f k v)
+    → StopsAt points f v e → StopsOpen points f e
+open_at points f v (stop.Wide task) way (within, great) = λ exact.
+    let there = way exact in (there.0, v, there.1, within, inl (great exact))
+open_at points f v stop.Allowance way stops = tt
+open_at points f v stop.Memory way stops = tt
+
+pub open_lost : (points : Points) (f : SourceDef) (v : List ℕ) (e : SettleStop) → (points ≡ Exact → (k : ℕ) × IsAfterRounds f k v)
+    → StopsLost points f v e → StopsOpen points f e
+open_lost points f v (stop.Wide task) way (within, lost) = λ exact.
+    let there = way exact in (there.0, v, there.1, within, inr (lost exact))
+open_lost points f v stop.Allowance way stops = tt
+open_lost points f v stop.Memory way stops = tt
+
+pub names_at : (points : Points) (f : SourceDef) (v : List ℕ) (e : SettleStop) → StopsAt points f v e → StopsWithin f.set e
+names_at points f v (stop.Wide task) stops = stops.0
+names_at points f v stop.Allowance stops = tt
+names_at points f v stop.Memory stops = tt
+
+pub names_lost : (points : Points) (f : SourceDef) (v : List ℕ) (e : SettleStop) → StopsLost points f v e → StopsWithin f.set e
+names_lost points f v (stop.Wide task) stops = stops.0
+names_lost points f v stop.Allowance stops = tt
+names_lost points f v stop.Memory stops = tt

@@ -1,115 +1,146 @@
 -- How the bounds of a walk stay in their range, rise, and stay at most every fitting vector.
-use Rattle.std.proofs.Common.{◌≡◌, ◌∙◌, ℕ, ◌+◌, ◌<◌, ◌≤◌, List, [], ◌∷◌, ◌++◌, length, get_or, refl, sym, subst, arith, inl, inr}
-use Rattle.std.specs.Prelude.{slice_index, slice_get, Some, Err}
+use Rattle.std.proofs.Common.{◌≡◌, ◌∙◌, ℕ, ◌+◌, ◌<◌, ◌≤◌, ◌^◌, List, [], ◌∷◌, ◌++◌, length, get_or, refl, sym, ap, subst, arith, inl, inr}
+use Rattle.std.specs.Prelude.{slice_index, slice_get, Some, None}
+use Rattle.std.specs.declared.option.Option.{Option}
 use Rattle.std.proofs.lemmas.Bool.{cases_lt}
-use Rattle.std.proofs.lemmas.List.{get_or_append_left, get_or_push}
-use Rattle.std.proofs.lemmas.Option.{slice_get_within, slice_get_read}
-use Rattle.program_form.specs.Points.{Reaches}
+use Rattle.std.proofs.lemmas.List.{get_or_append_left, get_or_push, length_push}
+use Rattle.std.proofs.lemmas.Option.{slice_get_cases, slice_get_within, slice_get_read}
+use Rattle.program_form.specs.Certificate.{DualDef, dual_seen}
+use Rattle.program_form.specs.Points.{Reaches, IsGreatestReached}
+use Rattle.program_form.specs.Program.{ProgramDef}
 use Rattle.program_sources.specs.Bounds.{AtMost, IsInRange}
 use Rattle.program_sources.specs.Recurrence.{SourceDef, response_with}
-use Rattle.program_sources.specs.Fitting.{AreFitting, AreBelowAllFitting, tasks_of}
+use Rattle.program_sources.specs.Fitting.{AreFitting, AreBelowAllFitting, tasks_of, latest_of}
 use Rattle.response_fixpoint.proofs.PlaceLaws.{each_more, each_none}
-use Rattle.program_form.specs.Certificate.{CertificateDef}
-use Rattle.schedule_answers.specs.declared.checked.Invalid.{Invalid}
-use Rattle.schedule_answers.specs.declared.checked.Invalid.TheVariants as invalid
-use Rattle.dual_check.specs.Answers.{Judges}
-use Rattle.settling.specs.Rising.{IsReached, AreReached, IsNextBound, AreNextBounds, IsWithin}
+use Rattle.response_fixpoint.proofs.SolutionLaws.{Rises, renewed_program}
+use Rattle.settling.specs.Rising.{IsFoundOf, AreFoundAt, HaveSmallTicks, IsSame, IsNextBound, AreNextBounds, PassesLatest}
+use Rattle.settling.specs.Ways.{IsEndDual, NothingFits}
+use Rattle.settling.specs.declared.finding.Points.{Points}
 use Rattle.settling.specs.declared.reached.Reached.{Reached}
 
 -- What the laws of least bounds say of a source. If bounds are at most every fitting vector, so are the responses that are reached at them.
--- What is reached stays reached if bounds rise.
 abbrev pub RespondsBelow : SourceDef → Type 0
 RespondsBelow f = (v s : List ℕ) (i blocking : ℕ) → AreBelowAllFitting f v → AreFitting f s → i < tasks_of f
     → Reaches (f.program i v) blocking → response_with f v i blocking ≤ slice_index s i
 
-abbrev pub StaysReached : SourceDef → Type 0
-StaysReached f = (v w : List ℕ) (i blocking : ℕ) → i < tasks_of f → AtMost (tasks_of f) v w → Reaches (f.program i v) blocking
-    → Reaches (f.program i w) blocking
+-- At each place something was found.
+pub found_there : (found : List Reached) (i n : ℕ) → length found ≡ n → i < n → (r : Reached) × (slice_get found i ≡ Some r)
+found_there found i n size here = elim (slice_get_cases found i).1 [
+  | inl (r, within, at, same) ↦ (r, at)
+  | inr past ↦ absurd (omega (arith, past.0, size, here))
+]
 
-pub next_at_least : (f : SourceDef) (v next : List ℕ) → AreNextBounds f v next → AtMost (tasks_of f) v next
-next_at_least f v next are i here = omega (arith, (are.each i here).greater)
+-- What was found of the program of a task, by the task's place.
+pub found_at : (points : Points) (f : SourceDef) (v : List ℕ) (found : List Reached) (i : ℕ) (r : Reached) → AreFoundAt points f v found
+    → slice_get found i ≡ Some r → IsFoundOf points (f.program i v) r
+found_at points f v found i r are here =
+    let first : 0 + i ≡ i = omega arith in
+    subst (λ (k : ℕ). IsFoundOf points (f.program k v) r) first (are i r here)
 
-pub next_in_range : (f : SourceDef) (v next : List ℕ) → AreNextBounds f v next → IsInRange f.set v → IsInRange f.set next
-next_in_range f v next are range = record {
-  one_each = are.one_each;
-  from_cost = λ i here. omega (arith, range.from_cost i here, next_at_least f v next are i here);
-  to_latest = λ i here. omega (arith, (are.each i here).within);
+pub small_ticks : (points : Points) (f : SourceDef) (v : List ℕ) (found : List Reached) → AreFoundAt points f v found → HaveSmallTicks found
+small_ticks points f v found are i r here = (found_at points f v found i r are here).is_reached.small
+
+-- The ticks of a task, as a look-up gives them.
+pub small_here : (found : List Reached) (i : ℕ) (r : Reached) → HaveSmallTicks found → i < length found → r ≡ get_or found i r
+    → (get_or found i r).ticks < 2 ^ 63
+small_here found i r small here is =
+    subst (λ (x : Reached). x.ticks < 2 ^ 63) is (small i r (slice_get_read found (length found) i r refl here is))
+
+-- A program whose limits stay stays, and what was found of it too.
+same_program : (f : SourceDef) (u v : List ℕ) (i : ℕ) → Rises f i → (f.program i u).limits ≡ (f.program i v).limits
+    → f.program i u ≡ f.program i v
+same_program f u v i rises same = renewed_program f i u v (f.program i u) (f.program i u).limits rises refl same
+
+same_found : (points : Points) (p : ProgramDef) (before now : Reached) → IsSame before now → IsFoundOf points p before
+    → IsFoundOf points p now
+same_found points p before now same found = record {
+  limits = same.limits ∙ found.limits;
+  is_reached = record { reached = rw same.ticks found.is_reached.reached; small = rw same.ticks found.is_reached.small };
+  dual = subst (λ (d : DualDef). IsEndDual p d) (sym same.dual) found.dual;
+  greatest = λ exact. subst (λ (n : ℕ). IsGreatestReached p n) (sym same.ticks) (found.greatest exact);
 }
 
-pub next_below : (f : SourceDef) (v next : List ℕ) → RespondsBelow f → AreNextBounds f v next → AreBelowAllFitting f v
-    → AreBelowAllFitting f next
-next_below f v next responds are below s fits i here =
-    let b : IsNextBound f v i (slice_index next i) = are.each i here in
-    let response : response_with f v i b.blocking ≤ slice_index s i =
-    responds v s i b.blocking below fits here b.is_reached.reached in
+pub taken_over : (points : Points) (f : SourceDef) (u v : List ℕ) (i : ℕ) (found : List Reached) (before now : Reached) (limits : List ℕ)
+    → Rises f i → AreFoundAt points f u found → slice_get found i ≡ Some before → before.limits.items ≡ limits
+    → limits ≡ (f.program i v).limits → IsSame before now → IsFoundOf points (f.program i v) now
+taken_over points f u v i found before now limits rises are here stay own same =
+    let old = found_at points f u found i before are here in
+    let program : f.program i u ≡ f.program i v = same_program f u v i rises (sym old.limits ∙ (stay ∙ own)) in
+    same_found points (f.program i v) before now same (subst (λ (p : ProgramDef). IsFoundOf points p before) program old)
+
+-- The same with one more task, and with none.
+pub one_more_found : (points : Points) (f : SourceDef) (v : List ℕ) (found : List Reached) (i : ℕ) (r : Reached) → length found ≡ i
+    → AreFoundAt points f v found → IsFoundOf points (f.program i v) r → AreFoundAt points f v (found ++ r ∷ [])
+one_more_found points f v found i r size are is =
+    let last : i ≡ 0 + length found = omega (arith, size) in
+    each_more (λ k (x : Reached). IsFoundOf points (f.program k v) x) 0 found r are
+    (subst (λ (k : ℕ). IsFoundOf points (f.program k v) r) last is)
+
+pub none_found : (points : Points) (f : SourceDef) (v : List ℕ) (found : List Reached) → length found ≡ 0 → AreFoundAt points f v found
+none_found points f v found none = each_none (λ k (x : Reached). IsFoundOf points (f.program k v) x) 0 found none
+
+ticks_of : Option Reached → ℕ
+ticks_of (Some r) = r.ticks
+ticks_of None = 0
+
+same_ticks : (r s : Reached) → Some r ≡ Some s → r.ticks ≡ s.ticks
+unfolding ticks_of
+same_ticks r s same = ap ticks_of same
+
+-- One more bound.
+pub one_more_bound : (f : SourceDef) (v next : List ℕ) (found : List Reached) (i b : ℕ) (r : Reached) → AreNextBounds f v i found next
+    → slice_get found i ≡ Some r → IsNextBound f v i r.ticks b → AreNextBounds f v (i + 1) found (next ++ b ∷ [])
+one_more_bound f v next found i b r are at here = record {
+  one_each = omega (arith, length_push next b, are.one_each);
+  each = λ k x below there. elim (cases_lt k i) [
+    | inl earlier ↦
+        let same : slice_index (next ++ b ∷ []) k ≡ slice_index next k =
+        get_or_append_left next (b ∷ []) 0 k (omega (arith, earlier, are.one_each)) in
+        subst (λ (n : ℕ). IsNextBound f v k x.ticks n) (sym same) (are.each k x earlier there)
+    | inr late ↦
+        let last : i ≡ k = omega (arith, late, below) in
+        let same : slice_index (next ++ b ∷ []) k ≡ b = get_or_push next b 0 k (are.one_each ∙ last) in
+        let one : Some r ≡ Some x = sym at ∙ (ap (λ (j : ℕ). slice_get found j) last ∙ there) in
+        let own : IsNextBound f v k r.ticks b = subst (λ (j : ℕ). IsNextBound f v j r.ticks b) last here in
+        let ticks : r.ticks ≡ x.ticks = same_ticks r x one in
+        subst (λ (n : ℕ). IsNextBound f v k x.ticks n) (sym same) (subst (λ (t : ℕ). IsNextBound f v k t b) ticks own)
+  ];
+}
+
+pub no_bounds : (f : SourceDef) (v next : List ℕ) (found : List Reached) → length next ≡ 0 → AreNextBounds f v 0 found next
+no_bounds f v next found none = record { one_each = none; each = λ i r here at. absurd (omega (arith, here)) }
+
+-- Bounds that rise.
+pub next_at_least : (f : SourceDef) (v next : List ℕ) (found : List Reached) → AreNextBounds f v (tasks_of f) found next
+    → length found ≡ tasks_of f → AtMost (tasks_of f) v next
+next_at_least f v next found are size i here =
+    let r = found_there found i (tasks_of f) size here in
+    omega (arith, (are.each i r.0 here r.1).greater)
+
+pub next_in_range : (f : SourceDef) (v next : List ℕ) (found : List Reached) → AreNextBounds f v (tasks_of f) found next
+    → length found ≡ tasks_of f → IsInRange f.set v → IsInRange f.set next
+next_in_range f v next found are size range = record {
+  one_each = are.one_each;
+  from_cost = λ i here. omega (arith, range.from_cost i here, next_at_least f v next found are size i here);
+  to_latest = λ i here. (let r = found_there found i (tasks_of f) size here in omega (arith, (are.each i r.0 here r.1).within));
+}
+
+pub next_below : (points : Points) (f : SourceDef) (v next : List ℕ) (found : List Reached) → RespondsBelow f
+    → AreNextBounds f v (tasks_of f) found next → length found ≡ tasks_of f → AreFoundAt points f v found
+    → AreBelowAllFitting f v → AreBelowAllFitting f next
+next_below points f v next found responds are size all below s fits i here =
+    let r = found_there found i (tasks_of f) size here in
+    let b : IsNextBound f v i r.0.ticks (slice_index next i) = are.each i r.0 here r.1 in
+    let response : response_with f v i r.0.ticks ≤ slice_index s i =
+    responds v s i r.0.ticks below fits here (found_at points f v found i r.0 all r.1).is_reached.reached in
     let own : slice_index v i ≤ slice_index s i = below s fits i here in
     omega (arith, response, own, b.greater)
 
--- What was reached by the program of a task, by the task's place.
-pub reached_at : (f : SourceDef) (v : List ℕ) (reached : List Reached) (i : ℕ) (r : Reached) → AreReached f v reached
-    → slice_get reached i ≡ Some r → IsReached f v i r.ticks
-reached_at f v reached i r are here =
-    let first : 0 + i ≡ i = omega arith in
-    subst (λ (k : ℕ). IsReached f v k r.ticks) first (are i r here)
-
-pub stay_reached : (f : SourceDef) (v w : List ℕ) (reached : List Reached) → StaysReached f → AtMost (tasks_of f) v w
-    → length reached ≡ tasks_of f → AreReached f v reached → AreReached f w reached
-stay_reached f v w reached stays most size are = λ i r here.
-    let old : IsReached f v i r.ticks = reached_at f v reached i r are here in
-    let now : IsReached f w i r.ticks = record {
-      reached = stays v w i r.ticks (omega (arith, slice_get_within reached i r here, size)) most old.reached;
-      small = old.small;
-    } in
-    let first : i ≡ 0 + i = omega arith in
-    subst (λ (k : ℕ). IsReached f w k r.ticks) first now
-
--- The same, as a look-up gives it.
-pub reached_here : (f : SourceDef) (v : List ℕ) (reached : List Reached) (i : ℕ) (r : Reached) → AreReached f v reached
-    → i < length reached → r ≡ get_or reached i r → IsReached f v i (get_or reached i r).ticks
-reached_here f v reached i r are here is =
-    subst (λ (x : Reached). IsReached f v i x.ticks) is
-    (reached_at f v reached i r are (slice_get_read reached (length reached) i r refl here is))
-
--- The same with one more task.
-pub one_more_reached : (f : SourceDef) (v : List ℕ) (reached : List Reached) (i : ℕ) (r : Reached) → length reached ≡ i
-    → AreReached f v reached → IsReached f v i r.ticks → AreReached f v (reached ++ r ∷ [])
-one_more_reached f v reached i r size are is =
-    let last : i ≡ 0 + length reached = omega (arith, size) in
-    each_more (λ k (x : Reached). IsReached f v k x.ticks) 0 reached r are (subst (λ (k : ℕ). IsReached f v k r.ticks) last is)
-
-pub none_reached : (f : SourceDef) (v : List ℕ) (reached : List Reached) → length reached ≡ 0 → AreReached f v reached
-none_reached f v reached none = each_none (λ k (x : Reached). IsReached f v k x.ticks) 0 reached none
-
--- One more bound.
-pub one_more_bound : (f : SourceDef) (v next : List ℕ) (i b : ℕ) → length next ≡ i
-    → ((k : ℕ) → k < i → IsNextBound f v k (slice_index next k)) → IsNextBound f v i b
-    → (k : ℕ) → k < i + 1 → IsNextBound f v k (slice_index (next ++ b ∷ []) k)
-one_more_bound f v next i b size before here k below = elim (cases_lt k i) [
-  | inl earlier ↦
-      let same : slice_index (next ++ b ∷ []) k ≡ slice_index next k =
-      get_or_append_left next (b ∷ []) 0 k (omega (arith, earlier, size)) in
-      subst (λ (n : ℕ). IsNextBound f v k n) (sym same) (before k earlier)
-  | inr late ↦
-      let last : i ≡ k = omega (arith, late, below) in
-      let same : slice_index (next ++ b ∷ []) k ≡ b = get_or_push next b 0 k (size ∙ last) in
-      subst (λ (n : ℕ). IsNextBound f v k n) (sym same) (subst (λ (j : ℕ). IsNextBound f v j b) last here)
-]
-
--- The task that the failure of a certificate names.
-pub named_within : (f : SourceDef) (c : CertificateDef) (e : Invalid) → Judges (Err e) f c → IsWithin f.set e
-named_within f c invalid.Size fails = tt
-named_within f c (invalid.Bound i) (before, first) = first.below
-named_within f c (invalid.DualSize i) (before, first) = first.below
-named_within f c (invalid.Cover i k) (before, first, column) = first.below
-named_within f c (invalid.Small i) (before, first) = first.below
-named_within f c invalid.Memory fails = tt
-
--- A walk that has come to the next bounds.
-pub goes_on : (f : SourceDef) (v next : List ℕ) (reached : List Reached) → RespondsBelow f → StaysReached f → AreNextBounds f v next
-    → length reached ≡ tasks_of f → IsInRange f.set v → AreBelowAllFitting f v → AreReached f v reached
-    → (IsInRange f.set next) × (AreBelowAllFitting f next) × AreReached f next reached
-goes_on f v next reached responds stays are size range below reaches = (
-  next_in_range f v next are range,
-  next_below f v next responds are below,
-  stay_reached f v next reached stays (next_at_least f v next are) size reaches,
-)
+-- If a response time passes its latest bound, nothing fits.
+pub late_fits_nothing : (points : Points) (f : SourceDef) (v : List ℕ) (found : List Reached) → RespondsBelow f → AreFoundAt points f v found
+    → AreBelowAllFitting f v → PassesLatest f v found → NothingFits f
+late_fits_nothing points f v found responds all below (i, r, here, at, late) s fits =
+    let response : response_with f v i r.ticks ≤ slice_index s i =
+    responds v s i r.ticks below fits here (found_at points f v found i r all at).is_reached.reached in
+    let within : slice_index s i ≤ latest_of f i = fits.within i here in
+    absurd (omega (arith, response, within, late))

@@ -17,6 +17,7 @@ use Rattle.refusal_cert.specs.Refuting.{refuting}
 use Rattle.refusal_cert.specs.Answers.{Refutes}
 use Rattle.refusal_cert.specs.declared.answer.Answer.TheVariants as refutation
 use Rattle.settling.specs.Rising.{IsProvedLeast}
+use Rattle.settling.specs.Ways.{NothingFits, NeedsMoreBits}
 use Rattle.settling.specs.declared.answer.Settled.{Settled}
 use Rattle.settling.specs.declared.answer.Settled.TheVariants as settled
 use Rattle.settling.specs.declared.answer.SettleStop.{SettleStop}
@@ -59,6 +60,13 @@ StopsWithin set stop.Memory = Unit {0}
 abbrev pub NamesTask : SetDef → Result Settled SettleStop → Type 0
 NamesTask set (Ok settled) = Unit {0}
 NamesTask set (Err stop) = StopsWithin set stop
+
+-- Does a wide stop come only if nothing fits, or if the program of the task that it names needs more than 63 bits?
+abbrev pub IsWideOnlySo : Result Settled SettleStop → SourceDef → Type 0
+IsWideOnlySo (Ok settled) f = Unit {0}
+IsWideOnlySo (Err (stop.Wide task)) f = (NothingFits f) ⊎ NeedsMoreBits f task.0
+IsWideOnlySo (Err stop.Allowance) f = Unit {0}
+IsWideOnlySo (Err stop.Memory) f = Unit {0}
 
 -- Is the answer right? The bounds are the least that fit, with a valid certificate. Or the refusal holds, so that nothing fits.
 abbrev pub IsRight : Settled → SourceDef → Type 0

@@ -1,20 +1,22 @@
 //! Certificates of bounds that are at most every fitting vector. None is answered without its check.
 
-ghost use Rattle.std.specs.Prelude.{◌≡◌, ℕ, ◌<◌, ◌≤◌, ◌^◌, length, None, IfOk, IfErr, IfSome, IsTrue};
+ghost use Rattle.std.specs.Prelude.{◌≡◌, ◌<◌, ◌≤◌, ◌^◌, length, map, IfOk, IfErr, IsTrue};
 ghost use Rattle.program_form.specs.Certificate.{dual_seen, certificate_seen};
+ghost use Rattle.program_sources.specs.Bounds.{IsInRange};
 ghost use Rattle.program_sources.specs.Recurrence.{source_at};
 ghost use Rattle.program_sources.specs.Fitting.{AreBelowAllFitting};
 ghost use Rattle.response_fixpoint.specs.Answers.{IsSmallDual};
-ghost use Rattle.settling.specs.Answers.{StopsWithin};
-ghost use Rattle.settling.specs.Rising.{IsProvedLeast, IsUsable, IsWithin};
+ghost use Rattle.settling.specs.Rising.{AreFoundAt, AreNextBounds, IsLastFailure, IsProvedLeast, StopsFor, StopsLost};
 
 use crate::answer::SettleStop;
+use crate::finding::Points;
 use crate::reached::Reached;
 use dual_check::{Invalid, judge};
+use crate::stub::what_is_found_is_best;
 use least_laws::a_certificate_below_all_fitting_is_least;
 use program_form::{Certificate, Dual, MOST_NUMBER};
 use program_sources::ProgramSource;
-use sporadic_model::{TaskId, TaskSet};
+use sporadic_model::TaskSet;
 use std::alloc::{AllocError, Global};
 
 /// Does the dual have a denominator of at least 1, and no number above 2^63 - 1?
@@ -25,23 +27,9 @@ pub(crate) fn is_small(dual: &Dual) -> bool
     dual.den >= 1 && dual.den <= MOST_NUMBER && dual.num.iter().all(|n| *n <= MOST_NUMBER)
 }
 
-/// The first dual that isn't small.
-fn first_large(duals: &[Dual]) -> Option<u32>
-    requires { length duals.now < 2 ^ 32 }
-    ensures usable { result ≡ None → (i : ℕ) → i < length duals.now → IsUsable duals.now i }
-    ensures within { IfSome result (λ i. i < length duals.now) }
-{
-    for i in 0..duals.len() {
-        if !is_small(&duals[i]) {
-            return Some(i as u32);
-        }
-    }
-    None
-}
-
 /// The duals that were found.
 fn duals_of(alloc: Global, reached: Vec<Reached>) -> Result<Vec<Dual>, AllocError>
-    ensures { IfOk result (λ v. length v.items ≡ length reached.items) }
+    ensures { IfOk result (λ v. v.items ≡ map (λ r. r.dual) reached.items) }
 {
     let mut duals = Vec::new(alloc);
     for last in reached {
@@ -51,47 +39,45 @@ fn duals_of(alloc: Global, reached: Vec<Reached>) -> Result<Vec<Dual>, AllocErro
     Ok(duals)
 }
 
-/// Why settling stops if a certificate isn't valid.
-fn stop_at(set: &TaskSet, invalid: Invalid) -> SettleStop
-    requires { IsWithin set.now invalid }
-    ensures { StopsWithin set.now result }
+/// Why settling stops if a certificate isn't valid. Bounds in range, and duals that cover, fail no test but the last.
+fn stop_for(invalid: Invalid) -> SettleStop
+    requires { IsLastFailure invalid }
+    ensures { StopsFor invalid result }
 {
-    // a set has a task
-    let _tasks = set.tasks();
     match invalid {
-        Invalid::Size => SettleStop::Wide(TaskId(0)),
-        Invalid::Bound(task)
-        | Invalid::DualSize(task)
-        | Invalid::Cover(task, _)
-        | Invalid::Small(task) => SettleStop::Wide(task),
+        Invalid::Small(task) => SettleStop::Wide(task),
         Invalid::Memory => SettleStop::Memory,
+        Invalid::Size => unreachable!(),
+        Invalid::Bound(_) => unreachable!(),
+        Invalid::DualSize(_) => unreachable!(),
+        Invalid::Cover(..) => unreachable!(),
     }
 }
 
-/// The certificate of these bounds with the duals that were found, if it is valid.
+/// The certificate of these bounds with the duals that were found, if it is valid. It is, unless a dual loses the whole part of its optimum.
 pub(crate) fn certificate_of<P: ProgramSource>(
     alloc: Global,
     set: &TaskSet,
     protocol: &P,
+    points: Points,
     bounds: Vec<u64>,
     reached: Vec<Reached>,
 ) -> Result<Certificate, SettleStop>
     requires serves { P.serves protocol.now set.now }
+    requires range { IsInRange set.now bounds.items }
     requires below { AreBelowAllFitting (source_at (P.source protocol.now) set.now) bounds.items }
     requires one_each { length reached.items ≡ length set.now.tasks }
+    requires found { AreFoundAt points (source_at (P.source protocol.now) set.now) bounds.items reached.items }
+    requires fixed { AreNextBounds (source_at (P.source protocol.now) set.now) bounds.items (length set.now.tasks) reached.items bounds.items }
     ensures least { IfOk result (λ c. IsProvedLeast (source_at (P.source protocol.now) set.now) (certificate_seen c)) }
-    ensures names { IfErr result (λ stop. StopsWithin set.now stop) }
+    ensures lost { IfErr result (StopsLost points (source_at (P.source protocol.now) set.now) bounds.items) }
 {
-    // a set has few tasks
-    let _tasks = set.tasks();
+    what_is_found_is_best();
     a_certificate_below_all_fitting_is_least();
     let duals = duals_of(alloc, reached)?;
-    if let Some(i) = first_large(&duals) {
-        return Err(SettleStop::Wide(TaskId(i)));
-    }
     let certificate = Certificate { bounds, duals };
     match judge(alloc, protocol, set, &certificate) {
         Ok(_) => Ok(certificate),
-        Err(invalid) => Err(stop_at(set, invalid)),
+        Err(invalid) => Err(stop_for(invalid)),
     }
 }

@@ -1,9 +1,9 @@
 //! What a search finds of a program, as found or with its point rounded down.
 
-ghost use Rattle.std.specs.Prelude.{◌≡◌, ◌<◌};
+ghost use Rattle.std.specs.Prelude.{◌≡◌, length, IfOk, IfErr};
+ghost use Rattle.settling.specs.Rising.{StopsSo, IsFoundBy, IsRoundedFrom};
 
-use crate::search::Search;
-use free_search::{Found, SearchStop, round_down};
+use free_search::{Found, SearchStop, round_down, search};
 use program_form::{Dual, MOST_NUMBER, SparseProgram};
 use std::alloc::{AllocError, Global};
 use whole_numbers::Whole;
@@ -27,7 +27,9 @@ fn ticks_of(program: &SparseProgram, point: &Dual) -> u64 {
     (sum / u128::from(point.den.max(1))).min(u128::from(MOST_NUMBER)) as u64
 }
 
-fn wholes_of(alloc: Global, numbers: &[u64]) -> Result<Vec<Whole>, AllocError> {
+fn wholes_of(alloc: Global, numbers: &[u64]) -> Result<Vec<Whole>, AllocError>
+    ensures { IfOk result (λ v. length v.items ≡ length numbers.now) }
+{
     let mut wholes = Vec::with_capacity(alloc, numbers.len())?;
     for number in numbers {
         wholes.push(Whole::of(alloc, *number))?;
@@ -35,43 +37,43 @@ fn wholes_of(alloc: Global, numbers: &[u64]) -> Result<Vec<Whole>, AllocError> {
     Ok(wholes)
 }
 
-/// The same with its point rounded down if it needs more than 63 bits. None if no such point has 63 bits.
-fn with_rounded_point(
+/// The same with its point rounded down if it needs more than 63 bits. `Lost` comes if no such point has 63 bits.
+fn round_found(
     alloc: Global,
     program: &SparseProgram,
     found: Found,
-) -> Result<Option<Found>, AllocError> {
+) -> Result<Found, SearchStop>
+    ensures { IfOk result (IsRoundedFrom found) }
+{
     let Some(point) = round_down(alloc, &found)? else {
-        return Ok(None);
+        return Err(SearchStop::Lost);
     };
     let Found { dual, used, .. } = found;
-    Ok(Some(Found {
+    Ok(Found {
         den: Whole::of(alloc, point.den),
         num: wholes_of(alloc, &point.num)?,
         ticks: ticks_of(program, &point),
         dual,
         used,
-    }))
+    })
 }
 
-/// What the search finds of the program, with its point written in this way.
-pub(crate) fn find<S: Search>(
+/// What a search with so many units finds of the program, with its point written in this way.
+pub(crate) fn find(
     alloc: Global,
-    search: &S,
     points: Points,
     program: &SparseProgram,
     units: u64,
-) -> Result<Found, SearchStop> {
-    let found = match search.search(alloc, program, units) {
+) -> Result<Found, SearchStop>
+    ensures found { IfOk result (IsFoundBy points program.now) }
+    ensures stops { IfErr result (StopsSo points program.now) }
+{
+    let found = match search(alloc, program, units) {
         Ok(found) => found,
         Err(stop) => return Err(stop),
     };
-    if let Points::Exact = points {
-        return Ok(found);
-    }
-    match with_rounded_point(alloc, program, found) {
-        Ok(Some(found)) => Ok(found),
-        Ok(None) => Err(SearchStop::Lost),
-        Err(AllocError) => Err(SearchStop::Memory),
+    match points {
+        Points::Exact => Ok(found),
+        Points::Rounded => round_found(alloc, program, found),
     }
 }

@@ -1,7 +1,7 @@
 //! Settling task sets: least bounds or a refusal, also if an analysis is wide.
 //!
-//! A search proposes points and duals of programs. Nothing that it finds is believed. Each point is tested without rounding before it
-//! raises a bound. A certificate is judged before it is answered, and a refusal is confirmed.
+//! A search over numbers of any size finds points and duals of programs. Each point is tested without rounding before it raises a bound. A
+//! certificate is judged before it is answered, and a refusal is confirmed.
 #![tactic(auto)]
 
 mod answer;
@@ -10,11 +10,10 @@ mod finding;
 mod reached;
 mod refusals;
 mod rising;
-mod search;
 mod settling;
 mod steps;
+mod stub;
 mod values;
 
 pub use answer::{SettleStop, Settled};
-pub use search::{Exchanges, Search};
 pub use settling::{settle_by, settle_with};

@@ -1,14 +1,14 @@
 //! What the program of each task reaches at bounds, by points that are tested.
 
-ghost use Rattle.std.specs.Prelude.{◌≡◌, ◌<◌, ◌≤◌, ◌^◌, length, IfOk, IfErr};
+ghost use Rattle.std.specs.Prelude.{◌≡◌, ℕ, ◌<◌, ◌≤◌, ◌^◌, List, length, IfOk, IfErr};
+ghost use Rattle.program_form.specs.Certificate.{dual_seen};
 ghost use Rattle.program_sources.specs.Bounds.{IsInRange};
 ghost use Rattle.program_sources.specs.Recurrence.{source_at};
-ghost use Rattle.settling.specs.Answers.{StopsWithin};
-ghost use Rattle.settling.specs.Rising.{IsReached, AreReached};
+ghost use Rattle.settling.specs.Rising.{IsFoundOf, AreFoundAt, StopsAt, IsSame};
 
 use crate::answer::SettleStop;
 use crate::finding::{Points, find};
-use crate::search::Search;
+use crate::stub::what_is_found_is_best;
 use free_search::{Found, SearchStop};
 use point_tests::is_worth;
 use program_form::{Dual, MOST_NUMBER};
@@ -17,22 +17,24 @@ use sporadic_model::{TaskId, TaskSet};
 use std::alloc::{AllocError, Global};
 use whole_numbers::Whole;
 
-/// What a task's program reaches at some bounds, and what the search found with it.
+/// What a search found of a task's program at some bounds.
 #[derive(Drop)]
 pub(crate) struct Reached {
-    /// A blocking that the program reaches, in ticks.
+    /// A blocking that the program reaches, in ticks. With exact points it is the greatest.
     pub ticks: u64,
-    /// The limits of its rows there. They tell whether a new search is worth it. Nothing rests on them.
+    /// The limits of its rows there. If they stay, the program stays, and what was found of it.
     pub limits: Vec<u64>,
     /// The point that reaches it, if each number has 63 bits. A refusal with this point is confirmed.
     pub point: Option<Dual>,
-    /// The dual that was found. A certificate with this dual is judged.
+    /// The dual of the end of its run. A certificate with this dual is judged.
     pub dual: Dual,
     /// The units that the search used.
     pub used: u64,
 }
 
-pub(crate) fn copy_of(alloc: Global, dual: &Dual) -> Result<Dual, AllocError> {
+pub(crate) fn copy_of(alloc: Global, dual: &Dual) -> Result<Dual, AllocError>
+    ensures { IfOk result (λ d. dual_seen d ≡ dual_seen dual.now) }
+{
     Ok(Dual {
         den: dual.den,
         num: Vec::from_slice(alloc, &dual.num)?,
@@ -59,9 +61,9 @@ fn small_point(alloc: Global, den: &Whole, num: &[Whole]) -> Result<Option<Dual>
     Ok(Some(Dual { den, num: numbers }))
 }
 
-/// What is reached stays reached if bounds rise. If the limits stay, no search finds more. This takes a unit.
+/// What was found of a program whose limits stay. This takes a unit.
 fn take_over(alloc: Global, before: &Reached) -> Result<Reached, AllocError>
-    ensures { IfOk result (λ r. r.ticks ≡ before.now.ticks) }
+    ensures { IfOk result (IsSame before.now) }
 {
     let point = match &before.point {
         Some(point) => Some(copy_of(alloc, point)?),
@@ -77,11 +79,10 @@ fn take_over(alloc: Global, before: &Reached) -> Result<Reached, AllocError>
 }
 
 /// Searches the program of task `i`, whose limits at these bounds are given, and tests the point that is found.
-fn search_task<P: ProgramSource, S: Search>(
+fn search_task<P: ProgramSource>(
     alloc: Global,
     set: &TaskSet,
     protocol: &P,
-    search: &S,
     points: Points,
     i: TaskId,
     bounds: &[u64],
@@ -91,11 +92,13 @@ fn search_task<P: ProgramSource, S: Search>(
     requires serves { P.serves protocol.now set.now }
     requires task { i.0 < length set.now.tasks }
     requires range { IsInRange set.now bounds.now }
-    ensures reached { IfOk result (λ r. IsReached (source_at (P.source protocol.now) set.now) bounds.now i.0 r.ticks) }
-    ensures names { IfErr result (λ stop. StopsWithin set.now stop) }
+    requires limits { limits.items ≡ ((P.source protocol.now set.now).program i.0 bounds.now).limits }
+    ensures found { IfOk result (IsFoundOf points ((P.source protocol.now set.now).program i.0 bounds.now)) }
+    ensures stops { IfErr result (StopsAt points (source_at (P.source protocol.now) set.now) bounds.now) }
 {
+    what_is_found_is_best();
     let program = protocol.sparse_program(alloc, set, i, bounds)?;
-    let found = match find(alloc, search, points, &program, units) {
+    let found = match find(alloc, points, &program, units) {
         Ok(found) => found,
         Err(SearchStop::Lost) => return Err(SettleStop::Wide(i)),
         Err(SearchStop::Units) => return Err(SettleStop::Allowance),
@@ -108,9 +111,10 @@ fn search_task<P: ProgramSource, S: Search>(
         dual,
         used,
     } = found;
-    if num.len() != program.columns() as usize || ticks > MOST_NUMBER {
+    if ticks > MOST_NUMBER {
         return Err(SettleStop::Wide(i));
     }
+    // an exact point always passes
     if !is_worth(alloc, &program, &den, &num, ticks)? {
         return Err(SettleStop::Wide(i));
     }
@@ -123,12 +127,11 @@ fn search_task<P: ProgramSource, S: Search>(
     })
 }
 
-/// What the program of task `i` reaches at these bounds. `before` is what the programs were shown to reach at bounds that are no greater.
-fn reach_task<P: ProgramSource, S: Search>(
+/// What is found of the program of task `i` at these bounds. `before` is what was found of the programs at other bounds.
+fn reach_task<P: ProgramSource>(
     alloc: Global,
     set: &TaskSet,
     protocol: &P,
-    search: &S,
     points: Points,
     i: TaskId,
     bounds: &[u64],
@@ -138,9 +141,9 @@ fn reach_task<P: ProgramSource, S: Search>(
     requires serves { P.serves protocol.now set.now }
     requires task { i.0 < length set.now.tasks }
     requires range { IsInRange set.now bounds.now }
-    requires before { AreReached (source_at (P.source protocol.now) set.now) bounds.now before.now }
-    ensures reached { IfOk result (λ r. IsReached (source_at (P.source protocol.now) set.now) bounds.now i.0 r.ticks) }
-    ensures names { IfErr result (λ stop. StopsWithin set.now stop) }
+    requires before { (u : List ℕ) × AreFoundAt points (source_at (P.source protocol.now) set.now) u before.now }
+    ensures found { IfOk result (IsFoundOf points ((P.source protocol.now set.now).program i.0 bounds.now)) }
+    ensures stops { IfErr result (StopsAt points (source_at (P.source protocol.now) set.now) bounds.now) }
 {
     let limits = protocol.limits(alloc, set, i, bounds)?;
     if let Some(last) = before.get(i.0 as usize) {
@@ -149,17 +152,14 @@ fn reach_task<P: ProgramSource, S: Search>(
             return Ok(reached);
         }
     }
-    search_task(
-        alloc, set, protocol, search, points, i, bounds, limits, units,
-    )
+    search_task(alloc, set, protocol, points, i, bounds, limits, units)
 }
 
-/// What the program of each task reaches at these bounds, with so many units for all.
-pub(crate) fn reach_all<P: ProgramSource, S: Search>(
+/// What is found of the program of each task at these bounds, with so many units for all.
+pub(crate) fn reach_all<P: ProgramSource>(
     alloc: Global,
     set: &TaskSet,
     protocol: &P,
-    search: &S,
     points: Points,
     bounds: &[u64],
     before: &[Reached],
@@ -167,10 +167,10 @@ pub(crate) fn reach_all<P: ProgramSource, S: Search>(
 ) -> Result<Vec<Reached>, SettleStop>
     requires serves { P.serves protocol.now set.now }
     requires range { IsInRange set.now bounds.now }
-    requires before { AreReached (source_at (P.source protocol.now) set.now) bounds.now before.now }
-    ensures each { IfOk result (λ v. AreReached (source_at (P.source protocol.now) set.now) bounds.now v.items) }
+    requires before { (u : List ℕ) × AreFoundAt points (source_at (P.source protocol.now) set.now) u before.now }
+    ensures found { IfOk result (λ v. AreFoundAt points (source_at (P.source protocol.now) set.now) bounds.now v.items) }
     ensures one_each { IfOk result (λ v. length v.items ≡ length set.now.tasks) }
-    ensures names { IfErr result (λ stop. StopsWithin set.now stop) }
+    ensures stops { IfErr result (StopsAt points (source_at (P.source protocol.now) set.now) bounds.now) }
 {
     let mut all = Vec::new(alloc);
     let mut left = units;
@@ -179,7 +179,6 @@ pub(crate) fn reach_all<P: ProgramSource, S: Search>(
             alloc,
             set,
             protocol,
-            search,
             points,
             TaskId(i),
             bounds,

@@ -10,7 +10,6 @@ use crate::answer::{SettleStop, Settled};
 use crate::certificates::is_small;
 use crate::finding::Points;
 use crate::rising::{Risen, rise};
-use crate::search::Search;
 use program_sources::ProgramSource;
 use refusal_confirm::{Fault, confirm, has_denominators};
 use refusal_laws::{Refusal, RefusalStep};
@@ -74,12 +73,11 @@ pub(crate) fn answer_confirmed<R: Threads + Sync, P: ProgramSource + Sync>(
 }
 
 /// A refusal by points that are rounded down. If they lead to none, settling stops at this task.
-pub(crate) fn refuse_by_rounded_points<R: Threads + Sync, P: ProgramSource + Sync, S: Search>(
+pub(crate) fn refuse_by_rounded_points<R: Threads + Sync, P: ProgramSource + Sync>(
     rt: &R,
     alloc: Global,
     set: &TaskSet,
     protocol: &P,
-    search: &S,
     task: TaskId,
     allowance: u64,
 ) -> Result<Settled, SettleStop>
@@ -89,7 +87,7 @@ pub(crate) fn refuse_by_rounded_points<R: Threads + Sync, P: ProgramSource + Syn
     ensures names { NamesTask set.now result }
     ensures bits { IfOk result (λ settled. RefusesIn64Bits settled) }
 {
-    match rise(alloc, set, protocol, search, Points::Rounded, allowance) {
+    match rise(alloc, set, protocol, Points::Rounded, allowance) {
         Ok(Risen::Late(Some(refusal))) => answer_confirmed(rt, alloc, set, protocol, refusal, task),
         Ok(_) => Err(SettleStop::Wide(task)),
         Err(stop) => Err(stop),

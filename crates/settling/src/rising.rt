@@ -1,26 +1,24 @@
 //! The walk: bounds rise from the costs by points that are tested, until none rises or one passes its task's latest bound.
 
-ghost use Rattle.std.specs.Prelude.{◌≡◌, ℕ, ◌+◌, ◌<◌, ◌≤◌, ◌^◌, List, IfOk, IfErr, length};
-ghost use Rattle.program_form.specs.Certificate.{certificate_seen};
+ghost use Rattle.std.specs.Prelude.{◌≡◌, ℕ, ◌+◌, ◌<◌, ◌≤◌, ◌^◌, IfOk, IfErr, length};
+ghost use Rattle.program_sources.specs.Bounds.{IsInRange};
 ghost use Rattle.program_sources.specs.Recurrence.{source_at};
 ghost use Rattle.program_sources.specs.Fitting.{AreBelowAllFitting};
 ghost use Rattle.settling.specs.Answers.{StopsWithin};
 ghost use Rattle.settling.specs.declared.answer.SettleStop.TheVariants.{Allowance};
-ghost use Rattle.settling.specs.Rising.{IsProvedLeast, Rises};
+ghost use Rattle.settling.specs.declared.finding.Points.TheVariants.{Exact};
+ghost use Rattle.settling.specs.Rising.{AreFoundAt, AreNextBounds, Rises, StopsOpen};
+ghost use Rattle.settling.specs.Ways.{IsAfterRounds};
 
 use crate::answer::SettleStop;
 use crate::certificates::certificate_of;
 use crate::finding::Points;
 use crate::reached::{Reached, reach_all, units_of};
-use crate::search::Search;
 use crate::steps::{Steps, add_steps};
 use crate::values::next_bounds;
-use least_laws::{
-    costs_are_below_all_fitting, reached_responses_are_below_all_fitting,
-    what_is_reached_stays_reached,
-};
+use least_laws::{costs_are_below_all_fitting, reached_responses_are_below_all_fitting};
 use program_form::Certificate;
-use program_sources::ProgramSource;
+use program_sources::{ProgramSource, recurrence_is_monotone};
 use refusal_laws::Refusal;
 use response_fixpoint::costs;
 use sporadic_model::TaskSet;
@@ -31,7 +29,8 @@ use std::alloc::Global;
 pub(crate) enum Risen {
     /// No bound rises any more, and the certificate of these bounds is valid.
     Least(Certificate),
-    /// A value passes its task's latest bound: the steps that led there, if all are written in 63 bits. They aren't confirmed yet.
+    /// A value passes its task's latest bound, so nothing fits: the steps that led there, if all are written in 63 bits. They aren't
+    /// confirmed yet.
     Late(Option<Refusal>),
 }
 
@@ -53,35 +52,41 @@ fn end_of_walk<P: ProgramSource>(
     alloc: Global,
     set: &TaskSet,
     protocol: &P,
+    points: Points,
     bounds: Vec<u64>,
     reached: Vec<Reached>,
 ) -> Result<Risen, SettleStop>
     requires serves { P.serves protocol.now set.now }
+    requires range { IsInRange set.now bounds.items }
     requires below { AreBelowAllFitting (source_at (P.source protocol.now) set.now) bounds.items }
     requires one_each { length reached.items ≡ length set.now.tasks }
+    requires found { AreFoundAt points (source_at (P.source protocol.now) set.now) bounds.items reached.items }
+    requires fixed { AreNextBounds (source_at (P.source protocol.now) set.now) bounds.items (length set.now.tasks) reached.items bounds.items }
+    requires way { points ≡ Exact → (k : ℕ) × IsAfterRounds (source_at (P.source protocol.now) set.now) k bounds.items }
     ensures rises { IfOk result (λ risen. Rises risen (source_at (P.source protocol.now) set.now)) }
-    ensures names { IfErr result (λ stop. StopsWithin set.now stop) }
+    ensures wide { IfErr result (StopsOpen points (source_at (P.source protocol.now) set.now)) }
+    ensures names { IfErr result (StopsWithin set.now) }
 {
-    let certificate = certificate_of(alloc, set, protocol, bounds, reached)?;
+    let certificate = certificate_of(alloc, set, protocol, points, bounds, reached)?;
     Ok(Risen::Least(certificate))
 }
 
 /// Raises bounds from the costs, with so many units: one for each task of a round, and those of the searches.
-pub(crate) fn rise<P: ProgramSource, S: Search>(
+pub(crate) fn rise<P: ProgramSource>(
     alloc: Global,
     set: &TaskSet,
     protocol: &P,
-    search: &S,
     points: Points,
     allowance: u64,
 ) -> Result<Risen, SettleStop>
     requires serves { P.serves protocol.now set.now }
     ensures rises { IfOk result (λ risen. Rises risen (source_at (P.source protocol.now) set.now)) }
-    ensures names { IfErr result (λ stop. StopsWithin set.now stop) }
+    ensures wide { IfErr result (StopsOpen points (source_at (P.source protocol.now) set.now)) }
+    ensures names { IfErr result (StopsWithin set.now) }
 {
     costs_are_below_all_fitting();
     reached_responses_are_below_all_fitting::<P>();
-    what_is_reached_stays_reached::<P>();
+    recurrence_is_monotone::<P>();
     // a set has a task, so each round takes a unit, and the walk ends
     let _tasks = set.tasks();
     let mut bounds = costs(alloc, set)?;
@@ -89,16 +94,18 @@ pub(crate) fn rise<P: ProgramSource, S: Search>(
     let mut steps = Steps::new(alloc);
     let mut left = allowance;
     loop {
-        let all = reach_all(
-            alloc, set, protocol, search, points, &bounds, &reached, left,
-        )?;
+        let all = match reach_all(alloc, set, protocol, points, &bounds, &reached, left) {
+            Ok(all) => all,
+            Err(stop) => return Err(stop),
+        };
         left = left_after(&all, left)?;
         add_steps(alloc, set, protocol, &bounds, &all, &mut steps)?;
-        let Some(next) = next_bounds(alloc, set, protocol, &bounds, &all)? else {
-            return Ok(Risen::Late(steps.refusal()));
+        let next = match next_bounds(alloc, set, protocol, &bounds, &all)? {
+            Some(next) => next,
+            None => return Ok(Risen::Late(steps.refusal())),
         };
         if next == bounds {
-            return end_of_walk(alloc, set, protocol, bounds, all);
+            return end_of_walk(alloc, set, protocol, points, bounds, all);
         }
         reached = all;
         bounds = next;

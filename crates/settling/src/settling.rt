@@ -5,13 +5,12 @@ ghost use Rattle.response_fixpoint.specs.Rounds.{Ending, EndsIn};
 ghost use Rattle.response_fixpoint.specs.Runs.{rounds_of};
 ghost use Rattle.settling.specs.Answers.{AnswersSo, GivesRefusal, GivesWide};
 ghost use Rattle.settling.specs.Answers.{Settles, IsRight, IsSchedulable, IsSound, Keeps, NamesTask};
-ghost use Rattle.settling.specs.Answers.{RefusesBySmallSteps, RefusesIn64Bits};
+ghost use Rattle.settling.specs.Answers.{RefusesBySmallSteps, RefusesIn64Bits, IsWideOnlySo};
 
 use crate::answer::{SettleStop, Settled};
 use crate::finding::Points;
 use crate::refusals::{answer_confirmed, keeps_64_bits, refuse_by_rounded_points};
 use crate::rising::{Risen, rise};
-use crate::search::{Exchanges, Search};
 use charged_protocols::{ChargedProtocol, charged_protocols_are_analysed};
 use program_sources::ProgramSource;
 use refusal_cert::{Answer, RefuteStop, refute};
@@ -22,44 +21,44 @@ use std::alloc::Global;
 use std::thread::Threads;
 
 /// Settles a set whose analysis is wide at this task.
-#[tactic(auto, using(crate::proofs::AnswerLaws::wide_of))]
-fn settle_wide<R: Threads + Sync, P: ProgramSource + Sync, S: Search>(
+#[tactic(auto, using(crate::proofs::AnswerLaws::wide_of, crate::proofs::AnswerLaws::only_if_nothing, crate::proofs::AnswerLaws::only_if_open))]
+fn settle_wide<R: Threads + Sync, P: ProgramSource + Sync>(
     rt: &R,
     alloc: Global,
     set: &TaskSet,
     protocol: &P,
-    search: &S,
     task: TaskId,
     allowance: u64,
 ) -> Result<Settled, SettleStop>
     requires serves { P.serves protocol.now set.now }
     requires task { task.0 < length set.now.tasks }
     ensures gives { GivesWide result (source_at (P.source protocol.now) set.now) }
+    ensures wide { IsWideOnlySo result (source_at (P.source protocol.now) set.now) }
     ensures names { NamesTask set.now result }
     ensures bits { IfOk result (λ settled. RefusesIn64Bits settled) }
 {
-    match rise(alloc, set, protocol, search, Points::Exact, allowance) {
+    match rise(alloc, set, protocol, Points::Exact, allowance) {
         Ok(Risen::Least(certificate)) => Ok(Settled::Schedulable(certificate)),
         Ok(Risen::Late(Some(refusal))) => answer_confirmed(rt, alloc, set, protocol, refusal, task),
         Ok(Risen::Late(None)) => {
-            refuse_by_rounded_points(rt, alloc, set, protocol, search, task, allowance)
+            refuse_by_rounded_points(rt, alloc, set, protocol, task, allowance)
         }
         Err(stop) => Err(stop),
     }
 }
 
 /// Refuses a set that the analysis doesn't show.
-fn refuse<R: Threads + Sync, P: ProgramSource + Sync, S: Search>(
+fn refuse<R: Threads + Sync, P: ProgramSource + Sync>(
     rt: &R,
     alloc: Global,
     set: &TaskSet,
     protocol: &P,
-    search: &S,
     allowance: u64,
 ) -> Result<Settled, SettleStop>
     requires serves { P.serves protocol.now set.now }
     requires none { (s : List ℕ) → AreFitting (source_at (P.source protocol.now) set.now) s → ⊥ }
     ensures gives { GivesRefusal result (source_at (P.source protocol.now) set.now) allowance }
+    ensures wide { IsWideOnlySo result (source_at (P.source protocol.now) set.now) }
     ensures names { NamesTask set.now result }
     ensures bits { IfOk result (λ settled. RefusesIn64Bits settled) }
 {
@@ -70,7 +69,7 @@ fn refuse<R: Threads + Sync, P: ProgramSource + Sync, S: Search>(
         }
         Ok(Answer::Schedulable) => unreachable!(),
         Err(RefuteStop::Wide(task)) => {
-            refuse_by_rounded_points(rt, alloc, set, protocol, search, task, allowance)
+            refuse_by_rounded_points(rt, alloc, set, protocol, task, allowance)
         }
         Err(RefuteStop::Allowance) => Err(SettleStop::Allowance),
         Err(RefuteStop::Memory) => Err(SettleStop::Memory),
@@ -78,35 +77,34 @@ fn refuse<R: Threads + Sync, P: ProgramSource + Sync, S: Search>(
 }
 
 /// The answer, from the analysis, a refutation or a search.
-fn settle<R: Threads + Sync, P: ProgramSource + Sync, S: Search>(
+fn settle<R: Threads + Sync, P: ProgramSource + Sync>(
     rt: &R,
     alloc: Global,
     set: &TaskSet,
     protocol: &P,
-    search: &S,
     allowance: u64,
 ) -> Result<Settled, SettleStop>
     requires serves { P.serves protocol.now set.now }
     ensures answers { AnswersSo result (source_at (P.source protocol.now) set.now) allowance }
+    ensures wide { IsWideOnlySo result (source_at (P.source protocol.now) set.now) }
     ensures names { NamesTask set.now result }
     ensures bits { IfOk result (λ settled. RefusesIn64Bits settled) }
 {
     match analyse_with(rt, alloc, set, protocol, allowance) {
         Ok(Verdict::Schedulable(certificate)) => Ok(Settled::Schedulable(certificate)),
-        Ok(Verdict::NotShown { .. }) => refuse(rt, alloc, set, protocol, search, allowance),
-        Err(Stop::Wide(task)) => settle_wide(rt, alloc, set, protocol, search, task, allowance),
+        Ok(Verdict::NotShown { .. }) => refuse(rt, alloc, set, protocol, allowance),
+        Err(Stop::Wide(task)) => settle_wide(rt, alloc, set, protocol, task, allowance),
         Err(Stop::Allowance) => Err(SettleStop::Allowance),
         Err(Stop::Memory) => Err(SettleStop::Memory),
     }
 }
 
-/// Settles a task set over any source of programs, by any search: see [`settle_with`].
-pub fn settle_by<R: Threads + Sync, P: ProgramSource + Sync, S: Search>(
+/// Settles a task set over any source of programs: see [`settle_with`].
+pub fn settle_by<R: Threads + Sync, P: ProgramSource + Sync>(
     rt: &R,
     alloc: Global,
     set: &TaskSet,
     protocol: &P,
-    search: &S,
     allowance: u64,
 ) -> Result<Settled, SettleStop>
     requires serves { P.serves protocol.now set.now }
@@ -124,13 +122,17 @@ pub fn settle_by<R: Threads + Sync, P: ProgramSource + Sync, S: Search>(
     ensures exactly { IfOk result (λ settled. IsSchedulable settled
         ↔ ((s : List ℕ) × AreFitting (source_at (P.source protocol.now) set.now) s)) }
 
+    // If some bounds fit, a wide stop names a task whose program needs more than 63 bits. At some vector of the recurrence's rounds its
+    // run's end is too great to be written. Or its dual at the least bounds, as it is written, loses the whole part of the optimum.
+    ensures wide { IsWideOnlySo result (source_at (P.source protocol.now) set.now) }
+
     // What is answered can be written: a wide stop names a task of the set, and the numbers of a refusal's steps are small.
     ensures names { NamesTask set.now result }
     ensures small_steps { IfOk result (λ settled. RefusesBySmallSteps settled) }
 {
     set.keeps_the_model();
     the_rounds_have_one_ending();
-    settle(rt, alloc, set, protocol, search, allowance)
+    settle(rt, alloc, set, protocol, allowance)
 }
 
 /// Settles a task set: least bounds with a certificate, or a refusal.
@@ -158,6 +160,7 @@ pub fn settle_with<R: Threads + Sync, P: ChargedProtocol + Sync>(
     ensures right { IfOk result (λ settled. IsRight settled (source_at (P.source protocol.now) set.now)) }
     ensures exactly { IfOk result (λ settled. IsSchedulable settled
         ↔ ((s : List ℕ) × AreFitting (source_at (P.source protocol.now) set.now) s)) }
+    ensures wide { IsWideOnlySo result (source_at (P.source protocol.now) set.now) }
     ensures names { NamesTask set.now result }
     ensures small_steps { IfOk result (λ settled. RefusesBySmallSteps settled) }
 
@@ -168,5 +171,5 @@ pub fn settle_with<R: Threads + Sync, P: ChargedProtocol + Sync>(
     set.keeps_the_model();
     charged_protocols_are_analysed::<P>();
     analysed_protocols_are_sound::<P>();
-    settle_by(rt, alloc, set, protocol, &Exchanges, allowance)
+    settle_by(rt, alloc, set, protocol, allowance)
 }

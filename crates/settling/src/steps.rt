@@ -2,8 +2,7 @@
 
 ghost use Rattle.std.specs.Prelude.{◌≡◌, length};
 ghost use Rattle.program_sources.specs.Bounds.{IsInRange};
-ghost use Rattle.program_sources.specs.Recurrence.{source_at};
-ghost use Rattle.settling.specs.Rising.{AreReached};
+ghost use Rattle.settling.specs.Rising.{HaveSmallTicks};
 
 use crate::reached::{Reached, copy_of};
 use program_form::Dual;
@@ -71,7 +70,7 @@ pub(crate) fn add_steps<P: ProgramSource>(
 ) -> Result<(), AllocError>
     requires serves { P.serves protocol.now set.now }
     requires range { IsInRange set.now bounds.now }
-    requires reached { AreReached (source_at (P.source protocol.now) set.now) bounds.now reached.now }
+    requires small { HaveSmallTicks reached.now }
     requires one_each { length reached.now ≡ length set.now.tasks }
 {
     for i in 0..set.tasks() {

@@ -1,9 +1,10 @@
 //! The bounds that follow from what is reached.
 
-ghost use Rattle.std.specs.Prelude.{◌≡◌, ◌<◌, length, IfOk, IfSome};
+ghost use Rattle.std.specs.Prelude.{◌≡◌, ◌<◌, ◌^◌, length, IfOk, MatchOption};
 ghost use Rattle.program_sources.specs.Bounds.{IsInRange};
-ghost use Rattle.program_sources.specs.Recurrence.{source_at};
-ghost use Rattle.settling.specs.Rising.{IsReached, AreReached, IsNextBound, AreNextBounds};
+ghost use Rattle.program_sources.specs.Fitting.{latest_of};
+ghost use Rattle.program_sources.specs.Recurrence.{source_at, response_with};
+ghost use Rattle.settling.specs.Rising.{HaveSmallTicks, IsNextBound, AreNextBounds, PassesLatest};
 
 use crate::reached::Reached;
 use program_sources::{ProgramSource, response};
@@ -21,8 +22,11 @@ pub(crate) fn next_bound<P: ProgramSource>(
     requires serves { P.serves protocol.now set.now }
     requires task { i.0 < length set.now.tasks }
     requires range { IsInRange set.now bounds.now }
-    requires reached { IsReached (source_at (P.source protocol.now) set.now) bounds.now i.0 blocking }
-    ensures { IfSome result (λ b. IsNextBound (source_at (P.source protocol.now) set.now) bounds.now i.0 b) }
+    requires small { blocking < 2 ^ 63 }
+    ensures { MatchOption result
+        (latest_of (source_at (P.source protocol.now) set.now) i.0
+            < response_with (source_at (P.source protocol.now) set.now) bounds.now i.0 blocking)
+        (IsNextBound (source_at (P.source protocol.now) set.now) bounds.now i.0 blocking) }
 {
     let value = response(set, protocol, i, bounds, blocking).max(bounds[i.0 as usize]);
     if value > set.latest_bound(i) {
@@ -41,10 +45,11 @@ pub(crate) fn next_bounds<P: ProgramSource>(
 ) -> Result<Option<Vec<u64>>, AllocError>
     requires serves { P.serves protocol.now set.now }
     requires range { IsInRange set.now bounds.now }
-    requires reached { AreReached (source_at (P.source protocol.now) set.now) bounds.now reached.now }
+    requires small { HaveSmallTicks reached.now }
     requires one_each { length reached.now ≡ length set.now.tasks }
-    ensures { IfOk result (λ o. IfSome o (λ next.
-        AreNextBounds (source_at (P.source protocol.now) set.now) bounds.now next.items)) }
+    ensures { IfOk result (λ o. MatchOption o
+        (PassesLatest (source_at (P.source protocol.now) set.now) bounds.now reached.now)
+        (λ next. AreNextBounds (source_at (P.source protocol.now) set.now) bounds.now (length set.now.tasks) reached.now next.items)) }
 {
     let mut next = Vec::new(alloc);
     for i in 0..set.tasks() {

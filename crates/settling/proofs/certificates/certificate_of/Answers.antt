@@ -1,29 +1,49 @@
-use Rattle.std.proofs.Common.{◌<◌, List, length, map, arith}
-use Rattle.std.proofs.lemmas.List.{length-map}
+use Rattle.std.proofs.Common.{List, map, Err, subst, sym, ap}
 use Rattle.program_form.specs.Certificate.{CertificateDef, dual_seen}
 use Rattle.program_form.specs.declared.certificate.Dual.{Dual}
 use Rattle.program_sources.specs.Recurrence.{SourceDef, source_at}
 use Rattle.program_sources.specs.Valid.{IsValid}
-use Rattle.settling.specs.Rising.{IsUsable}
-use Rattle.settling.proofs.RiseLaws.{named_within}
+use Rattle.dual_check.specs.Answers.{Judges, HasDenominators}
+use Rattle.settling.specs.Rising.{IsProvedLeast}
+use Rattle.settling.specs.declared.reached.Reached.{Reached}
+use Rattle.settling.proofs.CertificateLaws.{IsMadeOf, certificate_with, has_denominators, passes_others, stops_lost, proved_least}
 use Rattle.settling.proofs.certificates.certificate_of.Goals as goal
+
+pub judge-requires-clause-denominators : goal.judge-requires-clause-denominators
+judge-requires-clause-denominators g c =
+    let f : SourceDef = source_at (g.P.ProgramSource.source c.args.protocol.now) c.args.set.now in
+    let made : IsMadeOf c.args.points f c.args.bounds.items c.args.reached.items =
+    record { range = c.requires.range; size = c.requires.one_each; all = c.requires.found; fixed = c.requires.fixed } in
+    subst (λ (ds : List Dual). HasDenominators (record { bounds = c.args.bounds.items; duals = map dual_seen ds })) (sym c.in_ok-duals.ensures)
+    (has_denominators c.args.points f c.args.bounds.items c.args.reached.items c.what_is_found_is_best.ensures.covers made)
+
+pub stop_for-requires : goal.stop_for-requires
+stop_for-requires g c =
+    let f : SourceDef = source_at (g.P.ProgramSource.source c.args.protocol.now) c.args.set.now in
+    let made : IsMadeOf c.args.points f c.args.bounds.items c.args.reached.items =
+    record { range = c.requires.range; size = c.requires.one_each; all = c.requires.found; fixed = c.requires.fixed } in
+    passes_others c.args.points f c.args.bounds.items c.args.reached.items c.in-Err.invalid c.what_is_found_is_best.ensures.covers made
+    (subst (λ (ds : List Dual). Judges (Err c.in-Err.invalid) f (record { bounds = c.args.bounds.items; duals = map dual_seen ds }))
+    c.in_ok-duals.ensures c.in-Err.ensures.judges)
+
+pub returns-in-Err-clause-lost : goal.returns-in-Err-clause-lost
+returns-in-Err-clause-lost g c =
+    let f : SourceDef = source_at (g.P.ProgramSource.source c.args.protocol.now) c.args.set.now in
+    let made : IsMadeOf c.args.points f c.args.bounds.items c.args.reached.items =
+    record { range = c.requires.range; size = c.requires.one_each; all = c.requires.found; fixed = c.requires.fixed } in
+    stops_lost c.args.points f c.args.bounds.items c.args.reached.items c.in-Err.invalid c.stop_for.result made c.requires.below
+    (subst (λ (ds : List Dual). Judges (Err c.in-Err.invalid) f (record { bounds = c.args.bounds.items; duals = map dual_seen ds }))
+    c.in_ok-duals.ensures c.in-Err.ensures.judges) c.stop_for.ensures
 
 pub returns-in-Ok-clause-least : goal.returns-in-Ok-clause-least
 returns-in-Ok-clause-least g c =
     let f : SourceDef = source_at (g.P.ProgramSource.source c.args.protocol.now) c.args.set.now in
-    let duals : List Dual = c.in_ok-duals.duals.items in
-    let cert : CertificateDef = record { bounds = c.args.bounds.items; duals = map dual_seen duals } in
-    let valid : IsValid f cert = c.in-Ok.ensures.judges.0 in
-    let usable : (i : _) → i < length duals → IsUsable duals i =
-    rw c.deref.ensures.value at (c.first_large.ensures.usable c.in_default.is) in
-    record {
-      least = c.a_certificate_below_all_fitting_is_least.ensures f cert valid c.requires.below;
-      valid = valid;
-      small = λ i here. (usable i (omega (arith, here, valid.dual_each, length-map duals dual_seen))).1;
-    }
-
-pub stop_at-requires : goal.stop_at-requires
-stop_at-requires g c =
-    let f : SourceDef = source_at (g.P.ProgramSource.source c.args.protocol.now) c.args.set.now in
-    let cert : CertificateDef = record { bounds = c.args.bounds.items; duals = map dual_seen c.in_ok-duals.duals.items } in
-    named_within f cert c.in-Err.invalid c.in-Err.ensures.judges
+    let made : IsMadeOf c.args.points f c.args.bounds.items c.args.reached.items =
+    record { range = c.requires.range; size = c.requires.one_each; all = c.requires.found; fixed = c.requires.fixed } in
+    let valid : IsValid f (certificate_with c.args.bounds.items c.args.reached.items) =
+    subst (λ (ds : List Dual). IsValid f (record { bounds = c.args.bounds.items; duals = map dual_seen ds })) c.in_ok-duals.ensures
+    c.in-Ok.ensures.judges.0 in
+    subst (λ (ds : List Dual). IsProvedLeast f (record { bounds = c.args.bounds.items; duals = map dual_seen ds })) (sym c.in_ok-duals.ensures)
+    (proved_least c.args.points f c.args.bounds.items c.args.reached.items c.what_is_found_is_best.ensures.covers made
+    (c.a_certificate_below_all_fitting_is_least.ensures f (certificate_with c.args.bounds.items c.args.reached.items) valid
+    c.requires.below) valid)

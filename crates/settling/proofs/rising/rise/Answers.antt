@@ -1,49 +1,74 @@
-use Rattle.std.proofs.Common.{◌≡◌, List, length, sym, subst, arith}
+use Rattle.std.proofs.Common.{◌≡◌, ℕ, suc, List, length, sym, subst, arith}
 use Rattle.program_sources.specs.Recurrence.{SourceDef, source_at}
 use Rattle.program_sources.specs.Fitting.{AreBelowAllFitting, tasks_of}
-use Rattle.settling.specs.Rising.{AreReached, AreNextBounds}
-use Rattle.settling.proofs.RiseLaws.{RespondsBelow, StaysReached, none_reached, goes_on}
+use Rattle.response_fixpoint.proofs.VectorLaws.{same_vectors}
+use Rattle.settling.specs.Rising.{AreFoundAt, AreNextBounds, PassesLatest, StopsAt}
+use Rattle.settling.proofs.AnswerLaws.{open_at}
+use Rattle.settling.proofs.RiseLaws.{RespondsBelow, none_found, small_ticks, next_in_range, next_below, late_fits_nothing}
+use Rattle.settling.proofs.WayLaws.{next_after_rounds}
 use Rattle.settling.proofs.rising.rise.Goals as goal
 
-pub loop-steps-init : goal.loop-steps-init
-loop-steps-init g c =
+pub loop-all-init : goal.loop-all-init
+loop-all-init g c =
     let f : SourceDef = source_at (g.P.ProgramSource.source c.args.protocol.now) c.args.set.now in
     record {
       range = c.in_ok-bounds.ensures.range;
-      below = subst (λ (v : List _). AreBelowAllFitting f v) (sym c.in_ok-bounds.ensures.first) (c.costs_are_below_all_fitting.ensures f);
-      reached = none_reached f c.in_ok-bounds.bounds.items c.new-reached.result.items (omega arith);
+      below = subst (λ (v : List ℕ). AreBelowAllFitting f v) (sym c.in_ok-bounds.ensures.first) (c.costs_are_below_all_fitting.ensures f);
+      before = (c.in_ok-bounds.bounds.items, none_found c.args.points f c.in_ok-bounds.bounds.items c.new-reached.result.items (omega arith));
+      way = λ exact. (0, c.in_ok-bounds.ensures.first);
     }
 
 pub reach_all-requires-clause-before : goal.reach_all-requires-clause-before
-reach_all-requires-clause-before g c =
-    let f : SourceDef = source_at (g.P.ProgramSource.source c.args.protocol.now) c.args.set.now in
-    let reached : AreReached f c.loop-steps.bounds.items c.loop-steps.reached.items = c.loop-steps.invariant.reached in
-    rw (c.deref.ensures.value, c.deref-in-loop-steps.ensures.value) reached
+reach_all-requires-clause-before g c = rw c.deref-in-loop-all.ensures.value c.loop-all.invariant.before
 
-pub add_steps-requires-clause-reached : goal.add_steps-requires-clause-reached
-add_steps-requires-clause-reached g c =
+pub returns-in-Err-clause-wide : goal.returns-in-Err-clause-wide
+returns-in-Err-clause-wide g c =
     let f : SourceDef = source_at (g.P.ProgramSource.source c.args.protocol.now) c.args.set.now in
-    let reached : AreReached f c.loop-steps.bounds.items c.in_ok-all.all.items = rw c.deref.ensures.value at c.in_ok-all.ensures.each in
-    rw (c.deref-in-loop-steps-3.ensures.value, c.deref-in-loop-steps-4.ensures.value) reached
+    let stops : StopsAt c.args.points f c.loop-all.bounds.items c.in-Err.stop = rw c.deref.ensures.value at c.in-Err.ensures.stops in
+    open_at c.args.points f c.loop-all.bounds.items c.in-Err.stop c.loop-all.invariant.way stops
 
-pub next_bounds-requires-clause-reached : goal.next_bounds-requires-clause-reached
-next_bounds-requires-clause-reached g c =
+pub add_steps-requires-clause-small : goal.add_steps-requires-clause-small
+add_steps-requires-clause-small g c =
     let f : SourceDef = source_at (g.P.ProgramSource.source c.args.protocol.now) c.args.set.now in
-    let reached : AreReached f c.loop-steps.bounds.items c.in_ok-all.all.items = rw c.deref.ensures.value at c.in_ok-all.ensures.each in
-    rw (c.deref-in-loop-steps-5.ensures.value, c.deref-in-loop-steps-6.ensures.value) reached
+    rw c.deref-in-loop-all-4.ensures.value (small_ticks c.args.points f c.deref.result.now c.in-Ok.all.items c.in-Ok.ensures.found)
 
-pub loop-steps-preserved : goal.loop-steps-preserved
-loop-steps-preserved g c =
+pub next_bounds-requires-clause-small : goal.next_bounds-requires-clause-small
+next_bounds-requires-clause-small g c =
     let f : SourceDef = source_at (g.P.ProgramSource.source c.args.protocol.now) c.args.set.now in
-    let v : List _ = c.loop-steps.bounds.items in
-    let next : List _ = c.in-Some.next.items in
-    let reached : AreReached f v c.in_ok-all.all.items = rw c.deref.ensures.value at c.in_ok-all.ensures.each in
-    let here : AreNextBounds f c.deref-in-loop-steps-5.result.now next = rw c.in-Some.is at c.in_ok-next.ensures in
-    let are : AreNextBounds f v next = subst (λ (r : List _). AreNextBounds f r next) c.deref-in-loop-steps-5.ensures.value here in
+    rw c.deref-in-loop-all-6.ensures.value (small_ticks c.args.points f c.deref.result.now c.in-Ok.all.items c.in-Ok.ensures.found)
+
+pub returns-in-None-clause-rises : goal.returns-in-None-clause-rises
+returns-in-None-clause-rises g c =
+    let f : SourceDef = source_at (g.P.ProgramSource.source c.args.protocol.now) c.args.set.now in
+    let v : List ℕ = c.loop-all.bounds.items in
+    let all : AreFoundAt c.args.points f v c.in-Ok.all.items = rw c.deref.ensures.value at c.in-Ok.ensures.found in
     let responds : RespondsBelow f = λ r s i blocking below fits within by.
     c.reached_responses_are_below_all_fitting.ensures c.args.protocol.now c.args.set.now r s i blocking c.requires.serves below fits within by in
-    let stays : StaysReached f = λ r s i blocking within most by.
-    c.what_is_reached_stays_reached.ensures c.args.protocol.now c.args.set.now r s i blocking c.requires.serves within most by in
-    let size : length c.in_ok-all.all.items ≡ tasks_of f = c.in_ok-all.ensures.one_each in
-    let on = goes_on f v next c.in_ok-all.all.items responds stays are size c.loop-steps.invariant.range c.loop-steps.invariant.below reached in
-    record { range = on.0; below = on.1; reached = on.2 }
+    let late : PassesLatest f v c.in-Ok.all.items =
+    rw (c.in-None.is, c.deref-in-loop-all-5.ensures.value, c.deref-in-loop-all-6.ensures.value) at c.in_ok-next.ensures in
+    late_fits_nothing c.args.points f v c.in-Ok.all.items responds all c.loop-all.invariant.below late
+
+pub end_of_walk-requires-clause-found : goal.end_of_walk-requires-clause-found
+end_of_walk-requires-clause-found g c = rw c.deref.ensures.value at c.in-Ok.ensures.found
+
+pub loop-all-preserved : goal.loop-all-preserved
+loop-all-preserved g c =
+    let f : SourceDef = source_at (g.P.ProgramSource.source c.args.protocol.now) c.args.set.now in
+    let v : List ℕ = c.loop-all.bounds.items in
+    let next : List ℕ = c.in-Some.next.items in
+    let found = c.in-Ok.all.items in
+    let all : AreFoundAt c.args.points f v c.in-Ok.all.items = rw c.deref.ensures.value at c.in-Ok.ensures.found in
+    let are : AreNextBounds f v (tasks_of f) c.in-Ok.all.items c.in-Some.next.items =
+    rw (c.in-Some.is, c.deref-in-loop-all-5.ensures.value, c.deref-in-loop-all-6.ensures.value) at c.in_ok-next.ensures in
+    let responds : RespondsBelow f = λ r s i blocking below fits within by.
+    c.reached_responses_are_below_all_fitting.ensures c.args.protocol.now c.args.set.now r s i blocking c.requires.serves below fits within by in
+    let size : length c.in-Ok.all.items ≡ tasks_of f = c.in-Ok.ensures.one_each in
+    record {
+      range = next_in_range f v next found are size c.loop-all.invariant.range;
+      below = next_below c.args.points f v next found responds are size all c.loop-all.invariant.below;
+      before = (v, all);
+      way = λ exact. (
+          let way = c.loop-all.invariant.way exact in
+          (suc way.0, next_after_rounds c.args.points f way.0 v next found exact
+          (c.recurrence_is_monotone.ensures.reached c.args.protocol.now c.args.set.now c.requires.serves) way.1 all size are));
+    }

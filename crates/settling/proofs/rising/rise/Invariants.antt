@@ -1,16 +1,20 @@
+use Rattle.std.proofs.Common.{◌≡◌, ℕ, List}
 use Rattle.program_sources.specs.Bounds.{IsInRange}
 use Rattle.program_sources.specs.Recurrence.{source_at}
 use Rattle.program_sources.specs.Fitting.{AreBelowAllFitting}
-use Rattle.settling.specs.Rising.{AreReached}
+use Rattle.settling.specs.Rising.{AreFoundAt}
+use Rattle.settling.specs.Ways.{IsAfterRounds}
+use Rattle.settling.specs.declared.finding.Points.TheVariants.{Exact}
 use Rattle.settling.proofs.rising.rise.Given as goal
 
--- the bounds are at most every fitting vector, and what was reached before is reached at them
-abbrev pub invariant-loop-steps : goal.invariant-loop-steps
-invariant-loop-steps g l = record {
+-- the bounds are at most every fitting vector, and, with exact points, those after some rounds; what was found before is of other bounds
+abbrev pub invariant-loop-all : goal.invariant-loop-all
+invariant-loop-all g l = record {
   range : IsInRange l.set l.bounds.items;
   below : AreBelowAllFitting (source_at (g.P.ProgramSource.source l.protocol) l.set) l.bounds.items;
-  reached : AreReached (source_at (g.P.ProgramSource.source l.protocol) l.set) l.bounds.items l.reached.items;
+  before : (u : List ℕ) × AreFoundAt l.points (source_at (g.P.ProgramSource.source l.protocol) l.set) u l.reached.items;
+  way : l.points ≡ Exact → (k : ℕ) × IsAfterRounds (source_at (g.P.ProgramSource.source l.protocol) l.set) k l.bounds.items;
 }
 
-abbrev pub decreases-loop-steps : goal.decreases-loop-steps
-decreases-loop-steps g l = l.left
+abbrev pub decreases-loop-all : goal.decreases-loop-all
+decreases-loop-all g l = l.left
