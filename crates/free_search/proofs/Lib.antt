@@ -13,3 +13,4 @@ mod RoundedNumbers
 mod Denominators
 mod Ends
 mod Answering
+mod BestEnds

@@ -3,7 +3,7 @@
 //! [`search`] makes the exchange run of the program: the least variable enters, the least ratio leaves, and among equal ones the row with
 //! the least basic variable. Each row has one denominator, and a number for each variable outside the basis. No number is too large for it.
 //!
-//! It is proved that it makes this run, and reads off its end.
+//! It is proved that it makes this run, and reads off its end. By a law, [`what_is_found_is_best`], this is the best.
 #![tactic(auto)]
 
 ghost use Rattle.std.specs.Prelude.{◌≡◌, ◌<◌, ◌≤◌, length, IfOk};
@@ -13,6 +13,7 @@ ghost use Rattle.free_search.specs.Ends.{Searches};
 mod choice;
 mod end;
 mod found;
+mod laws;
 mod rounding;
 mod row;
 mod start;
@@ -21,6 +22,7 @@ mod tableau;
 
 use choice::entering;
 pub use found::{Found, SearchStop};
+pub use laws::what_is_found_is_best;
 use program_form::SparseProgram;
 pub use rounding::round_down;
 use start::first_tableau;

@@ -1,0 +1,28 @@
+//! What follows from what a search reads off the end of the run. The function is a law: it does nothing, and what it ensures holds for all
+//! programs.
+
+ghost use Rattle.std.specs.Prelude.{◌≡◌, ℕ, ◌*◌, ◌≤◌, List, slice_index, pos};
+ghost use Rattle.fraction128.specs.Fraction.{IsFloor};
+ghost use Rattle.program_form.specs.Program.{ProgramDef};
+ghost use Rattle.program_form.specs.Certificate.{DualDef};
+ghost use Rattle.program_form.specs.Points.{IsScaledPoint, IsGreatestReached, worth};
+ghost use Rattle.program_form.specs.Duals.{IsFeasibleDual};
+ghost use Rattle.exchange_runs.specs.Table.{Table};
+ghost use Rattle.exchange_runs.specs.Readings.{value_of};
+ghost use Rattle.free_search.specs.Ends.{IsEndAfter, IsPointOf, IsRoundedDual};
+
+/// At the end of a program's run over unbounded fractions the value has a whole part, and each end has the same one. It is the greatest
+/// whole number that a point reaches. The point that is read off meets every row, and reaches it. The dual covers every column. Its
+/// multipliers are rounded up, so what it bounds may be above the optimum.
+pub fn what_is_found_is_best()
+    ensures some { (p : ProgramDef) (k : ℕ) (t : Table) → IsEndAfter p k t → (n : ℕ) × IsFloor (value_of p t) (pos n) }
+    ensures greatest { (p : ProgramDef) (k : ℕ) (t : Table) (n : ℕ)
+        → IsEndAfter p k t → IsFloor (value_of p t) (pos n) → IsGreatestReached p n }
+    ensures one { (p : ProgramDef) (k j : ℕ) (t u : Table) (m n : ℕ) → IsEndAfter p k t → IsEndAfter p j u
+        → IsFloor (value_of p t) (pos m) → IsFloor (value_of p u) (pos n) → m ≡ n }
+    ensures point { (p : ProgramDef) (k : ℕ) (t : Table) (den : ℕ) (num : List ℕ) (n : ℕ)
+        → IsEndAfter p k t → IsPointOf p t den num → IsFloor (value_of p t) (pos n)
+        → IsScaledPoint p den (slice_index num) × (n * den ≤ worth p (slice_index num)) }
+    ensures covers { (p : ProgramDef) (k : ℕ) (t : Table) (d : DualDef)
+        → IsEndAfter p k t → IsRoundedDual p t d → IsFeasibleDual p d }
+{}
