@@ -12,7 +12,7 @@ use crate::answer::SettleStop;
 use crate::finding::Points;
 use crate::reached::Reached;
 use dual_check::{Invalid, judge};
-use crate::stub::what_is_found_is_best;
+use free_search::what_is_found_is_best;
 use least_laws::a_certificate_below_all_fitting_is_least;
 use program_form::{Certificate, Dual, MOST_NUMBER};
 use program_sources::ProgramSource;

@@ -8,8 +8,7 @@ ghost use Rattle.settling.specs.Rising.{IsFoundOf, AreFoundAt, StopsAt, IsSame};
 
 use crate::answer::SettleStop;
 use crate::finding::{Points, find};
-use crate::stub::what_is_found_is_best;
-use free_search::{Found, SearchStop};
+use free_search::{Found, SearchStop, what_is_found_is_best};
 use point_tests::is_worth;
 use program_form::{Dual, MOST_NUMBER};
 use program_sources::ProgramSource;
