@@ -1,12 +1,11 @@
 -- Why a certificate of found duals isn't valid: only since a dual loses the whole part of its optimum.
-use Rattle.std.proofs.Common.{◌≡◌, ◌∙◌, ℕ, ◌+◌, ◌<◌, ◌≤◌, ◌^◌, List, length, map, get_or, Err, refl, sym, ap, subst, arith}
-use Rattle.std.specs.Prelude.{slice_index, slice_get, Some, All}
-use Rattle.std.proofs.lemmas.Grind.{get_or_default_zero}
+use Rattle.std.proofs.Common.{◌≡◌, ◌∙◌, ℕ, ◌<◌, ◌≤◌, ◌^◌, List, length, map, Err, refl, sym, ap, subst, arith}
+use Rattle.std.specs.Prelude.{slice_index, slice_get, Some}
 use Rattle.std.proofs.lemmas.List.{length-map, get_or_default}
 use Rattle.std.proofs.lemmas.Option.{slice_get-map, get_or_from_slice_get}
 use Rattle.program_form.specs.Certificate.{DualDef, CertificateDef, dual_seen}
 use Rattle.program_form.specs.Duals.{IsFeasibleDual, dual_value}
-use Rattle.program_form.specs.Program.{ProgramDef, height}
+use Rattle.program_form.specs.Program.{ProgramDef}
 use Rattle.program_form.specs.declared.certificate.Dual.{Dual}
 use Rattle.program_sources.specs.Bounds.{IsInRange}
 use Rattle.program_sources.specs.Recurrence.{SourceDef, response_with}
@@ -19,13 +18,12 @@ use Rattle.dual_check.specs.Answers.{Judges, HasDenominators}
 use Rattle.schedule_answers.specs.Tests.{IsEnough}
 use Rattle.schedule_answers.specs.declared.checked.Invalid.{Invalid}
 use Rattle.schedule_answers.specs.declared.checked.Invalid.TheVariants as invalid
-use Rattle.settling.specs.Rising.{IsFoundOf, AreFoundAt, IsNextBound, AreNextBounds, IsLastFailure, StopsFor, StopsLost, IsProvedLeast}
+use Rattle.settling.specs.Rising.{AreFoundAt, IsNextBound, AreNextBounds, IsLastFailure, StopsFor, StopsLost, IsProvedLeast}
 use Rattle.settling.specs.Ways.{IsEndDual, LosesWhole}
 use Rattle.settling.specs.declared.finding.Points.{Points}
 use Rattle.settling.specs.declared.finding.Points.TheVariants.{Exact}
 use Rattle.settling.specs.declared.reached.Reached.{Reached}
 use Rattle.settling.specs.declared.answer.SettleStop.{SettleStop}
-use Rattle.settling.specs.declared.answer.SettleStop.TheVariants as stop
 use Rattle.program_sources.specs.Fitting.{AreBelowAllFitting, AreLeastFitting}
 use Rattle.settling.proofs.RiseLaws.{found_there, found_at}
 use Rattle.settling.proofs.WayLaws.{fixed_are_least}
@@ -129,8 +127,9 @@ pub stops_lost : (points : Points) (f : SourceDef) (v : List ℕ) (found : List 
 stops_lost points f v found (invalid.Small i) s made below (before, first) is = subst (λ (x : SettleStop). StopsLost points f v x) (sym is) (
   first.below,
   λ exact. (
-      fixed_are_least points f v found exact made.range below made.all made.size made.fixed,
-      loses_whole points f v found i.0 exact made first.below first.fails),
+    fixed_are_least points f v found exact made.range below made.all made.size made.fixed,
+    loses_whole points f v found i.0 exact made first.below first.fails,
+  ),
 )
 stops_lost points f v found invalid.Memory s made below fails is = subst (λ (x : SettleStop). StopsLost points f v x) (sym is) tt
 stops_lost points f v found invalid.Size s made below fails is = absurd is

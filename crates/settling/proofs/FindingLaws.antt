@@ -1,11 +1,9 @@
 -- What a search finds of a program, and why it stops.
-use Rattle.std.proofs.Common.{◌≡◌, inl, inr, ℕ, ◌*◌, ◌<◌, ◌≤◌, ◌^◌, List, length, Ok, Err, sym, subst, arith}
+use Rattle.std.proofs.Common.{◌≡◌, inl, inr, ℕ, ◌*◌, ◌<◌, ◌≤◌, ◌^◌, List, length, Ok, Err, sym, subst}
 use Rattle.std.specs.Prelude.{slice_index, pos}
 use Rattle.fraction128.specs.Fraction.{IsFloor}
-use Rattle.program_form.specs.Certificate.{DualDef, dual_seen}
 use Rattle.program_form.specs.Points.{IsScaledPoint, IsGreatestReached, worth}
-use Rattle.program_form.specs.Program.{ProgramDef, columns}
-use Rattle.program_form.specs.declared.certificate.Dual.{Dual}
+use Rattle.program_form.specs.Program.{ProgramDef}
 use Rattle.exchange_runs.specs.Readings.{value_of}
 use Rattle.exchange_runs.specs.Table.{Table}
 use Rattle.free_search.specs.Ends.{Searches, IsEndAfter, IsPointOf}
@@ -14,7 +12,7 @@ use Rattle.free_search.specs.declared.found.SearchStop.{SearchStop}
 use Rattle.free_search.specs.declared.found.SearchStop.TheVariants.{Memory, Units, Lost}
 use Rattle.point_tests.specs.Worth.{IsWorth}
 use Rattle.settling.specs.Rising.{IsFoundBy, IsFoundOf, StopsSo}
-use Rattle.settling.specs.Ways.{EndsTooGreat, IsEndDual}
+use Rattle.settling.specs.Ways.{EndsTooGreat}
 use Rattle.settling.specs.declared.finding.Points.{Points}
 use Rattle.settling.specs.declared.finding.Points.TheVariants.{Exact, Rounded}
 use Rattle.settling.specs.declared.reached.Reached.{Reached}

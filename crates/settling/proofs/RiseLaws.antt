@@ -4,8 +4,8 @@ use Rattle.std.specs.Prelude.{slice_index, slice_get, Some, None}
 use Rattle.std.specs.declared.option.Option.{Option}
 use Rattle.std.proofs.lemmas.Bool.{cases_lt}
 use Rattle.std.proofs.lemmas.List.{get_or_append_left, get_or_push, length_push}
-use Rattle.std.proofs.lemmas.Option.{slice_get_cases, slice_get_within, slice_get_read}
-use Rattle.program_form.specs.Certificate.{DualDef, dual_seen}
+use Rattle.std.proofs.lemmas.Option.{slice_get_cases, slice_get_read}
+use Rattle.program_form.specs.Certificate.{DualDef}
 use Rattle.program_form.specs.Points.{Reaches, IsGreatestReached}
 use Rattle.program_form.specs.Program.{ProgramDef}
 use Rattle.program_sources.specs.Bounds.{AtMost, IsInRange}

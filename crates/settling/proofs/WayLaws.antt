@@ -1,15 +1,14 @@
 -- A walk with exact points goes by the recurrence's rounds, and where it stops.
-use Rattle.std.proofs.Common.{◌≡◌, ◌∙◌, ℕ, zero, suc, ◌+◌, ◌<◌, ◌≤◌, List, length, map, refl, sym, ap, subst, arith}
+use Rattle.std.proofs.Common.{◌≡◌, ◌∙◌, ℕ, zero, suc, ◌<◌, ◌≤◌, List, length, refl, ap, subst, arith}
 use Rattle.std.specs.Prelude.{slice_index, slice_get, Some}
-use Rattle.program_form.specs.Points.{IsGreatestReached}
 use Rattle.sporadic_model.specs.SetDef.{task_at}
 use Rattle.program_sources.specs.Bounds.{AtMost, IsInRange}
-use Rattle.program_sources.specs.Recurrence.{SourceDef, IsResponse, ComesUp, response_with}
+use Rattle.program_sources.specs.Recurrence.{SourceDef, IsResponse, response_with}
 use Rattle.program_sources.specs.Fitting.{AreBelowAllFitting, AreLeastFitting, ComesUpAbove, tasks_of}
 use Rattle.program_sources.proofs.RecurrenceLaws.{response_comes_up, response_is_greatest}
 use Rattle.response_fixpoint.proofs.LeastExists.{cost_at, cost_below}
 use Rattle.settling.specs.Rising.{AreFoundAt, IsNextBound, AreNextBounds}
-use Rattle.settling.specs.Ways.{AreResponses, IsAfterRounds}
+use Rattle.settling.specs.Ways.{IsAfterRounds}
 use Rattle.settling.specs.declared.finding.Points.{Points}
 use Rattle.settling.specs.declared.finding.Points.TheVariants.{Exact}
 use Rattle.settling.specs.declared.reached.Reached.{Reached}

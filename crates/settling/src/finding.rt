@@ -38,11 +38,7 @@ fn wholes_of(alloc: Global, numbers: &[u64]) -> Result<Vec<Whole>, AllocError>
 }
 
 /// The same with its point rounded down if it needs more than 63 bits. `Lost` comes if no such point has 63 bits.
-fn round_found(
-    alloc: Global,
-    program: &SparseProgram,
-    found: Found,
-) -> Result<Found, SearchStop>
+fn round_found(alloc: Global, program: &SparseProgram, found: Found) -> Result<Found, SearchStop>
     ensures { IfOk result (IsRoundedFrom found) }
 {
     let Some(point) = round_down(alloc, &found)? else {

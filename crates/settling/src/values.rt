@@ -25,7 +25,7 @@ pub(crate) fn next_bound<P: ProgramSource>(
     requires small { blocking < 2 ^ 63 }
     ensures { MatchOption result
         (latest_of (source_at (P.source protocol.now) set.now) i.0
-            < response_with (source_at (P.source protocol.now) set.now) bounds.now i.0 blocking)
+        < response_with (source_at (P.source protocol.now) set.now) bounds.now i.0 blocking)
         (IsNextBound (source_at (P.source protocol.now) set.now) bounds.now i.0 blocking) }
 {
     let value = response(set, protocol, i, bounds, blocking).max(bounds[i.0 as usize]);

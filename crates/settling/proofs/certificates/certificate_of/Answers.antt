@@ -1,11 +1,10 @@
-use Rattle.std.proofs.Common.{List, map, Err, subst, sym, ap}
-use Rattle.program_form.specs.Certificate.{CertificateDef, dual_seen}
+use Rattle.std.proofs.Common.{List, map, Err, subst, sym}
+use Rattle.program_form.specs.Certificate.{dual_seen}
 use Rattle.program_form.specs.declared.certificate.Dual.{Dual}
 use Rattle.program_sources.specs.Recurrence.{SourceDef, source_at}
 use Rattle.program_sources.specs.Valid.{IsValid}
 use Rattle.dual_check.specs.Answers.{Judges, HasDenominators}
 use Rattle.settling.specs.Rising.{IsProvedLeast}
-use Rattle.settling.specs.declared.reached.Reached.{Reached}
 use Rattle.settling.proofs.CertificateLaws.{IsMadeOf, certificate_with, has_denominators, passes_others, stops_lost, proved_least}
 use Rattle.settling.proofs.certificates.certificate_of.Goals as goal
 

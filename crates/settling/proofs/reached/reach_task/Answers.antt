@@ -1,4 +1,4 @@
-use Rattle.std.proofs.Common.{◌≡◌, List, length, refl, Some}
+use Rattle.std.proofs.Common.{◌≡◌, length, refl, Some}
 use Rattle.std.specs.Prelude.{slice_get}
 use Rattle.std.proofs.lemmas.Option.{slice_get_read}
 use Rattle.program_sources.specs.Recurrence.{SourceDef, source_at}

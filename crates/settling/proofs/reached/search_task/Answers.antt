@@ -1,8 +1,8 @@
-use Rattle.std.proofs.Common.{rules, ◌≡◌, ◌≤◌, ◌^◌, List, refl, subst, arith, IsTrue}
+use Rattle.std.proofs.Common.{rules, ◌≤◌, ◌^◌, refl, arith, IsTrue}
 use Rattle.program_form.specs.Program.{ProgramDef}
 use Rattle.point_tests.specs.Worth.{IsWorth}
 use Rattle.settling.specs.Rising.{IsFoundBy}
-use Rattle.settling.proofs.FindingLaws.{lost_at, found_in, too_great, passes_test, found_of}
+use Rattle.settling.proofs.FindingLaws.{lost_at, found_in, too_great, found_of}
 use Rattle.settling.proofs.reached.search_task.Goals as goal
 
 pub returns-in-Err-Lost-clause-stops : goal.returns-in-Err-Lost-clause-stops
@@ -10,7 +10,7 @@ returns-in-Err-Lost-clause-stops g c =
     let p : ProgramDef = (g.P.ProgramSource.source c.args.protocol.now c.args.set.now).program c.args.i.0 c.args.bounds.now in (
       c.requires.task,
       lost_at c.args.points p c.in_ok-program.program c.in-Err-Lost.field-0 c.in_ok-program.ensures c.in-Err-Lost.field-0-is
-      c.in-Err-Lost.ensures.stops,
+          c.in-Err-Lost.ensures.stops,
     )
 
 pub returns-then-ticks-gt-MOST_NUMBER-clause-stops : goal.returns-then-ticks-gt-MOST_NUMBER-clause-stops

@@ -1,7 +1,6 @@
 use Rattle.std.proofs.Common.{◌≡◌, ℕ, suc, List, length, sym, subst, arith}
 use Rattle.program_sources.specs.Recurrence.{SourceDef, source_at}
 use Rattle.program_sources.specs.Fitting.{AreBelowAllFitting, tasks_of}
-use Rattle.response_fixpoint.proofs.VectorLaws.{same_vectors}
 use Rattle.settling.specs.Rising.{AreFoundAt, AreNextBounds, PassesLatest, StopsAt}
 use Rattle.settling.proofs.AnswerLaws.{open_at}
 use Rattle.settling.proofs.RiseLaws.{RespondsBelow, none_found, small_ticks, next_in_range, next_below, late_fits_nothing}
@@ -68,7 +67,9 @@ loop-all-preserved g c =
       below = next_below c.args.points f v next found responds are size all c.loop-all.invariant.below;
       before = (v, all);
       way = λ exact. (
-          let way = c.loop-all.invariant.way exact in
-          (suc way.0, next_after_rounds c.args.points f way.0 v next found exact
-          (c.recurrence_is_monotone.ensures.reached c.args.protocol.now c.args.set.now c.requires.serves) way.1 all size are));
+          let way = c.loop-all.invariant.way exact in (
+            suc way.0,
+            next_after_rounds c.args.points f way.0 v next found exact
+                (c.recurrence_is_monotone.ensures.reached c.args.protocol.now c.args.set.now c.requires.serves) way.1 all size are,
+          ));
     }
