@@ -11,5 +11,5 @@ mod Runs
 mod Exchanging
 mod RoundedNumbers
 mod Denominators
-mod Ends
+pub mod Ends
 mod Answering
