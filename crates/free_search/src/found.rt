@@ -9,8 +9,8 @@ use whole_numbers::Whole;
 
 /// What is read off the end of a run: a point of the program, what it is worth, and a dual.
 ///
-/// The fields are open, so a value by itself shows nothing. But it is proved of one that `search` answers that it is read off the last table
-/// of the program's exchange run.
+/// The fields are open, so a value by itself shows nothing. One that `search` answers is proved to be read off the last table of the
+/// program's exchange run.
 #[derive(Debug, Drop)]
 pub struct Found {
     /// The denominator of the point, at least 1.
