@@ -11,6 +11,6 @@ mod Runs
 mod Exchanging
 mod RoundedNumbers
 mod Denominators
-mod Ends
+pub mod Ends
 mod Answering
 mod BestEnds

@@ -37,11 +37,38 @@ pub record IsRoundedDual (p : ProgramDef) (t : Table) (d : DualDef) : Type 0 whe
   pub rounded : (r : ℕ) → r < height p → IsRoundedUp (dual_at p t r) d.den (slice_index d.num r)
   pub small : (r : ℕ) → r < height p → slice_index d.num r < 2 ^ 63
 
+-- Is it such a dual, where nothing is rounded?
+pub record IsExactDual (p : ProgramDef) (t : Table) (d : DualDef) : Type 0 where
+  pub rounded : IsRoundedDual p t d
+  pub exact : (r : ℕ) → r < height p → IsScaled d.den (dual_at p t r) (slice_index d.num r)
+
+-- Is there no exact dual of 63 bits, over any denominator of 63 bits?
+abbrev pub HasNoExactDual : ProgramDef → Table → Type 0
+HasNoExactDual p t = (d : DualDef) → IsExactDual p t d → ⊥
+
+-- Is it exact, over the least denominator of an exact dual?
+pub record IsLowestDual (p : ProgramDef) (t : Table) (d : DualDef) : Type 0 where
+  pub exact : IsExactDual p t d
+  pub least : (other : DualDef) → IsExactDual p t other → d.den ≤ other.den
+
+-- Has the dual of some row, rounded up over m, more than 63 bits?
+abbrev pub HasGreatDual : ProgramDef → Table → ℕ → Type 0
+HasGreatDual p t m = (r : ℕ) × (r < height p) × (k : ℕ) × (IsRoundedUp (dual_at p t r) m k) × (2 ^ 63 ≤ k)
+
+-- Is it rounded up over the greatest power of two below 2^63 at which each number has 63 bits?
+pub record IsFinestDual (p : ProgramDef) (t : Table) (d : DualDef) : Type 0 where
+  pub power : ℕ
+  pub den : d.den ≡ 2 ^ power
+  pub rounded : IsRoundedDual p t d
+  pub greatest : (power ≡ 62) ⊎ HasGreatDual p t (2 ^ (power + 1))
+
+-- The dual in lowest terms. Only if no exact one has 63 bits, it is rounded up.
+abbrev pub IsFoundDual : ProgramDef → Table → DualDef → Type 0
+IsFoundDual p t d = IsLowestDual p t d ⊎ (HasNoExactDual p t × IsFinestDual p t d)
+
 -- Is the end too great to be written: is the dual of some row above 2^63 - 1, or is the value 2^64 or more?
 abbrev pub IsTooGreat : ProgramDef → Table → Type 0
-IsTooGreat p t =
-    ((r : ℕ) × (r < height p) × (k : ℕ) × (IsRoundedUp (dual_at p t r) 1 k) × (2 ^ 63 ≤ k))
-    ⊎ ((n : ℕ) × (IsFloor (value_of p t) (pos n)) × (2 ^ 64 ≤ n))
+IsTooGreat p t = HasGreatDual p t 1 ⊎ ((n : ℕ) × (IsFloor (value_of p t) (pos n)) × (2 ^ 64 ≤ n))
 
 -- Is there a list that says where the variables of the table are?
 abbrev pub HasStands : ProgramDef → Tableau → Type 0
@@ -52,7 +79,7 @@ pub record IsReadFrom (p : ProgramDef) (t : Table) (units : ℕ) (found : Found)
   pub used : found.used ≡ units
   pub point : IsPointOf p t found.den found.num.items
   pub ticks : IsFloor (value_of p t) (pos found.ticks)
-  pub dual : IsRoundedDual p t (dual_seen found.dual)
+  pub dual : IsFoundDual p t (dual_seen found.dual)
 
 -- What is read from a last table. None if it is too great.
 abbrev pub ReadsAt : Option Found → ProgramDef → Table → ℕ → Type 0

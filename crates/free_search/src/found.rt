@@ -7,7 +7,10 @@ use std::alloc::{AllocError, AllocFailed};
 use thiserror::Error;
 use whole_numbers::Whole;
 
-/// What a search came to: a point of the program and a dual of it. Both need tests before they are believed.
+/// What is read off the end of a run: a point of the program, what it is worth, and a dual.
+///
+/// The fields are open, so a value by itself shows nothing. One that `search` answers is proved to be read off the last table of the
+/// program's exchange run.
 #[derive(Debug, Drop)]
 pub struct Found {
     /// The denominator of the point, at least 1.
@@ -16,7 +19,8 @@ pub struct Found {
     pub num: Vec<Whole>,
     /// The whole part of what the point is worth, in ticks.
     pub ticks: u64,
-    /// A dual: in lowest terms where these fit into 63 bits, else rounded up over the greatest power of two at which it fits.
+    /// The dual: in lowest terms if these have 63 bits. If no exact dual has, each number is rounded up, over the greatest power of two at
+    /// which all of them have 63 bits.
     pub dual: Dual,
     /// How many units the search took.
     pub used: u64,
@@ -31,7 +35,7 @@ pub enum SearchStop {
     /// The search takes more units than it was given.
     #[error("the search takes more units than it was given")]
     Units,
-    /// The worth of the point has more than 64 bits, or the dual doesn't fit into 63 bits.
+    /// The worth of the point has more than 64 bits, or a number of the dual is above 2^63 - 1.
     #[error("what the search found doesn't fit into 63 bits")]
     Lost,
 }

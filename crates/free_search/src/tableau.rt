@@ -29,6 +29,7 @@ fn take_from(alloc: Global, row: &mut FreeRow, k: usize, pivot: &Pivot) -> Resul
     ensures places { length row.new.nums ≡ length row.old.nums }
     ensures left { OnOk result (IsTaken row.old k pivot.now row.new) }
 {
+    // its denominator is above 0, so where nothing is taken away each cell keeps its value
     let _positive = row.den();
     if row.num(k).is_zero() {
         return Ok(());

@@ -14,6 +14,7 @@ use Rattle.program_sources.specs.Valid.{IsValid, dual_at, no_dual, value_at}
 use Rattle.response_fixpoint.specs.Answers.{IsSmallDual}
 use Rattle.exchange_runs.specs.Table.{Table}
 use Rattle.free_search.specs.Ends.{IsEndAfter, IsRoundedDual}
+use Rattle.free_search.proofs.Ends.{found_is_rounded}
 use Rattle.dual_check.specs.Answers.{Judges, HasDenominators}
 use Rattle.schedule_answers.specs.Tests.{IsEnough}
 use Rattle.schedule_answers.specs.declared.checked.Invalid.{Invalid}
@@ -59,14 +60,17 @@ pub record IsGoodDual (p : ProgramDef) (d : DualDef) : Type 0 where
   pub small : IsSmallDual d
 
 good_end : (p : ProgramDef) (d : DualDef) → EndsCover → IsEndDual p d → IsGoodDual p d
-good_end p d covers (k, t, end, rounded) = record {
-  feasible = covers p k t d end rounded;
-  positive = rounded.positive;
-  small = record {
-    den = rounded.small_den;
-    num = λ r x here. subst (λ (n : ℕ). n < 2 ^ 63) (sym (get_or_default d.num r x 0 here)) (rounded.small r (rw (← rounded.number_each) here));
-  };
-}
+good_end p d covers (k, t, end, found) =
+    let rounded : IsRoundedDual p t d = found_is_rounded p t d found in
+    record {
+      feasible = covers p k t d end rounded;
+      positive = rounded.positive;
+      small = record {
+        den = rounded.small_den;
+        num = λ r x here. subst (λ (n : ℕ). n < 2 ^ 63) (sym (get_or_default d.num r x 0 here))
+            (rounded.small r (rw (← rounded.number_each) here));
+      };
+    }
 
 pub good_dual : (points : Points) (f : SourceDef) (v : List ℕ) (found : List Reached) (i : ℕ) → EndsCover → IsMadeOf points f v found
     → i < tasks_of f → IsGoodDual (f.program i v) (dual_at (certificate_with v found).duals i)

@@ -9,7 +9,7 @@ use Rattle.program_sources.specs.Recurrence.{SourceDef, IsResponse}
 use Rattle.program_sources.specs.Fitting.{AreFitting, AreLeastFitting, tasks_of}
 use Rattle.exchange_runs.specs.Table.{Table}
 use Rattle.exchange_runs.specs.Readings.{value_of}
-use Rattle.free_search.specs.Ends.{IsEndAfter, IsRoundedDual, IsTooGreat}
+use Rattle.free_search.specs.Ends.{IsEndAfter, IsFoundDual, IsTooGreat}
 use Rattle.refusal_laws.specs.Steps.{costs_of}
 
 -- Are these the recurrence's values at the bounds v, one for each task?
@@ -30,7 +30,7 @@ EndsTooGreat p = (k : ℕ) × (t : Table) × (IsEndAfter p k t)
 
 -- Is it the dual of that end, as a search writes it with 63 bits?
 abbrev pub IsEndDual : ProgramDef → DualDef → Type 0
-IsEndDual p d = (k : ℕ) × (t : Table) × (IsEndAfter p k t) × IsRoundedDual p t d
+IsEndDual p d = (k : ℕ) × (t : Table) × (IsEndAfter p k t) × IsFoundDual p t d
 
 -- Does this dual lose the whole part of the optimum: is its value above the greatest whole blocking that is reached?
 pub record LosesWhole (p : ProgramDef) : Type 0 where
