@@ -27,7 +27,7 @@ use Rattle.soundness_laws.specs.Analyses.{AreValues}
 use Rattle.settling.specs.Answers.{Settles, IsRight, IsSchedulable, Keeps, AnswersSo, GivesWide, GivesRefusal, IsNotShown, IsLeftOpen}
 use Rattle.settling.specs.Answers.{RefusesSo, IsSound, IsWideOnlySo, StopsWithin}
 use Rattle.settling.specs.Rising.{StopsAt, StopsLost, StopsOpen}
-use Rattle.settling.specs.Ways.{IsAfterRounds, NothingFits}
+use Rattle.settling.specs.Ways.{IsOnWay, NothingFits}
 use Rattle.settling.specs.declared.finding.Points.{Points}
 use Rattle.settling.specs.declared.finding.Points.TheVariants.{Exact}
 use Rattle.settling.specs.declared.answer.Settled.{Settled}
@@ -165,17 +165,17 @@ only_if_open f stop.Allowance needs = tt
 only_if_open f stop.Memory needs = tt
 
 -- Wide stops of a walk.
-pub open_at : (points : Points) (f : SourceDef) (v : List ℕ) (e : SettleStop) → (points ≡ Exact → (k : ℕ) × IsAfterRounds f k v)
+pub open_at : (points : Points) (f : SourceDef) (v : List ℕ) (e : SettleStop) → (points ≡ Exact → IsOnWay f v)
     → StopsAt points f v e → StopsOpen points f e
 open_at points f v (stop.Wide task) way (within, great) = λ exact.
-    let there = way exact in (there.0, v, there.1, within, inl (great exact))
+    let there = way exact in (there.rounds, v, there.after, within, inl (great exact))
 open_at points f v stop.Allowance way stops = tt
 open_at points f v stop.Memory way stops = tt
 
-pub open_lost : (points : Points) (f : SourceDef) (v : List ℕ) (e : SettleStop) → (points ≡ Exact → (k : ℕ) × IsAfterRounds f k v)
+pub open_lost : (points : Points) (f : SourceDef) (v : List ℕ) (e : SettleStop) → (points ≡ Exact → IsOnWay f v)
     → StopsLost points f v e → StopsOpen points f e
 open_lost points f v (stop.Wide task) way (within, lost) = λ exact.
-    let there = way exact in (there.0, v, there.1, within, inr (lost exact))
+    let there = way exact in (there.rounds, v, there.after, within, inr (lost exact))
 open_lost points f v stop.Allowance way stops = tt
 open_lost points f v stop.Memory way stops = tt
 

@@ -1,6 +1,7 @@
 pub mod RiseLaws
 pub mod WayLaws
-pub mod CertificateLaws
 pub mod FindingLaws
+pub mod CertificateLaws
+pub mod BitLaws
 pub mod AnswerLaws
 pub mod SmallSteps

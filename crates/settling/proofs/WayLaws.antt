@@ -8,7 +8,7 @@ use Rattle.program_sources.specs.Fitting.{AreBelowAllFitting, AreLeastFitting, C
 use Rattle.program_sources.proofs.RecurrenceLaws.{response_comes_up, response_is_greatest}
 use Rattle.response_fixpoint.proofs.LeastExists.{cost_at, cost_below}
 use Rattle.settling.specs.Rising.{AreFoundAt, IsNextBound, AreNextBounds}
-use Rattle.settling.specs.Ways.{IsAfterRounds}
+use Rattle.settling.specs.Ways.{AreResponses, IsAfterRounds}
 use Rattle.settling.specs.declared.finding.Points.{Points}
 use Rattle.settling.specs.declared.finding.Points.TheVariants.{Exact}
 use Rattle.settling.specs.declared.reached.Reached.{Reached}
@@ -27,7 +27,7 @@ way_rises f (suc k) v above (before, way, are) i w here is =
     omega (arith, within, up.2)
 
 -- What was found with exact points gives the recurrence's value.
-response_of : (points : Points) (f : SourceDef) (v : List ℕ) (found : List Reached) (i : ℕ) (r : Reached) → points ≡ Exact
+pub response_of : (points : Points) (f : SourceDef) (v : List ℕ) (found : List Reached) (i : ℕ) (r : Reached) → points ≡ Exact
     → AreFoundAt points f v found → slice_get found i ≡ Some r → IsResponse f v i (response_with f v i r.ticks)
 response_of points f v found i r exact all at = record {
   blocking = r.ticks;
@@ -35,24 +35,20 @@ response_of points f v found i r exact all at = record {
   response = refl;
 }
 
--- So the next bounds are those of the next round.
-pub next_after_rounds : (points : Points) (f : SourceDef) (k : ℕ) (v next : List ℕ) (found : List Reached) → points ≡ Exact
+-- So the next bounds are the recurrence's values.
+pub next_responses : (points : Points) (f : SourceDef) (k : ℕ) (v next : List ℕ) (found : List Reached) → points ≡ Exact
     → ComesUpAbove f → IsAfterRounds f k v → AreFoundAt points f v found → length found ≡ tasks_of f
-    → AreNextBounds f v (tasks_of f) found next → IsAfterRounds f (suc k) next
-next_after_rounds points f k v next found exact above way all size are = (
-  v,
-  way,
-  record {
-    one_each = are.one_each;
-    each = λ i here.
-        let r = found_there found i (tasks_of f) size here in
-        let value : IsResponse f v i (response_with f v i r.0.ticks) = response_of points f v found i r.0 exact all r.1 in
-        let rises : slice_index v i ≤ response_with f v i r.0.ticks = way_rises f k v above way i (response_with f v i r.0.ticks) here value in
-        let own : IsNextBound f v i r.0.ticks (slice_index next i) = are.each i r.0 here r.1 in
-        let same : response_with f v i r.0.ticks ≡ slice_index next i = omega (arith, own.greater, rises) in
-        subst (λ (n : ℕ). IsResponse f v i n) same value;
-  },
-)
+    → AreNextBounds f v (tasks_of f) found next → AreResponses f v next
+next_responses points f k v next found exact above way all size are = record {
+  one_each = are.one_each;
+  each = λ i here.
+      let r = found_there found i (tasks_of f) size here in
+      let value : IsResponse f v i (response_with f v i r.0.ticks) = response_of points f v found i r.0 exact all r.1 in
+      let rises : slice_index v i ≤ response_with f v i r.0.ticks = way_rises f k v above way i (response_with f v i r.0.ticks) here value in
+      let own : IsNextBound f v i r.0.ticks (slice_index next i) = are.each i r.0 here r.1 in
+      let same : response_with f v i r.0.ticks ≡ slice_index next i = omega (arith, own.greater, rises) in
+      subst (λ (n : ℕ). IsResponse f v i n) same value;
+}
 
 -- Bounds that don't rise any more are the least that fit.
 pub fixed_are_least : (points : Points) (f : SourceDef) (v : List ℕ) (found : List Reached) → points ≡ Exact → IsInRange f.set v

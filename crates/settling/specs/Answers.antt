@@ -17,7 +17,7 @@ use Rattle.refusal_cert.specs.Refuting.{refuting}
 use Rattle.refusal_cert.specs.Answers.{Refutes}
 use Rattle.refusal_cert.specs.declared.answer.Answer.TheVariants as refutation
 use Rattle.settling.specs.Rising.{IsProvedLeast}
-use Rattle.settling.specs.Ways.{NothingFits, NeedsMoreBits}
+use Rattle.settling.specs.Ways.{NothingFits, NeedsMoreBits, NoneNeedsMore}
 use Rattle.settling.specs.declared.answer.Settled.{Settled}
 use Rattle.settling.specs.declared.answer.Settled.TheVariants as settled
 use Rattle.settling.specs.declared.answer.SettleStop.{SettleStop}
@@ -67,6 +67,11 @@ IsWideOnlySo (Ok settled) f = Unit {0}
 IsWideOnlySo (Err (stop.Wide task)) f = (NothingFits f) ⊎ NeedsMoreBits f task.0
 IsWideOnlySo (Err stop.Allowance) f = Unit {0}
 IsWideOnlySo (Err stop.Memory) f = Unit {0}
+
+-- Is a set schedulable only if no task needs more bits?
+abbrev pub HasEnough : SourceDef → Settled → Type 0
+HasEnough f (settled.Schedulable certificate) = NoneNeedsMore f
+HasEnough f (settled.Refused refusal) = Unit {0}
 
 -- Is the answer right? The bounds are the least that fit, with a valid certificate. Or the refusal holds, so that nothing fits.
 abbrev pub IsRight : Settled → SourceDef → Type 0

@@ -14,7 +14,7 @@ use Rattle.free_search.specs.Ends.{IsReadAt}
 use Rattle.free_search.specs.declared.found.Found.{Found}
 use Rattle.free_search.specs.declared.found.SearchStop.{SearchStop}
 use Rattle.free_search.specs.declared.found.SearchStop.TheVariants.{Memory, Units, Lost}
-use Rattle.settling.specs.Ways.{EndsTooGreat, IsEndDual, LosesWhole, NothingFits, NeedsMoreBits}
+use Rattle.settling.specs.Ways.{EndsTooGreat, IsEndDual, LosesWhole, NothingFits, NeedsMoreBits, NoneNeedsMore}
 use Rattle.settling.specs.declared.answer.SettleStop.{SettleStop}
 use Rattle.settling.specs.declared.answer.SettleStop.TheVariants as stop
 use Rattle.settling.specs.declared.finding.Points.{Points}
@@ -118,6 +118,11 @@ StopsLost points f v (stop.Wide task) = (task.0 < tasks_of f)
     × (points ≡ Exact → (AreLeastFitting f v) × LosesWhole (f.program task.0 v))
 StopsLost points f v stop.Allowance = Unit {0}
 StopsLost points f v stop.Memory = Unit {0}
+
+-- Does a walk that ends in a certificate show that no task needs more bits?
+abbrev pub ShowsEnough : SourceDef → Risen → Type 0
+ShowsEnough f (risen.Least certificate) = NoneNeedsMore f
+ShowsEnough f (risen.Late refusal) = Unit {0}
 
 -- Does a wide stop of a walk with exact points name a task whose program needs more bits?
 abbrev pub StopsOpen : Points → SourceDef → SettleStop → Type 0

@@ -70,6 +70,8 @@ pub(crate) fn certificate_of<P: ProgramSource>(
     requires found { AreFoundAt points (source_at (P.source protocol.now) set.now) bounds.items reached.items }
     requires fixed { AreNextBounds (source_at (P.source protocol.now) set.now) bounds.items (length set.now.tasks) reached.items bounds.items }
     ensures least { IfOk result (λ c. IsProvedLeast (source_at (P.source protocol.now) set.now) (certificate_seen c)) }
+    ensures made { IfOk result (λ c. certificate_seen c
+        ≡ record { bounds = bounds.items; duals = map dual_seen (map (λ r. r.dual) reached.items) }) }
     ensures lost { IfErr result (StopsLost points (source_at (P.source protocol.now) set.now) bounds.items) }
 {
     what_is_found_is_best();

@@ -12,6 +12,7 @@ mod refusals;
 mod rising;
 mod settling;
 mod steps;
+mod stub;
 mod values;
 
 pub use answer::{SettleStop, Settled};

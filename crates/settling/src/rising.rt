@@ -1,14 +1,14 @@
 //! The walk: bounds rise from the costs by points that are tested, until none rises or one passes its task's latest bound.
 
-ghost use Rattle.std.specs.Prelude.{◌≡◌, ℕ, ◌+◌, ◌<◌, ◌≤◌, ◌^◌, IfOk, IfErr, length};
+ghost use Rattle.std.specs.Prelude.{◌≡◌, ◌+◌, ◌<◌, ◌≤◌, ◌^◌, IfOk, IfErr, length};
 ghost use Rattle.program_sources.specs.Bounds.{IsInRange};
 ghost use Rattle.program_sources.specs.Recurrence.{source_at};
 ghost use Rattle.program_sources.specs.Fitting.{AreBelowAllFitting};
 ghost use Rattle.settling.specs.Answers.{StopsWithin};
 ghost use Rattle.settling.specs.declared.answer.SettleStop.TheVariants.{Allowance};
 ghost use Rattle.settling.specs.declared.finding.Points.TheVariants.{Exact};
-ghost use Rattle.settling.specs.Rising.{AreFoundAt, AreNextBounds, Rises, StopsOpen};
-ghost use Rattle.settling.specs.Ways.{IsAfterRounds};
+ghost use Rattle.settling.specs.Rising.{AreFoundAt, AreNextBounds, Rises, ShowsEnough, StopsOpen};
+ghost use Rattle.settling.specs.Ways.{IsOnWay};
 
 use crate::answer::SettleStop;
 use crate::certificates::certificate_of;
@@ -16,6 +16,8 @@ use crate::finding::Points;
 use crate::reached::{Reached, reach_all, units_of};
 use crate::steps::{Steps, add_steps};
 use crate::values::next_bounds;
+use crate::stub::the_end_is_read_in_one_way;
+use free_search::what_is_found_is_best;
 use least_laws::{costs_are_below_all_fitting, reached_responses_are_below_all_fitting};
 use program_form::Certificate;
 use program_sources::{ProgramSource, recurrence_is_monotone};
@@ -62,11 +64,15 @@ fn end_of_walk<P: ProgramSource>(
     requires one_each { length reached.items ≡ length set.now.tasks }
     requires found { AreFoundAt points (source_at (P.source protocol.now) set.now) bounds.items reached.items }
     requires fixed { AreNextBounds (source_at (P.source protocol.now) set.now) bounds.items (length set.now.tasks) reached.items bounds.items }
-    requires way { points ≡ Exact → (k : ℕ) × IsAfterRounds (source_at (P.source protocol.now) set.now) k bounds.items }
+    requires way { points ≡ Exact → IsOnWay (source_at (P.source protocol.now) set.now) bounds.items }
     ensures rises { IfOk result (λ risen. Rises risen (source_at (P.source protocol.now) set.now)) }
+    ensures enough { points ≡ Exact → IfOk result (ShowsEnough (source_at (P.source protocol.now) set.now)) }
     ensures wide { IfErr result (StopsOpen points (source_at (P.source protocol.now) set.now)) }
     ensures names { IfErr result (StopsWithin set.now) }
 {
+    recurrence_is_monotone::<P>();
+    what_is_found_is_best();
+    the_end_is_read_in_one_way();
     let certificate = certificate_of(alloc, set, protocol, points, bounds, reached)?;
     Ok(Risen::Least(certificate))
 }
@@ -81,12 +87,15 @@ pub(crate) fn rise<P: ProgramSource>(
 ) -> Result<Risen, SettleStop>
     requires serves { P.serves protocol.now set.now }
     ensures rises { IfOk result (λ risen. Rises risen (source_at (P.source protocol.now) set.now)) }
+    ensures enough { points ≡ Exact → IfOk result (ShowsEnough (source_at (P.source protocol.now) set.now)) }
     ensures wide { IfErr result (StopsOpen points (source_at (P.source protocol.now) set.now)) }
     ensures names { IfErr result (StopsWithin set.now) }
 {
     costs_are_below_all_fitting();
     reached_responses_are_below_all_fitting::<P>();
     recurrence_is_monotone::<P>();
+    what_is_found_is_best();
+    the_end_is_read_in_one_way();
     // a set has a task, so each round takes a unit, and the walk ends
     let _tasks = set.tasks();
     let mut bounds = costs(alloc, set)?;

@@ -5,7 +5,7 @@ ghost use Rattle.response_fixpoint.specs.Rounds.{Ending, EndsIn};
 ghost use Rattle.response_fixpoint.specs.Runs.{rounds_of};
 ghost use Rattle.settling.specs.Answers.{AnswersSo, GivesRefusal, GivesWide};
 ghost use Rattle.settling.specs.Answers.{Settles, IsRight, IsSchedulable, IsSound, Keeps, NamesTask};
-ghost use Rattle.settling.specs.Answers.{RefusesBySmallSteps, RefusesIn64Bits, IsWideOnlySo};
+ghost use Rattle.settling.specs.Answers.{RefusesBySmallSteps, RefusesIn64Bits, IsWideOnlySo, HasEnough};
 
 use crate::answer::{SettleStop, Settled};
 use crate::finding::Points;
@@ -34,6 +34,7 @@ fn settle_wide<R: Threads + Sync, P: ProgramSource + Sync>(
     requires task { task.0 < length set.now.tasks }
     ensures gives { GivesWide result (source_at (P.source protocol.now) set.now) }
     ensures wide { IsWideOnlySo result (source_at (P.source protocol.now) set.now) }
+    ensures enough { IfOk result (HasEnough (source_at (P.source protocol.now) set.now)) }
     ensures names { NamesTask set.now result }
     ensures bits { IfOk result (λ settled. RefusesIn64Bits settled) }
 {
@@ -59,6 +60,7 @@ fn refuse<R: Threads + Sync, P: ProgramSource + Sync>(
     requires none { (s : List ℕ) → AreFitting (source_at (P.source protocol.now) set.now) s → ⊥ }
     ensures gives { GivesRefusal result (source_at (P.source protocol.now) set.now) allowance }
     ensures wide { IsWideOnlySo result (source_at (P.source protocol.now) set.now) }
+    ensures enough { IfOk result (HasEnough (source_at (P.source protocol.now) set.now)) }
     ensures names { NamesTask set.now result }
     ensures bits { IfOk result (λ settled. RefusesIn64Bits settled) }
 {
@@ -87,6 +89,7 @@ fn settle<R: Threads + Sync, P: ProgramSource + Sync>(
     requires serves { P.serves protocol.now set.now }
     ensures answers { AnswersSo result (source_at (P.source protocol.now) set.now) allowance }
     ensures wide { IsWideOnlySo result (source_at (P.source protocol.now) set.now) }
+    ensures enough { IfOk result (HasEnough (source_at (P.source protocol.now) set.now)) }
     ensures names { NamesTask set.now result }
     ensures bits { IfOk result (λ settled. RefusesIn64Bits settled) }
 {
@@ -123,8 +126,10 @@ pub fn settle_by<R: Threads + Sync, P: ProgramSource + Sync>(
         ↔ ((s : List ℕ) × AreFitting (source_at (P.source protocol.now) set.now) s)) }
 
     // If some bounds fit, a wide stop names a task whose program needs more than 63 bits. At some vector of the recurrence's rounds its
-    // run's end is too great to be written. Or its dual at the least bounds, as it is written, loses the whole part of the optimum.
+    // run's end is too great to be written. Or its dual at the least bounds, as it is written, loses the whole part of the optimum. If the
+    // answer is schedulable, there is no such task.
     ensures wide { IsWideOnlySo result (source_at (P.source protocol.now) set.now) }
+    ensures enough { IfOk result (HasEnough (source_at (P.source protocol.now) set.now)) }
 
     // What is answered can be written: a wide stop names a task of the set, and the numbers of a refusal's steps are small.
     ensures names { NamesTask set.now result }
@@ -161,6 +166,7 @@ pub fn settle_with<R: Threads + Sync, P: ChargedProtocol + Sync>(
     ensures exactly { IfOk result (λ settled. IsSchedulable settled
         ↔ ((s : List ℕ) × AreFitting (source_at (P.source protocol.now) set.now) s)) }
     ensures wide { IsWideOnlySo result (source_at (P.source protocol.now) set.now) }
+    ensures enough { IfOk result (HasEnough (source_at (P.source protocol.now) set.now)) }
     ensures names { NamesTask set.now result }
     ensures small_steps { IfOk result (λ settled. RefusesBySmallSteps settled) }
 

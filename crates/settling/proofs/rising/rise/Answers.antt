@@ -4,7 +4,8 @@ use Rattle.program_sources.specs.Fitting.{AreBelowAllFitting, tasks_of}
 use Rattle.settling.specs.Rising.{AreFoundAt, AreNextBounds, PassesLatest, StopsAt}
 use Rattle.settling.proofs.AnswerLaws.{open_at}
 use Rattle.settling.proofs.RiseLaws.{RespondsBelow, none_found, small_ticks, next_in_range, next_below, late_fits_nothing}
-use Rattle.settling.proofs.WayLaws.{next_after_rounds}
+use Rattle.settling.proofs.WayLaws.{next_responses}
+use Rattle.settling.proofs.BitLaws.{all_fit_at, way_begins, way_goes_on}
 use Rattle.settling.proofs.rising.rise.Goals as goal
 
 pub loop-all-init : goal.loop-all-init
@@ -14,7 +15,7 @@ loop-all-init g c =
       range = c.in_ok-bounds.ensures.range;
       below = subst (λ (v : List ℕ). AreBelowAllFitting f v) (sym c.in_ok-bounds.ensures.first) (c.costs_are_below_all_fitting.ensures f);
       before = (c.in_ok-bounds.bounds.items, none_found c.args.points f c.in_ok-bounds.bounds.items c.new-reached.result.items (omega arith));
-      way = λ exact. (0, c.in_ok-bounds.ensures.first);
+      way = λ exact. way_begins f c.in_ok-bounds.bounds.items c.in_ok-bounds.ensures.first;
     }
 
 pub reach_all-requires-clause-before : goal.reach_all-requires-clause-before
@@ -67,9 +68,9 @@ loop-all-preserved g c =
       below = next_below c.args.points f v next found responds are size all c.loop-all.invariant.below;
       before = (v, all);
       way = λ exact. (
-          let way = c.loop-all.invariant.way exact in (
-            suc way.0,
-            next_after_rounds c.args.points f way.0 v next found exact
-                (c.recurrence_is_monotone.ensures.reached c.args.protocol.now c.args.set.now c.requires.serves) way.1 all size are,
-          ));
+          let way = c.loop-all.invariant.way exact in
+          way_goes_on f v next way
+          (all_fit_at c.args.points f v found c.the_end_is_read_in_one_way.ensures.fits c.what_is_found_is_best.ensures.greatest exact all size)
+          (next_responses c.args.points f way.rounds v next found exact
+          (c.recurrence_is_monotone.ensures.reached c.args.protocol.now c.args.set.now c.requires.serves) way.after all size are));
     }

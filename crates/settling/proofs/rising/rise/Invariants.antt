@@ -3,7 +3,7 @@ use Rattle.program_sources.specs.Bounds.{IsInRange}
 use Rattle.program_sources.specs.Recurrence.{source_at}
 use Rattle.program_sources.specs.Fitting.{AreBelowAllFitting}
 use Rattle.settling.specs.Rising.{AreFoundAt}
-use Rattle.settling.specs.Ways.{IsAfterRounds}
+use Rattle.settling.specs.Ways.{IsOnWay}
 use Rattle.settling.specs.declared.finding.Points.TheVariants.{Exact}
 use Rattle.settling.proofs.rising.rise.Given as goal
 
@@ -13,7 +13,7 @@ invariant-loop-all g l = record {
   range : IsInRange l.set l.bounds.items;
   below : AreBelowAllFitting (source_at (g.P.ProgramSource.source l.protocol) l.set) l.bounds.items;
   before : (u : List ℕ) × AreFoundAt l.points (source_at (g.P.ProgramSource.source l.protocol) l.set) u l.reached.items;
-  way : l.points ≡ Exact → (k : ℕ) × IsAfterRounds (source_at (g.P.ProgramSource.source l.protocol) l.set) k l.bounds.items;
+  way : l.points ≡ Exact → IsOnWay (source_at (g.P.ProgramSource.source l.protocol) l.set) l.bounds.items;
 }
 
 abbrev pub decreases-loop-all : goal.decreases-loop-all
