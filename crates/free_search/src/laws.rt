@@ -6,10 +6,10 @@ ghost use Rattle.fraction128.specs.Fraction.{IsFloor};
 ghost use Rattle.program_form.specs.Program.{ProgramDef};
 ghost use Rattle.program_form.specs.Certificate.{DualDef};
 ghost use Rattle.program_form.specs.Points.{IsScaledPoint, IsGreatestReached, worth};
-ghost use Rattle.program_form.specs.Duals.{IsFeasibleDual};
+ghost use Rattle.program_form.specs.Duals.{IsFeasibleDual, dual_value};
 ghost use Rattle.exchange_runs.specs.Table.{Table};
 ghost use Rattle.exchange_runs.specs.Readings.{value_of};
-ghost use Rattle.free_search.specs.Ends.{IsEndAfter, IsPointOf, IsRoundedDual};
+ghost use Rattle.free_search.specs.Ends.{IsEndAfter, IsPointOf, IsRoundedDual, IsExactDual, IsFoundDual, HasGreatDual};
 
 /// At the end of a program's run over unbounded fractions the value has a whole part, and each end has the same one. It is the greatest
 /// whole number that a point reaches. The point that is read off meets every row, and reaches it. The dual covers every column. Its
@@ -25,4 +25,16 @@ pub fn what_is_found_is_best()
         → IsScaledPoint p den (slice_index num) × (n * den ≤ worth p (slice_index num)) }
     ensures covers { (p : ProgramDef) (k : ℕ) (t : Table) (d : DualDef)
         → IsEndAfter p k t → IsRoundedDual p t d → IsFeasibleDual p d }
+{}
+
+/// A program's run ends in one way, whatever fractions stand in its tables. So one dual is written. If one is written, then no end has a
+/// multiplier above 2^63 - 1. If some exact dual has 63 bits, then the whole part of the written dual's total over its denominator is the
+/// greatest whole number that a point reaches.
+pub fn the_end_is_read_in_one_way()
+    ensures dual { (p : ProgramDef) (k j : ℕ) (t u : Table) (d e : DualDef) → IsEndAfter p k t → IsEndAfter p j u
+        → IsFoundDual p t d → IsFoundDual p u e → d ≡ e }
+    ensures fits { (p : ProgramDef) (k j : ℕ) (t u : Table) (d : DualDef) → IsEndAfter p k t → IsEndAfter p j u
+        → IsFoundDual p t d → HasGreatDual p u 1 → ⊥ }
+    ensures keeps { (p : ProgramDef) (k j : ℕ) (t u : Table) (w d : DualDef) → IsEndAfter p k t → IsEndAfter p j u
+        → IsExactDual p t w → IsFoundDual p u d → IsGreatestReached p (dual_value p d.den (λ r. slice_index d.num r)) }
 {}
