@@ -46,10 +46,15 @@ rounds_once f (suc k) v w (u, way, are) (x, other, too) =
 
 -- A vector that is its own next one stays.
 pub stays_fixed : (f : SourceDef) (k n : ℕ) (v w : List ℕ) → IsAfterRounds f k v → AreResponses f v v → IsAfterRounds f (n + k) w → w ≡ v
-stays_fixed f k zero v w way fixed later = rounds_once f k w v later way
-stays_fixed f k (suc n) v w way fixed (u, before, are) =
-    let same : u ≡ v = stays_fixed f k n v u way fixed before in
-    same_responses f v w v (subst (λ (y : List ℕ). AreResponses f y w) same are) fixed
+stays_fixed f k zero v w way fixed later =
+    let same : 0 + k ≡ k = omega arith in rounds_once f k w v (subst (λ (n : ℕ). IsAfterRounds f n w) same later) way
+stays_fixed f k (suc n) v w way fixed later =
+    let count : suc n + k ≡ suc (n + k) = omega arith in
+    let on : IsAfterRounds f (suc (n + k)) w = subst (λ (m : ℕ). IsAfterRounds f m w) count later in
+    stays_next f k n v w on.0 fixed on.2 (stays_fixed f k n v on.0 way fixed on.1)
+  where
+    stays_next : (f : SourceDef) (k n : ℕ) (v w u : List ℕ) → AreResponses f v v → AreResponses f u w → u ≡ v → w ≡ v
+    stays_next f k n v w u fixed are same = same_responses f v w v (subst (λ (y : List ℕ). AreResponses f y w) same are) fixed
 
 -- Where something was found the end fits.
 found_fits : (points : Points) (p : ProgramDef) (found : Reached) → EndsFit → EndsAtGreatest → points ≡ Exact → IsFoundOf points p found

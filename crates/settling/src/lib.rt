@@ -12,7 +12,6 @@ mod refusals;
 mod rising;
 mod settling;
 mod steps;
-mod stub;
 mod values;
 
 pub use answer::{SettleStop, Settled};

@@ -16,8 +16,8 @@ use crate::finding::Points;
 use crate::reached::{Reached, reach_all, units_of};
 use crate::steps::{Steps, add_steps};
 use crate::values::next_bounds;
-use crate::stub::the_end_is_read_in_one_way;
-use free_search::what_is_found_is_best;
+
+use free_search::{the_end_is_read_in_one_way, what_is_found_is_best};
 use least_laws::{costs_are_below_all_fitting, reached_responses_are_below_all_fitting};
 use program_form::Certificate;
 use program_sources::{ProgramSource, recurrence_is_monotone};
