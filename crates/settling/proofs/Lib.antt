@@ -4,3 +4,4 @@ pub mod CertificateLaws
 pub mod FindingLaws
 pub mod AnswerLaws
 pub mod SmallSteps
+pub mod EnoughBits
