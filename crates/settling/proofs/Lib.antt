@@ -5,3 +5,4 @@ pub mod CertificateLaws
 pub mod BitLaws
 pub mod AnswerLaws
 pub mod SmallSteps
+pub mod EnoughBits
