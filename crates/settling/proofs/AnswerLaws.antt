@@ -25,11 +25,13 @@ use Rattle.schedule_model.specs.declared.rule.Rule.{Rule}
 use Rattle.soundness_laws.specs.Sound.{Sound}
 use Rattle.soundness_laws.specs.Analyses.{AreValues}
 use Rattle.settling.specs.Answers.{Settles, IsRight, IsSchedulable, Keeps, AnswersSo, GivesWide, GivesRefusal, IsNotShown, IsLeftOpen}
-use Rattle.settling.specs.Answers.{RefusesSo, IsSound, IsWideOnlySo, StopsWithin}
-use Rattle.settling.specs.Rising.{StopsAt, StopsLost, StopsOpen}
-use Rattle.settling.specs.Ways.{IsOnWay, NothingFits}
+use Rattle.settling.specs.Answers.{RefusesSo, IsSound, IsWideOnlySo, HasEnough, StopsWithin}
+use Rattle.settling.specs.Rising.{StopsAt, StopsLost, StopsOpen, ShowsEnough}
+use Rattle.settling.specs.Ways.{IsOnWay, NothingFits, NoneNeedsMore}
 use Rattle.settling.specs.declared.finding.Points.{Points}
 use Rattle.settling.specs.declared.finding.Points.TheVariants.{Exact}
+use Rattle.settling.specs.declared.rising.Risen.{Risen}
+use Rattle.settling.specs.declared.rising.Risen.TheVariants as risen
 use Rattle.settling.specs.declared.answer.Settled.{Settled}
 use Rattle.settling.specs.declared.answer.Settled.TheVariants as settled
 use Rattle.settling.specs.declared.answer.SettleStop.{SettleStop}
@@ -114,6 +116,12 @@ not_shown_of f allowance r v task bound answers is same =
     subst (λ (x : Verdict). Answers (Ok x) f allowance) same (subst (λ (x : Result Verdict Stop). Answers x f allowance) is answers) in
     (task.0, bound, ends)
 
+pub shown_of : (f : SourceDef) (allowance : ℕ) (r : Result Verdict Stop) (v : Verdict) (c : Certificate)
+    → Answers r f allowance → r ≡ Ok v → v ≡ verdict.Schedulable c
+    → EndsIn (rounds_of f) allowance (Schedulable c.bounds.items (map dual_seen c.duals.items))
+shown_of f allowance r v c answers is same =
+    subst (λ (x : Verdict). Answers (Ok x) f allowance) same (subst (λ (x : Result Verdict Stop). Answers x f allowance) is answers)
+
 pub wide_analysis_of : (f : SourceDef) (allowance : ℕ) (r : Result Verdict Stop) (e : Stop) (task : TaskId)
     → Answers r f allowance → r ≡ Err e → e ≡ analysis_stop.Wide task → EndsIn (rounds_of f) allowance (Wide task.0)
 wide_analysis_of f allowance r e task answers is same =
@@ -188,3 +196,12 @@ pub names_lost : (points : Points) (f : SourceDef) (v : List ℕ) (e : SettleSto
 names_lost points f v (stop.Wide task) stops = stops.0
 names_lost points f v stop.Allowance stops = tt
 names_lost points f v stop.Memory stops = tt
+
+-- What steps of a search give is no certificate. A walk with exact points that ends in one shows that no task needs more.
+pub refused_enough : (f : SourceDef) (r : Result Settled SettleStop) → RefusesSo r f → IfOk r (λ s. HasEnough f s)
+refused_enough f (Ok (settled.Schedulable certificate)) gives = absurd gives
+refused_enough f (Ok (settled.Refused refusal)) gives = tt
+refused_enough f (Err e) gives = tt
+
+pub shows_enough : (f : SourceDef) (end : Risen) (c : Certificate) → ShowsEnough f end → end ≡ risen.Least c → NoneNeedsMore f
+shows_enough f end c shows is = subst (λ (x : Risen). ShowsEnough f x) is shows

@@ -11,6 +11,7 @@ use crate::answer::{SettleStop, Settled};
 use crate::finding::Points;
 use crate::refusals::{answer_confirmed, keeps_64_bits, refuse_by_rounded_points};
 use crate::rising::{Risen, rise};
+use free_search::{the_end_is_read_in_one_way, what_is_found_is_best};
 use charged_protocols::{ChargedProtocol, charged_protocols_are_analysed};
 use program_sources::ProgramSource;
 use refusal_cert::{Answer, RefuteStop, refute};
@@ -21,7 +22,7 @@ use std::alloc::Global;
 use std::thread::Threads;
 
 /// Settles a set whose analysis is wide at this task.
-#[tactic(auto, using(crate::proofs::AnswerLaws::wide_of, crate::proofs::AnswerLaws::only_if_nothing, crate::proofs::AnswerLaws::only_if_open))]
+#[tactic(auto, using(crate::proofs::AnswerLaws::wide_of, crate::proofs::AnswerLaws::only_if_nothing, crate::proofs::AnswerLaws::only_if_open, crate::proofs::AnswerLaws::refused_enough))]
 fn settle_wide<R: Threads + Sync, P: ProgramSource + Sync>(
     rt: &R,
     alloc: Global,
@@ -49,6 +50,7 @@ fn settle_wide<R: Threads + Sync, P: ProgramSource + Sync>(
 }
 
 /// Refuses a set that the analysis doesn't show.
+#[tactic(auto, using(crate::proofs::AnswerLaws::refused_enough))]
 fn refuse<R: Threads + Sync, P: ProgramSource + Sync>(
     rt: &R,
     alloc: Global,
@@ -93,6 +95,8 @@ fn settle<R: Threads + Sync, P: ProgramSource + Sync>(
     ensures names { NamesTask set.now result }
     ensures bits { IfOk result (λ settled. RefusesIn64Bits settled) }
 {
+    what_is_found_is_best();
+    the_end_is_read_in_one_way();
     match analyse_with(rt, alloc, set, protocol, allowance) {
         Ok(Verdict::Schedulable(certificate)) => Ok(Settled::Schedulable(certificate)),
         Ok(Verdict::NotShown { .. }) => refuse(rt, alloc, set, protocol, allowance),
