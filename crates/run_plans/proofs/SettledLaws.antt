@@ -16,7 +16,7 @@ use Rattle.named_laws.proofs.EachName.{named_sound}
 use Rattle.named_laws.proofs.Refusals.{named_none_fits}
 use Rattle.reply_texts.specs.Texts.{wide_text}
 use Rattle.settling.specs.Rising.{IsProvedLeast}
-use Rattle.settling.specs.Ways.{NothingFits, NeedsMoreBits}
+use Rattle.settling.specs.Ways.{NothingFits, NeedsMoreBits, NoneNeedsMore}
 use Rattle.command_words.specs.Words.{Settle}
 use Rattle.command_words.proofs.SpelledLaws.{settle_is_form}
 use Rattle.command_inputs.specs.Known.{Answer, Known, shown_by}
@@ -42,12 +42,13 @@ use Rattle.run_plans.proofs.BoundLaws.{bounds_written}
 pub record SettledSo (p : ProtocolName) (digest : List ℕ) (set : SetDef) (a : Answer) : Type 0 where
   pub certificate : CertificateDef
   pub proved : IsProvedLeast (source_of p set) certificate
+  pub enough : NoneNeedsMore (source_of p set)
   pub text : a.text ≡ certificate_text (word_of p) digest certificate
 
 settled_at_zero : (p : ProtocolName) (digest : List ℕ) (set : SetDef) (n : ℕ) (a : Answer) → IsSettlement p digest set n a → a.status ≡ 0
     → SettledSo p digest set a
 settled_at_zero p digest set n a (inl (c, settled, is)) zero =
-    record { certificate = c; proved = settled.proved; text = ap (λ x. x.text) is }
+    record { certificate = c; proved = settled.proved; enough = settled.enough; text = ap (λ x. x.text) is }
 settled_at_zero p digest set n a (inr (inl (steps, refused, is))) zero =
     (let s : a.status ≡ 1 = ap (λ x. x.status) is in absurd (omega (arith, s, zero)))
 settled_at_zero p digest set n a (inr (inr (inl (i, here, left, is)))) zero =
@@ -155,6 +156,7 @@ proved_settlement call p name n a out gives zero =
       read = some_read call p name w.bytes w.set w.read;
       asked = w.asked;
       given = w.last;
+      enough = w.so.enough;
       writes = least_written call p (sha256 w.bytes) w.set a (accepted_of p w.bytes w.set w.read.1) w.so gives zero;
     }
 
@@ -200,7 +202,7 @@ settled_exactly : (call : Call) (p : ProtocolName) (digest : List ℕ) (set : Se
 settled_exactly call p digest set n a accepted (inl (c, settled, is)) gives no_wide no_allowance = (
   λ w. (w.certificate.bounds, w.least.fitting),
   λ fits. least_written call p digest set a accepted
-      (record { certificate = c; proved = settled.proved; text = ap (λ x. x.text) is }) gives (gives.0 ∙ ap (λ x. x.status) is),
+      (record { certificate = c; proved = settled.proved; enough = settled.enough; text = ap (λ x. x.text) is }) gives (gives.0 ∙ ap (λ x. x.status) is),
 )
 settled_exactly call p digest set n a accepted (inr (inl (steps, refused, is))) gives no_wide no_allowance = (
   λ w. (w.certificate.bounds, w.least.fitting),

@@ -12,7 +12,7 @@ use Rattle.refusal_cert.specs.declared.answer.Answer.TheVariants as refutation
 use Rattle.refusal_json.specs.Ranges.{IsWritableStep, IsWritable}
 use Rattle.named_laws.specs.Named.{source_of}
 use Rattle.settling.specs.Answers.{Settles, IsRight, IsNotShown, IsLeftOpen, HasSmallPoints, IsSmallStep, HasSmallSteps}
-use Rattle.settling.specs.Answers.{IsWideOnlySo, NamesTask, RefusesBySmallSteps}
+use Rattle.settling.specs.Answers.{IsWideOnlySo, HasEnough, NamesTask, RefusesBySmallSteps}
 use Rattle.settling.specs.declared.answer.Settled.{Settled}
 use Rattle.settling.specs.declared.answer.Settled.TheVariants as settled
 use Rattle.settling.specs.declared.answer.SettleStop.{SettleStop}
@@ -46,21 +46,23 @@ refused_from p set n refusal (inl (late, rounds)) = inl (late, rounds)
 refused_from p set n refusal (inr (left, small)) = inr left
 
 settlement_of_answer : (p : ProtocolName) (digest : List ℕ) (set : SetDef) (n : ℕ) (r : Result Settled SettleStop) (a : Answer)
-    → Settles r (source_of p set) n → IfOk r (λ s. IsRight s (source_of p set)) → IsWideOnlySo r (source_of p set) → NamesTask set r
+    → Settles r (source_of p set) n → IfOk r (λ s. IsRight s (source_of p set)) → IsWideOnlySo r (source_of p set)
+    → IfOk r (λ s. HasEnough (source_of p set) s) → NamesTask set r
     → IfOk r (λ s. RefusesBySmallSteps s) → RepliesToSettling p digest set r a → IsSettlement p digest set n a
-settlement_of_answer p digest set n (Ok (settled.Schedulable c)) a from right wide names small is =
-    inl (certificate_seen c, record { proved = right; from = from }, is)
-settlement_of_answer p digest set n (Ok (settled.Refused refusal)) a from right wide names small is = inr (inl (
+settlement_of_answer p digest set n (Ok (settled.Schedulable c)) a from right wide enough names small is =
+    inl (certificate_seen c, record { proved = right; enough = enough; from = from }, is)
+settlement_of_answer p digest set n (Ok (settled.Refused refusal)) a from right wide enough names small is = inr (inl (
   steps_seen refusal,
   record { holds = right.0; writable = steps_writable (steps_seen refusal) small; from = refused_from p set n refusal from },
   is,
 ))
-settlement_of_answer p digest set n (Err (stop.Wide task)) a from right wide names small is = inr (inr (inl (task.0, names, record { left = from; cause = wide }, is)))
-settlement_of_answer p digest set n (Err stop.Allowance) a from right wide names small is = inr (inr (inr (from, is)))
-settlement_of_answer p digest set n (Err stop.Memory) a from right wide names small is = absurd is
+settlement_of_answer p digest set n (Err (stop.Wide task)) a from right wide enough names small is = inr (inr (inl (task.0, names, record { left = from; cause = wide }, is)))
+settlement_of_answer p digest set n (Err stop.Allowance) a from right wide enough names small is = inr (inr (inr (from, is)))
+settlement_of_answer p digest set n (Err stop.Memory) a from right wide enough names small is = absurd is
 
 pub settlement_replied : (p : ProtocolName) (digest : List ℕ) (set : SetDef) (n : ℕ) (r : Result Settled SettleStop) (reply : Reply)
-    → Settles r (source_of p set) n → IfOk r (λ s. IsRight s (source_of p set)) → IsWideOnlySo r (source_of p set) → NamesTask set r
+    → Settles r (source_of p set) n → IfOk r (λ s. IsRight s (source_of p set)) → IsWideOnlySo r (source_of p set)
+    → IfOk r (λ s. HasEnough (source_of p set) s) → NamesTask set r
     → IfOk r (λ s. RefusesBySmallSteps s) → RepliesToSettling p digest set r (reply_seen reply) → IsSettlement p digest set n (reply_seen reply)
-settlement_replied p digest set n r reply from right wide names small is =
-    settlement_of_answer p digest set n r (reply_seen reply) from right wide names small is
+settlement_replied p digest set n r reply from right wide enough names small is =
+    settlement_of_answer p digest set n r (reply_seen reply) from right wide enough names small is

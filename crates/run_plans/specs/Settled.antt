@@ -9,7 +9,7 @@ use Rattle.program_form.specs.Certificate.{CertificateDef}
 use Rattle.program_sources.specs.Fitting.{AreFitting, AreLeastFitting}
 use Rattle.program_sources.specs.Valid.{IsValid}
 use Rattle.soundness_laws.specs.Analyses.{AreValues}
-use Rattle.settling.specs.Ways.{NothingFits, NeedsMoreBits}
+use Rattle.settling.specs.Ways.{NothingFits, NeedsMoreBits, NoneNeedsMore}
 use Rattle.sporadic_model.specs.SetDef.{SetDef, task_at}
 use Rattle.protocol_names.specs.Names.{word_of}
 use Rattle.protocol_names.specs.declared.ProtocolName.{ProtocolName}
@@ -37,6 +37,8 @@ pub record IsProvedSettlement (call : Call) (protocol : ProtocolName) (name : Li
   pub read : ReadsSome call protocol name set
   pub asked : Asks call (wholly name read.bytes ∷ [])
   pub given : length read.bytes ≡ call.shelf_now.given
+  -- No task of the set has a program that needs more than 63 bits.
+  pub enough : NoneNeedsMore (source_of protocol set)
   pub writes : WritesLeast call protocol (sha256 read.bytes) set
 
 -- The call settles the set. Its words are those of `settle`, with an allowance or none. Among the call's inputs, the bytes of the name are

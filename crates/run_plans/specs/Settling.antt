@@ -12,7 +12,7 @@ use Rattle.refusal_cert.specs.Refuting.{refuting}
 use Rattle.refusal_cert.specs.Steps.{refusal_of}
 use Rattle.settling.specs.Rising.{IsProvedLeast}
 use Rattle.settling.specs.Answers.{IsNotShown, IsLeftOpen}
-use Rattle.settling.specs.Ways.{NothingFits, NeedsMoreBits}
+use Rattle.settling.specs.Ways.{NothingFits, NeedsMoreBits, NoneNeedsMore}
 use Rattle.cert_json.specs.Text.{certificate_text}
 use Rattle.refusal_json.specs.Ranges.{IsWritable}
 use Rattle.refusal_json.specs.Text.{refusal_text}
@@ -21,10 +21,11 @@ use Rattle.reply_texts.specs.Texts.{wide_text, allowance_text}
 use Rattle.command_inputs.specs.Known.{Answer}
 use Rattle.run_plans.specs.Plans.{Work}
 
--- Does the certificate settle the set? Its bounds are the least that fit, and it is valid. It is that of the analysis, unless the
--- analysis is wide.
+-- Does the certificate settle the set? Its bounds are the least that fit, and it is valid. No task needs more than 63 bits. It is that of
+-- the analysis, unless the analysis is wide.
 pub record IsSettledBy (f : SourceDef) (allowance : ℕ) (c : CertificateDef) : Type 0 where
   pub proved : IsProvedLeast f c
+  pub enough : NoneNeedsMore f
   pub from : EndsIn (rounds_of f) allowance (Schedulable c.bounds c.duals) ⊎ ((i : ℕ) × EndsIn (rounds_of f) allowance (Wide i))
 
 -- Are these the steps of the rounds of refusals?
