@@ -1,17 +1,17 @@
 //! The work on a certificate and a schedule.
 
-ghost use Rattle.std.specs.Prelude.{◌≡◌, true, length, IfOk, slice_index_or};
+ghost use Rattle.std.specs.Prelude.{◌≡◌, true, length, slice_index_or};
 ghost use Rattle.program_form.specs.Certificate.{certificate_seen};
-ghost use Rattle.named_laws.specs.Named.{HasHomes, rules_of, interference_of, charges_of, source_of};
 ghost use Rattle.schedule_model.specs.RowDef.{trace_in, ticks_of};
 ghost use Rattle.schedule_model.specs.Fitting.{is_fitting, IsMadeFor};
-ghost use Rattle.figure_laws.specs.Audited.{Audits};
-ghost use Rattle.dual_check.specs.Answers.{HasDenominators};
 ghost use Rattle.schedule_answers.specs.TaskAnswers.{no_figures};
+ghost use Rattle.figure_laws.specs.Audited.{Audits};
+ghost use Rattle.named_laws.specs.Named.{rules_of, interference_of, charges_of, source_of};
 ghost use Rattle.reply_texts.specs.Texts.{kept_text};
-ghost use Rattle.run_plans.specs.Commands.{IfTied, IsAuditOf};
 ghost use Rattle.cert_json.specs.File.{file_seen};
-ghost use Rattle.command_inputs.specs.Halts.{reply_seen, Answered};
+ghost use Rattle.command_inputs.specs.Halts.{Answered};
+ghost use Rattle.run_plans.specs.Commands.{IfTied, IsAuditOf};
+ghost use Rattle.block_top.specs.Replying.{CanJudge, Says};
 
 use crate::judging::invalid_reply;
 use crate::tying::untied_reply;
@@ -36,10 +36,7 @@ fn kept_reply(
     figures: &[TaskFigures],
 ) -> Result<Reply, AllocError>
     requires { length figures.now ≡ length set.now.tasks }
-    ensures { IfOk result (λ r. reply_seen r ≡ record {
-      status = 0;
-      text = kept_text set.now ticks (λ x. slice_index_or figures.now x no_figures);
-    }) }
+    ensures { Says result 0 (kept_text set.now ticks (λ x. slice_index_or figures.now x no_figures)) }
 {
     Ok(Reply {
         status: Status::Done,
@@ -55,8 +52,7 @@ fn figures_of_text(
     jobs: &JobList<'_>,
     rows: &RowText<'_>,
 ) -> Result<Vec<TaskFigures>, AuditStop>
-    requires suits { HasHomes protocol jobs.now.set }
-    requires denominators { HasDenominators (certificate_seen certificate.now) }
+    requires judges { CanJudge protocol jobs.now.set (certificate_seen certificate.now) }
     requires fits { is_fitting rows.now jobs.now ≡ true }
     ensures { Audits (rules_of protocol) (interference_of protocol) (charges_of protocol) (source_of protocol jobs.now.set)
         (certificate_seen certificate.now) (trace_in jobs.now rows.now.runs) (ticks_of rows.now.runs) result }
@@ -73,8 +69,7 @@ fn audit_reply(
     jobs: &JobList<'_>,
     rows: &RowText<'_>,
 ) -> Result<Reply, Halt>
-    requires suits { HasHomes protocol jobs.now.set }
-    requires denominators { HasDenominators (certificate_seen certificate.now) }
+    requires judges { CanJudge protocol jobs.now.set (certificate_seen certificate.now) }
     requires made { IsMadeFor rows.now jobs.now }
     ensures { Answered result (IsAuditOf protocol jobs.now rows.now (certificate_seen certificate.now)) }
 {
@@ -96,8 +91,7 @@ pub fn audit(
     jobs: &JobList<'_>,
     rows: &RowText<'_>,
 ) -> Result<Reply, Halt>
-    requires suits { HasHomes protocol jobs.now.set }
-    requires denominators { HasDenominators (certificate_seen file.now.certificate) }
+    requires judges { CanJudge protocol jobs.now.set (certificate_seen file.now.certificate) }
     requires made { IsMadeFor rows.now jobs.now }
     ensures { Answered result (IfTied digest.now (file_seen file.now) (IsAuditOf protocol jobs.now rows.now)) }
 {

@@ -7,12 +7,12 @@ ghost use Rattle.run_plans.specs.Commands.{check_of, full_table_of, upgrading, w
 ghost use Rattle.run_plans.specs.Commands.{simulating_jobs, plan_of, auditing_rows, auditing_jobs, auditing, confirming};
 ghost use Rattle.program_form.specs.Certificate.{certificate_seen};
 ghost use Rattle.cert_json.specs.File.{file_seen};
-ghost use Rattle.dual_check.specs.Answers.{HasDenominators};
 ghost use Rattle.command_inputs.specs.Known.{shown};
 ghost use Rattle.run_plans.specs.Outcome.{IsReply};
 ghost use Rattle.command_inputs.specs.Got.{Keeps};
 ghost use Rattle.command_inputs.specs.Halts.{reply_seen};
 ghost use Rattle.run_plans.specs.Replies.{AnswersPlan};
+ghost use Rattle.block_top.specs.Replying.{CanJudge};
 
 use crate::auditing::audit;
 use crate::deciding::settlement;
@@ -20,7 +20,7 @@ use crate::judging::{judgement, proved_table};
 use crate::refusing::{confirmation, refutation};
 use crate::study::study_counts;
 use crate::upgrading::upgrade;
-use crate::work::{analysis, conformance, no_form, simulation, table};
+use crate::work::{analysis, conformance, no_form_reply, simulation, table};
 use cert_json::CertFile;
 use command_inputs::{
     CertFor, Halt, JobsOf, OldCertFor, RefusalFor, Reply, SetFor, get, get_rows, get_tied_set,
@@ -167,8 +167,7 @@ fn audited_rows_reply<S: Shelf>(
     jobs: &JobList<'_>,
     rows: &str,
 ) -> Result<Reply, Halt>
-    requires suits { HasHomes protocol jobs.now.set }
-    requires denominators { HasDenominators (certificate_seen file.now.certificate) }
+    requires { CanJudge protocol jobs.now.set (certificate_seen file.now.certificate) }
     ensures reply { AnswersPlan result (S.seen shelf.old) (S.seen shelf.new)
         (auditing_rows protocol digest.now (file_seen file.now) rows.now jobs.now) }
     ensures keeps { Keeps (S.seen shelf.old) (S.seen shelf.new) }
@@ -188,8 +187,7 @@ fn audited_jobs_reply<S: Shelf>(
     jobs: &str,
     rows: &str,
 ) -> Result<Reply, Halt>
-    requires suits { HasHomes protocol set.now }
-    requires denominators { HasDenominators (certificate_seen file.now.certificate) }
+    requires { CanJudge protocol set.now (certificate_seen file.now.certificate) }
     ensures reply { AnswersPlan result (S.seen shelf.old) (S.seen shelf.new)
         (auditing_jobs protocol digest.now (file_seen file.now) jobs.now rows.now set.now) }
     ensures keeps { Keeps (S.seen shelf.old) (S.seen shelf.new) }
@@ -319,6 +317,6 @@ pub fn reply_to<R: Threads + Sync, S: Shelf>(
 {
     match command_of(words) {
         Some(command) => reply_of(command_reply(rt, alloc, shelf, command)),
-        None => reply_of(no_form(alloc)),
+        None => reply_of(no_form_reply(alloc)),
     }
 }

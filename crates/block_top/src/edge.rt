@@ -46,7 +46,7 @@ impl<'a, R: Runtime + AllocGlobal> Words for ProcessWords<'a, R> {
     }
 }
 
-/// How the process ends: with the status of one call of [`answered`]. Only that call makes such a value.
+/// How the process ends: with the status of one call of [`answer_words`]. Only that call makes such a value.
 ///
 /// It isn't `Drop`, so nobody can let it go. A `main` that returns it ends with what that call answered.
 pub struct Ended {
@@ -66,7 +66,7 @@ impl Termination for Ended {
 ///
 /// The status is that of one `run` with the words after the program's name. It is 7 if memory ran out before that, and then nothing was
 /// read or written.
-pub fn answered<R: Runtime + AllocGlobal + Threads + Sync, W: Words, S: Shelf, K: Sink>(
+pub fn answer_words<R: Runtime + AllocGlobal + Threads + Sync, W: Words, S: Shelf, K: Sink>(
     rt: &R,
     words: &W,
     shelf: &mut S,

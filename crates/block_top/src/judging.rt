@@ -1,15 +1,15 @@
 //! The works on a certificate.
 
-ghost use Rattle.std.specs.Prelude.{◌≡◌, Ok, IfOk, IfErr};
+ghost use Rattle.std.specs.Prelude.{Ok, IfOk, IfErr};
 ghost use Rattle.program_form.specs.Certificate.{certificate_seen};
-ghost use Rattle.named_laws.specs.Named.{HasHomes, source_of};
-ghost use Rattle.dual_check.specs.Answers.{HasDenominators, Judges};
-ghost use Rattle.reply_texts.specs.Texts.{invalid_text};
-ghost use Rattle.run_plans.specs.Commands.{IfTied, IsJudgement, IsCheck, IsFullTable, checked_answer};
+ghost use Rattle.named_laws.specs.Named.{source_of};
+ghost use Rattle.dual_check.specs.Answers.{Judges};
 ghost use Rattle.cert_json.specs.File.{file_seen};
-ghost use Rattle.command_inputs.specs.Known.{Answer};
-ghost use Rattle.command_inputs.specs.Halts.{reply_seen, HaltsWith, Answered};
 ghost use Rattle.reply_texts.specs.Failing.{FailsTask};
+ghost use Rattle.command_inputs.specs.Known.{Answer};
+ghost use Rattle.command_inputs.specs.Halts.{HaltsWith, Answered};
+ghost use Rattle.run_plans.specs.Commands.{IfTied, IsJudgement, IsCheck, IsFullTable, checked_answer, invalid_answer};
+ghost use Rattle.block_top.specs.Replying.{CanJudge, RepliesWith};
 
 use crate::tying::untied_reply;
 use cert_json::CertFile;
@@ -30,7 +30,7 @@ pub(crate) fn invalid_reply(
     failure: Invalid,
 ) -> Result<Reply, AllocError>
     requires { FailsTask set.now failure }
-    ensures { IfOk result (λ r. reply_seen r ≡ record { status = 1; text = invalid_text set.now failure }) }
+    ensures { RepliesWith result (invalid_answer set.now failure) }
 {
     Ok(Reply {
         status: Status::No,
@@ -40,7 +40,7 @@ pub(crate) fn invalid_reply(
 
 /// The reply if a certificate is valid.
 fn valid_reply(alloc: Global) -> Result<Reply, AllocError>
-    ensures { IfOk result (λ r. reply_seen r ≡ checked_answer) }
+    ensures { RepliesWith result checked_answer }
 {
     Ok(Reply {
         status: Status::Done,
@@ -56,8 +56,7 @@ pub(crate) fn validity(
     set: &TaskSet,
     certificate: &Certificate,
 ) -> Result<Valid, Halt>
-    requires suits { HasHomes protocol set.now }
-    requires denominators { HasDenominators (certificate_seen certificate.now) }
+    requires { CanJudge protocol set.now (certificate_seen certificate.now) }
     ensures valid { IfOk result (λ v. Judges (Ok v) (source_of protocol set.now) (certificate_seen certificate.now)) }
     ensures invalid { (told : Answer) → IfErr result (λ h. HaltsWith h (IsJudgement protocol set.now (certificate_seen certificate.now) told)) }
 {
@@ -75,8 +74,7 @@ fn certificate_judgement(
     set: &TaskSet,
     certificate: &Certificate,
 ) -> Result<Reply, Halt>
-    requires suits { HasHomes protocol set.now }
-    requires denominators { HasDenominators (certificate_seen certificate.now) }
+    requires { CanJudge protocol set.now (certificate_seen certificate.now) }
     ensures { Answered result (IsCheck protocol set.now (certificate_seen certificate.now)) }
 {
     validity(alloc, protocol, set, certificate)?;
@@ -91,8 +89,7 @@ pub fn judgement(
     set: &TaskSet,
     file: &CertFile,
 ) -> Result<Reply, Halt>
-    requires suits { HasHomes protocol set.now }
-    requires denominators { HasDenominators (certificate_seen file.now.certificate) }
+    requires { CanJudge protocol set.now (certificate_seen file.now.certificate) }
     ensures { Answered result (IfTied digest.now (file_seen file.now) (IsCheck protocol set.now)) }
 {
     match untied_reply(alloc, file, digest)? {
@@ -108,8 +105,7 @@ fn full_table_reply(
     set: &TaskSet,
     certificate: &Certificate,
 ) -> Result<Reply, Halt>
-    requires suits { HasHomes protocol set.now }
-    requires denominators { HasDenominators (certificate_seen certificate.now) }
+    requires { CanJudge protocol set.now (certificate_seen certificate.now) }
     ensures { Answered result (IsFullTable protocol set.now (certificate_seen certificate.now)) }
 {
     let valid = validity(alloc, protocol, set, certificate)?;
@@ -127,8 +123,7 @@ pub fn proved_table(
     set: &TaskSet,
     file: &CertFile,
 ) -> Result<Reply, Halt>
-    requires suits { HasHomes protocol set.now }
-    requires denominators { HasDenominators (certificate_seen file.now.certificate) }
+    requires { CanJudge protocol set.now (certificate_seen file.now.certificate) }
     ensures { Answered result (IfTied digest.now (file_seen file.now) (IsFullTable protocol set.now)) }
 {
     match untied_reply(alloc, file, digest)? {

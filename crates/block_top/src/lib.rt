@@ -15,5 +15,5 @@ mod work;
 
 pub use command_inputs::Status;
 pub use command_words::DEFAULT_ALLOWANCE;
-pub use edge::{Ended, ProcessWords, Words, answered};
+pub use edge::{Ended, ProcessWords, Words, answer_words};
 pub use top::run;

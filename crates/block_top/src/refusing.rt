@@ -1,6 +1,6 @@
 //! The works on refusals.
 
-ghost use Rattle.std.specs.Prelude.{◌≡◌, ◌<◌, IfOk};
+ghost use Rattle.std.specs.Prelude.{IfOk};
 ghost use Rattle.protocol_names.specs.Names.{word_of};
 ghost use Rattle.refusal_laws.specs.Steps.{HasDenominators};
 ghost use Rattle.refusal_laws.specs.Seen.{steps_seen};
@@ -12,6 +12,7 @@ ghost use Rattle.run_plans.specs.Commands.{IsTiedConfirmation};
 ghost use Rattle.command_inputs.specs.Halts.{reply_seen, Answered};
 ghost use Rattle.command_inputs.specs.RefusalSeen.{refusal_seen};
 ghost use Rattle.run_plans.specs.RefusalReplies.{NamesWide, RepliesToRefutation};
+ghost use Rattle.block_top.specs.Replying.{RepliesWith, Says};
 
 use crate::tying::{are_same, other_set_reply};
 use crate::work::{allowance_reply, wide_reply};
@@ -34,10 +35,7 @@ fn refused_reply(
     digest: &[u8; 32],
     refusal: &Refusal,
 ) -> Result<Reply, AllocError>
-    ensures { IfOk result (λ r. reply_seen r ≡ record {
-      status = 0;
-      text = refusal_text (word_of protocol) digest.now (steps_seen refusal.now);
-    }) }
+    ensures { Says result 0 (refusal_text (word_of protocol) digest.now (steps_seen refusal.now)) }
 {
     Ok(Reply {
         status: Status::Done,
@@ -47,7 +45,7 @@ fn refused_reply(
 
 /// The reply if a set is schedulable, so that there is no refusal.
 fn schedulable_reply(alloc: Global) -> Result<Reply, AllocError>
-    ensures { IfOk result (λ r. reply_seen r ≡ record { status = 1; text = schedulable_text }) }
+    ensures { Says result 1 schedulable_text }
 {
     Ok(Reply {
         status: Status::No,
@@ -92,7 +90,7 @@ pub fn refutation(
 
 /// The reply if a refusal holds.
 fn confirmed_reply(alloc: Global) -> Result<Reply, AllocError>
-    ensures { IfOk result (λ r. reply_seen r ≡ confirmed_answer) }
+    ensures { RepliesWith result confirmed_answer }
 {
     Ok(Reply {
         status: Status::Done,
@@ -102,7 +100,7 @@ fn confirmed_reply(alloc: Global) -> Result<Reply, AllocError>
 
 /// The reply if a refusal doesn't hold.
 fn unconfirmed_reply(alloc: Global, fault: Fault) -> Result<Reply, AllocError>
-    ensures { IfOk result (λ r. reply_seen r ≡ unconfirmed_answer fault) }
+    ensures { RepliesWith result (unconfirmed_answer fault) }
 {
     Ok(Reply {
         status: Status::No,

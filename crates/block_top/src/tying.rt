@@ -3,6 +3,7 @@
 ghost use Rattle.std.specs.Prelude.{◌≡◌, ◌≢◌, ◌↔◌, IfOk, IsTrue, MatchOption};
 ghost use Rattle.run_plans.specs.Commands.{other_set_answer};
 ghost use Rattle.command_inputs.specs.Halts.{reply_seen};
+ghost use Rattle.block_top.specs.Replying.{RepliesWith};
 
 use cert_json::CertFile;
 use command_inputs::{Reply, Status};
@@ -11,7 +12,7 @@ use std::alloc::{AllocError, Global};
 
 /// The reply if a certificate is of another set.
 pub(crate) fn other_set_reply(alloc: Global) -> Result<Reply, AllocError>
-    ensures { IfOk result (λ r. reply_seen r ≡ other_set_answer) }
+    ensures { RepliesWith result other_set_answer }
 {
     Ok(Reply {
         status: Status::No,

@@ -1,10 +1,9 @@
 //! The work on a certificate of the version before.
 
 ghost use Rattle.program_form.specs.Certificate.{certificate_seen};
-ghost use Rattle.named_laws.specs.Named.{HasHomes};
-ghost use Rattle.dual_check.specs.Answers.{HasDenominators};
-ghost use Rattle.run_plans.specs.Commands.{IsJudgement, upgraded_answer};
 ghost use Rattle.command_inputs.specs.Halts.{Answered};
+ghost use Rattle.run_plans.specs.Commands.{IsJudgement, upgraded_answer};
+ghost use Rattle.block_top.specs.Replying.{CanJudge};
 
 use crate::judging::validity;
 use crate::work::certificate_reply;
@@ -22,8 +21,7 @@ pub fn upgrade(
     set: &TaskSet,
     certificate: &Certificate,
 ) -> Result<Reply, Halt>
-    requires suits { HasHomes protocol set.now }
-    requires denominators { HasDenominators (certificate_seen certificate.now) }
+    requires { CanJudge protocol set.now (certificate_seen certificate.now) }
     ensures { Answered result (IsJudgement protocol set.now (certificate_seen certificate.now)
         (upgraded_answer protocol digest.now (certificate_seen certificate.now))) }
 {

@@ -1,15 +1,14 @@
 ghost use Rattle.std.specs.Prelude.{◌≡◌, ◌<◌, ◌≤◌, true, length, IfOk, slice_index_or};
 ghost use Rattle.program_form.specs.Certificate.{certificate_seen};
 ghost use Rattle.sporadic_model.specs.declared.limits.TheConstants.{MOST_TICKS};
-ghost use Rattle.named_laws.specs.Named.{HasHomes};
 ghost use Rattle.schedule_model.specs.RowDef.{trace_in, ticks_of};
 ghost use Rattle.schedule_model.specs.Fitting.{is_fitting, IsMadeFor};
 ghost use Rattle.protocol_names.specs.Names.{word_of};
 ghost use Rattle.cert_json.specs.Text.{certificate_text};
 ghost use Rattle.trace_csv.specs.Written.{rows_text};
-ghost use Rattle.schedule_answers.specs.Conforming.{Conforms};
 ghost use Rattle.schedule_answers.specs.TaskAnswers.{measure_seen, no_measure};
-ghost use Rattle.named_laws.specs.Named.{rules_of, interference_of};
+ghost use Rattle.named_laws.specs.Named.{HasHomes, rules_of, interference_of};
+ghost use Rattle.named_protocols.specs.Analysed.{ConformsUnder};
 ghost use Rattle.sporadic_model.specs.SetDef.{task_at, latest_bound};
 ghost use Rattle.reply_texts.specs.Texts.{not_shown_text, wide_text, allowance_text, lawful_text, broken_text};
 ghost use Rattle.run_plans.specs.Commands.{IsAnalysis, IsTable, IsConformance, IsSimulation};
@@ -17,6 +16,7 @@ ghost use Rattle.run_plans.specs.Outcome.{refused_words};
 ghost use Rattle.command_inputs.specs.Halts.{reply_seen, Answered};
 ghost use Rattle.run_plans.specs.Replies.{RepliesTo};
 ghost use Rattle.run_plans.specs.Reached.{NamesTask};
+ghost use Rattle.block_top.specs.Replying.{Says};
 
 use command_inputs::{Halt, Reply, Status};
 use named_protocols::{analyse, conform_rows, simulate};
@@ -41,10 +41,7 @@ pub(crate) fn certificate_reply(
     digest: &[u8; 32],
     certificate: &Certificate,
 ) -> Result<Reply, AllocError>
-    ensures { IfOk result (λ r. reply_seen r ≡ record {
-      status = 0;
-      text = certificate_text (word_of protocol) digest.now (certificate_seen certificate.now);
-    }) }
+    ensures { Says result 0 (certificate_text (word_of protocol) digest.now (certificate_seen certificate.now)) }
 {
     Ok(Reply {
         status: Status::Done,
@@ -60,10 +57,7 @@ fn not_shown_reply(
     bound: u64,
 ) -> Result<Reply, AllocError>
     requires { task.0 < length set.now.tasks }
-    ensures { IfOk result (λ r. reply_seen r ≡ record {
-      status = 1;
-      text = not_shown_text (task_at set.now task.0).name bound (latest_bound (task_at set.now task.0));
-    }) }
+    ensures { Says result 1 (not_shown_text (task_at set.now task.0).name bound (latest_bound (task_at set.now task.0))) }
 {
     Ok(Reply {
         status: Status::No,
@@ -74,7 +68,7 @@ fn not_shown_reply(
 /// The reply if a task's program is too wide.
 pub(crate) fn wide_reply(alloc: Global, set: &TaskSet, task: TaskId) -> Result<Reply, AllocError>
     requires { task.0 < length set.now.tasks }
-    ensures { IfOk result (λ r. reply_seen r ≡ record { status = 5; text = wide_text (task_at set.now task.0).name }) }
+    ensures { Says result 5 (wide_text (task_at set.now task.0).name) }
 {
     Ok(Reply {
         status: Status::Wide,
@@ -84,7 +78,7 @@ pub(crate) fn wide_reply(alloc: Global, set: &TaskSet, task: TaskId) -> Result<R
 
 /// The reply if the programs want more units than the allowance.
 pub(crate) fn allowance_reply(alloc: Global) -> Result<Reply, AllocError>
-    ensures { IfOk result (λ r. reply_seen r ≡ record { status = 6; text = allowance_text }) }
+    ensures { Says result 6 allowance_text }
 {
     Ok(Reply {
         status: Status::Allowance,
@@ -148,10 +142,7 @@ fn lawful_reply(
     measures: &[TaskMeasure],
 ) -> Result<Reply, AllocError>
     requires { length measures.now ≡ length set.now.tasks }
-    ensures { IfOk result (λ r. reply_seen r ≡ record {
-      status = 0;
-      text = lawful_text set.now ticks (λ x. measure_seen (slice_index_or measures.now x no_measure));
-    }) }
+    ensures { Says result 0 (lawful_text set.now ticks (λ x. measure_seen (slice_index_or measures.now x no_measure))) }
 {
     Ok(Reply {
         status: Status::Done,
@@ -161,7 +152,7 @@ fn lawful_reply(
 
 /// The reply if a row breaks a rule.
 pub(crate) fn broken_reply(alloc: Global, breach: Breach) -> Result<Reply, AllocError>
-    ensures { IfOk result (λ r. reply_seen r ≡ record { status = 1; text = broken_text breach.tick breach.rule }) }
+    ensures { Says result 1 (broken_text breach.tick breach.rule) }
 {
     Ok(Reply {
         status: Status::No,
@@ -178,7 +169,7 @@ fn measures_of_text(
 ) -> Result<Measured, Unlawful>
     requires suits { HasHomes protocol jobs.now.set }
     requires fits { is_fitting rows.now jobs.now ≡ true }
-    ensures { Conforms (rules_of protocol) (interference_of protocol) (trace_in jobs.now rows.now.runs) (ticks_of rows.now.runs) result }
+    ensures { ConformsUnder protocol jobs.now rows.now result }
 {
     let mut reader = rows.rows(alloc)?;
     conform_rows(alloc, protocol, jobs, &mut reader)
@@ -232,7 +223,7 @@ pub fn simulation(
 }
 
 /// The reply to words that have no form.
-pub fn no_form(alloc: Global) -> Result<Reply, Halt>
+pub fn no_form_reply(alloc: Global) -> Result<Reply, Halt>
     ensures { Answered result (λ answer. answer ≡ refused_words) }
 {
     Ok(Reply {

@@ -1,19 +1,13 @@
-ghost use Rattle.std.specs.Prelude.{◌≡◌, ℕ, ◌≤◌, ◌↔◌, true, List, IfOk, IfErr, IsErrOf};
+ghost use Rattle.std.specs.Prelude.{◌≡◌, ◌≤◌, true, IfOk};
 ghost use Rattle.program_form.specs.Certificate.{certificate_seen};
 ghost use Rattle.sporadic_model.specs.declared.limits.TheConstants.{MOST_TICKS};
-ghost use Rattle.program_sources.specs.Fitting.{AreFitting};
-ghost use Rattle.program_sources.specs.Valid.{IsValid};
-ghost use Rattle.schedule_model.specs.RowDef.{trace_in, ticks_of};
+ghost use Rattle.schedule_model.specs.RowDef.{trace_in};
 ghost use Rattle.schedule_model.specs.Fitting.{is_fitting};
 ghost use Rattle.schedule_model.specs.Keeping.{KeepsBefore};
-ghost use Rattle.response_fixpoint.specs.Rounds.{Ending, EndsIn};
-ghost use Rattle.response_fixpoint.specs.Runs.{rounds_of, RequestsNothing};
-ghost use Rattle.response_fixpoint.specs.Answers.{Answers, IsAnswerOf, IsRight, IsSchedulable};
-ghost use Rattle.dual_check.specs.Answers.{HasDenominators, Judges};
-ghost use Rattle.schedule_answers.specs.Conforming.{Conforms};
+ghost use Rattle.dual_check.specs.Answers.{HasDenominators};
 ghost use Rattle.sim_engine.specs.Simulated.{IsSimulated};
-ghost use Rattle.figure_laws.specs.Audited.{IsAudited};
-ghost use Rattle.named_laws.specs.Named.{HasHomes, rules_of, choice_of, interference_of, charges_of, source_of, SoundUnder};
+ghost use Rattle.named_laws.specs.Named.{HasHomes, rules_of, choice_of, source_of};
+ghost use Rattle.named_protocols.specs.Analysed.{IsAnalysed, IsChecked, ConformsUnder, IsAuditedUnder};
 
 use audit_figures::{AuditStop, TaskFigures, audit_rows_with};
 use closer_distributed::{CLOSER_DFLP, CLOSER_DPCP};
@@ -43,11 +37,7 @@ pub fn analyse<R: Threads + Sync>(
     allowance: u64,
 ) -> Result<Verdict, Stop>
     requires suits { HasHomes protocol set.now }
-    ensures rounds { Answers result (source_of protocol set.now) allowance }
-    ensures only { (e : Ending) → EndsIn (rounds_of (source_of protocol set.now)) allowance e → IsAnswerOf result e }
-    ensures right { IfOk result (λ verdict. IsRight verdict (source_of protocol set.now)) }
-    ensures exactly { IfOk result (λ verdict. IsSchedulable verdict ↔ ((s : List ℕ) × AreFitting (source_of protocol set.now) s)) }
-    ensures never_wide { RequestsNothing set.now → (task : ℕ) → IsErrOf result (Stop.Wide (record { 0 = task })) → ⊥ }
+    ensures { IsAnalysed (source_of protocol set.now) allowance result }
 {
     match protocol {
         ProtocolName::Base(base) => response_fixpoint::analyse(rt, alloc, set, base, allowance),
@@ -71,9 +61,7 @@ pub fn check(
 ) -> Result<Valid, Invalid>
     requires suits { HasHomes protocol set.now }
     requires denominators { HasDenominators (certificate_seen certificate.now) }
-    ensures judges { Judges result (source_of protocol set.now) (certificate_seen certificate.now) }
-    ensures accepts { IsValid (source_of protocol set.now) (certificate_seen certificate.now) → IfErr result (λ e. e ≡ Invalid.Memory) }
-    ensures sound { IfOk result (λ v. SoundUnder protocol set.now certificate.now.bounds.items v.values.items) }
+    ensures { IsChecked protocol set.now (certificate_seen certificate.now) result }
 {
     match protocol {
         ProtocolName::Base(base) => dual_check::check(alloc, base, set, certificate),
@@ -99,7 +87,7 @@ pub fn conform_rows<R: RowReader>(
     requires suits { HasHomes protocol jobs.now.set }
     requires fits { is_fitting (R.rows rows.old) jobs.now ≡ true }
     requires start { R.at rows.old ≡ 0 }
-    ensures { Conforms (rules_of protocol) (interference_of protocol) (trace_in jobs.now (R.rows rows.old).runs) (ticks_of (R.rows rows.old).runs) result }
+    ensures { ConformsUnder protocol jobs.now (R.rows rows.old) result }
 {
     match protocol {
         ProtocolName::Base(base) => trace_conform::conform_rows(alloc, base, jobs, rows),
@@ -154,8 +142,7 @@ pub fn audit_rows<R: RowReader>(
     requires denominators { HasDenominators (certificate_seen certificate.now) }
     requires fits { is_fitting (R.rows rows.old) jobs.now ≡ true }
     requires start { R.at rows.old ≡ 0 }
-    ensures { IsAudited (rules_of protocol) (interference_of protocol) (charges_of protocol) (source_of protocol jobs.now.set)
-        (certificate_seen certificate.now) (trace_in jobs.now (R.rows rows.old).runs) (ticks_of (R.rows rows.old).runs) result }
+    ensures { IsAuditedUnder protocol (certificate_seen certificate.now) jobs.now (R.rows rows.old) result }
 {
     match protocol {
         ProtocolName::Base(base) => audit_figures::audit_rows(alloc, base, certificate, jobs, rows),

@@ -1,13 +1,7 @@
-ghost use Rattle.std.specs.Prelude.{◌≡◌, ℕ, List, IfOk, IfErr};
-ghost use Rattle.program_sources.specs.Fitting.{AreFitting};
-ghost use Rattle.response_fixpoint.specs.Rounds.{Ending, EndsIn};
-ghost use Rattle.refusal_laws.specs.Steps.{HasDenominators, Holds};
+ghost use Rattle.refusal_laws.specs.Steps.{HasDenominators};
 ghost use Rattle.refusal_laws.specs.Seen.{steps_seen};
-ghost use Rattle.refusal_confirm.specs.Faults.{IsFault, Confirms, Names};
-ghost use Rattle.refusal_cert.specs.Refuting.{refuting};
-ghost use Rattle.refusal_cert.specs.Steps.{refusal_of};
-ghost use Rattle.refusal_cert.specs.Answers.{Refutes, IsAnswerOf, FollowsAnalysis, IsRight};
 ghost use Rattle.named_laws.specs.Named.{HasHomes, source_of};
+ghost use Rattle.named_protocols.specs.Refuted.{IsRefuted, IsConfirmed};
 
 use closer_distributed::{CLOSER_DFLP, CLOSER_DPCP};
 use closer_fmlp::CLOSER_FMLP_PLUS;
@@ -33,11 +27,7 @@ pub fn refute(
     allowance: u64,
 ) -> Result<Answer, RefuteStop>
     requires suits { HasHomes protocol set.now }
-    ensures rounds { Refutes result (source_of protocol set.now) allowance }
-    ensures only { (e : Ending) (ends : EndsIn (refuting (source_of protocol set.now)) allowance e)
-        → IsAnswerOf result e (refusal_of (refuting (source_of protocol set.now)) allowance e ends) }
-    ensures follows { FollowsAnalysis result (source_of protocol set.now) allowance }
-    ensures right { IfOk result (λ answer. IsRight answer (source_of protocol set.now)) }
+    ensures { IsRefuted (source_of protocol set.now) allowance result }
 {
     match protocol {
         ProtocolName::Base(base) => refusal_cert::refute(alloc, set, &Written(base), allowance),
@@ -67,10 +57,7 @@ pub fn confirm<R: Threads + Sync>(
 ) -> Result<(), Fault>
     requires suits { HasHomes protocol set.now }
     requires denominators { HasDenominators (steps_seen refusal.now) }
-    ensures confirms { Confirms result (source_of protocol set.now) (steps_seen refusal.now) }
-    ensures accepts { Holds (source_of protocol set.now) (steps_seen refusal.now) → IfErr result (λ e. e ≡ Fault.Memory) }
-    ensures only { (e : Fault) → IsFault e (source_of protocol set.now) (steps_seen refusal.now) → Names result e }
-    ensures fits_none { IfOk result (λ done. (s : List ℕ) → AreFitting (source_of protocol set.now) s → ⊥) }
+    ensures { IsConfirmed (source_of protocol set.now) (steps_seen refusal.now) result }
 {
     match protocol {
         ProtocolName::Base(base) => refusal_confirm::confirm(

@@ -1,15 +1,17 @@
 use Rattle.cert_json.specs.File.{file_seen}
 use Rattle.run_plans.specs.Commands.{auditing_rows}
 use Rattle.command_inputs.specs.Inputs.{jobs_input}
-use Rattle.named_laws.specs.Named.{HasHomes}
+use Rattle.program_form.specs.Certificate.{certificate_seen}
+use Rattle.block_top.specs.Replying.{CanJudge}
 use Rattle.sporadic_model.specs.SetDef.{SetDef}
 use Rattle.std.proofs.Common.{sym, subst}
 use Rattle.run_plans.proofs.ReplyLaws.{replied_got}
 use Rattle.block_top.proofs.commands.audited_jobs_reply.Goals as goal
 
-pub audited_rows_reply-requires-clause-suits : goal.audited_rows_reply-requires-clause-suits
-audited_rows_reply-requires-clause-suits g c =
-    subst (λ (s : SetDef). HasHomes c.args.protocol s) (sym c.in_ok-jobs.ensures.holds) c.requires.suits
+pub audited_rows_reply-requires : goal.audited_rows_reply-requires
+audited_rows_reply-requires g c =
+    subst (λ (s : SetDef). CanJudge c.args.protocol s (certificate_seen c.args.file.now.certificate)) (sym c.in_ok-jobs.ensures.holds)
+    c.requires
 
 pub returns-clause-reply : goal.returns-clause-reply
 returns-clause-reply g c =

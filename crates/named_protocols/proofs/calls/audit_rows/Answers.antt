@@ -1,16 +1,13 @@
 use Rattle.std.proofs.Common.{sym, subst}
 use Rattle.program_form.specs.Certificate.{certificate_seen}
-use Rattle.schedule_model.specs.RowDef.{trace_in, ticks_of}
-use Rattle.figure_laws.specs.Audited.{IsAudited}
 use Rattle.protocol_names.specs.declared.ProtocolName.{ProtocolName}
-use Rattle.named_laws.specs.Named.{rules_of, interference_of, charges_of, source_of}
+use Rattle.named_protocols.specs.Analysed.{IsAuditedUnder}
 use Rattle.named_protocols.proofs.calls.audit_rows.Goals as goal
 
 pub returns-in-Base : goal.returns-in-Base
 returns-in-Base g c =
-    subst (λ (n : ProtocolName). IsAudited (rules_of n) (interference_of n) (charges_of n) (source_of n c.args.jobs.now.set)
-    (certificate_seen c.args.certificate.now) (trace_in c.args.jobs.now (g.R.RowReader.rows c.args.rows.now).runs) (ticks_of (g.R.RowReader.rows c.args.rows.now).runs)
-    c.audit_rows.result)
+    subst (λ (n : ProtocolName). IsAuditedUnder n (certificate_seen c.args.certificate.now) c.args.jobs.now
+    (g.R.RowReader.rows c.args.rows.now) c.audit_rows.result)
     (sym c.in-Base.is) c.audit_rows.ensures
 
 pub returns-in-Dflp : goal.returns-in-Dflp

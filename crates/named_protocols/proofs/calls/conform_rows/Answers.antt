@@ -1,14 +1,11 @@
 use Rattle.std.proofs.Common.{sym, subst}
-use Rattle.schedule_model.specs.RowDef.{trace_in, ticks_of}
-use Rattle.schedule_answers.specs.Conforming.{Conforms}
 use Rattle.protocol_names.specs.declared.ProtocolName.{ProtocolName}
-use Rattle.named_laws.specs.Named.{rules_of, interference_of}
+use Rattle.named_protocols.specs.Analysed.{ConformsUnder}
 use Rattle.named_protocols.proofs.calls.conform_rows.Goals as goal
 
 pub returns-in-Base : goal.returns-in-Base
 returns-in-Base g c =
-    subst (λ (n : ProtocolName). Conforms (rules_of n) (interference_of n) (trace_in c.args.jobs.now (g.R.RowReader.rows c.args.rows.now).runs)
-    (ticks_of (g.R.RowReader.rows c.args.rows.now).runs) c.conform_rows.result)
+    subst (λ (n : ProtocolName). ConformsUnder n c.args.jobs.now (g.R.RowReader.rows c.args.rows.now) c.conform_rows.result)
     (sym c.in-Base.is) c.conform_rows.ensures
 
 pub returns-in-Dflp : goal.returns-in-Dflp
