@@ -1,11 +1,10 @@
 -- A walk with exact points that ends in a certificate needs no more than 63 bits.
-use Rattle.std.proofs.Common.{◌≡◌, ◌∙◌, inl, inr, ℕ, zero, suc, ◌+◌, ◌-◌, ◌<◌, ◌≤◌, List, length, refl, sym, ap, subst, arith}
-use Rattle.std.specs.Prelude.{slice_index, pos}
-use Rattle.std.proofs.lemmas.Bool.{cases_lt, cases_eq}
+use Rattle.std.proofs.Common.{◌≡◌, ◌∙◌, inl, inr, ℕ, zero, suc, ◌+◌, ◌-◌, ◌<◌, ◌≤◌, List, length, sym, ap, subst, arith}
+use Rattle.std.specs.Prelude.{slice_index}
+use Rattle.std.proofs.lemmas.Bool.{cases_lt}
 use Rattle.std.proofs.lemmas.Grind.{same_number_lists}
 use Rattle.program_form.specs.Certificate.{DualDef, dual_seen}
 use Rattle.program_form.specs.Duals.{dual_value}
-use Rattle.program_form.specs.Points.{IsGreatestReached}
 use Rattle.program_form.specs.Program.{ProgramDef}
 use Rattle.program_sources.specs.Recurrence.{SourceDef, response_with}
 use Rattle.program_sources.specs.Fitting.{AreLeastFitting, ComesUpAbove, tasks_of}
@@ -14,7 +13,7 @@ use Rattle.program_sources.proofs.RecurrenceLaws.{one_response}
 use Rattle.exchange_runs.specs.Table.{Table}
 use Rattle.free_search.specs.Ends.{IsEndAfter, IsFoundDual, HasGreatDual}
 use Rattle.settling.specs.Rising.{IsFoundOf, AreFoundAt, IsProvedLeast}
-use Rattle.settling.specs.Ways.{AreResponses, IsAfterRounds, EndsTooGreat, LosesWhole, NeedsMoreBits, NoneNeedsMore, AllFitAt, AllFitBefore, IsOnWay}
+use Rattle.settling.specs.Ways.{AreResponses, IsAfterRounds, EndsTooGreat, LosesWhole, NoneNeedsMore, AllFitAt, IsOnWay}
 use Rattle.settling.specs.declared.finding.Points.{Points}
 use Rattle.settling.specs.declared.finding.Points.TheVariants.{Exact}
 use Rattle.settling.specs.declared.reached.Reached.{Reached}

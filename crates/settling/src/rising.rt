@@ -16,7 +16,6 @@ use crate::finding::Points;
 use crate::reached::{Reached, reach_all, units_of};
 use crate::steps::{Steps, add_steps};
 use crate::values::next_bounds;
-
 use free_search::{the_end_is_read_in_one_way, what_is_found_is_best};
 use least_laws::{costs_are_below_all_fitting, reached_responses_are_below_all_fitting};
 use program_form::Certificate;

@@ -1,4 +1,4 @@
-use Rattle.std.proofs.Common.{◌≡◌, ℕ, suc, List, length, sym, subst, arith}
+use Rattle.std.proofs.Common.{◌≡◌, ℕ, List, length, sym, subst, arith}
 use Rattle.program_sources.specs.Recurrence.{SourceDef, source_at}
 use Rattle.program_sources.specs.Fitting.{AreBelowAllFitting, tasks_of}
 use Rattle.settling.specs.Rising.{AreFoundAt, AreNextBounds, PassesLatest, StopsAt}
