@@ -18,6 +18,7 @@ use Rattle.refusal_cert.proofs.Analyses.{refused_exactly}
 use Rattle.refusal_cert.proofs.OneEnding.{refuting_once}
 use Rattle.refusal_json.specs.Ranges.{IsWritable}
 use Rattle.settling.specs.Answers.{IsLeftOpen}
+use Rattle.settling.specs.Ways.{NoneNeedsMore}
 use Rattle.named_laws.specs.Named.{source_of}
 use Rattle.named_laws.proofs.EachName.{named_above}
 use Rattle.cert_json.specs.Text.{certificate_text}
@@ -108,14 +109,24 @@ gives_again words first second again c bytes set a read closed is =
 
 -- ---- after an analysis
 
-settled_by : (inputs : Inputs) (p : ProtocolName) (name : List ℕ) (n : ℕ) (text : List ℕ) (s : Shows inputs p name n text)
-    → IsSettledBy (source_of p s.set) n s.certificate
-settled_by inputs p name n text s =
-    let best = schedulable_best (source_of p s.set) n s.certificate.bounds s.certificate.duals (named_above p s.set) s.ends in
-    record { proved = record { least = best.least; valid = best.valid; small = best.small }; from = inl s.ends }
+-- What a law of settling says: if an analysis ends with a certificate, no task needs more than 63 bits.
+abbrev pub CertificatesNeedNoMore : Type 0
+CertificatesNeedNoMore = (f : SourceDef) (allowance : ℕ) (bounds : List ℕ) (duals : List DualDef)
+    → EndsIn (rounds_of f) allowance (Schedulable bounds duals) → NoneNeedsMore f
 
-pub finds_same : (first second : Call) → IsRun first → IsRun second → (c : SettlesWhatWasAnalysed first second) → FindsText second c.text
-finds_same first second run again c =
+settled_by : (inputs : Inputs) (p : ProtocolName) (name : List ℕ) (n : ℕ) (text : List ℕ) (s : Shows inputs p name n text)
+    → CertificatesNeedNoMore → IsSettledBy (source_of p s.set) n s.certificate
+settled_by inputs p name n text s enough =
+    let best = schedulable_best (source_of p s.set) n s.certificate.bounds s.certificate.duals (named_above p s.set) s.ends in
+    record {
+      proved = record { least = best.least; valid = best.valid; small = best.small };
+      enough = enough (source_of p s.set) n s.certificate.bounds s.certificate.duals s.ends;
+      from = inl s.ends;
+    }
+
+pub finds_same : (first second : Call) → CertificatesNeedNoMore → IsRun first → IsRun second → (c : SettlesWhatWasAnalysed first second)
+    → FindsText second c.text
+finds_same first second enough run again c =
     let form = analyse_is_form first.words c.protocol c.set c.more c.allowance c.before c.allows in
     let gave = gave_text first c.inputs (Analyse c.protocol c.set c.allowance) 0 c.text run form c.has c.tells c.done (omega arith) c.wrote in
     let s : Shows c.inputs c.protocol c.set c.allowance c.text =
@@ -123,7 +134,7 @@ finds_same first second run again c =
     (shows c.inputs c.protocol c.set c.allowance gave.reply gave.outcome gave.ended) in
     gives_again analyse_words first second again c s.bytes s.set (record { status = 0; text = c.text }) s.read
     (not_open (source_of c.protocol s.set) c.allowance s.certificate.bounds s.certificate.duals s.ends)
-    (inl (s.certificate, settled_by c.inputs c.protocol c.set c.allowance c.text s, ap (λ (t : List ℕ). record { status = 0; text = t }) s.same))
+    (inl (s.certificate, settled_by c.inputs c.protocol c.set c.allowance c.text s enough, ap (λ (t : List ℕ). record { status = 0; text = t }) s.same))
 
 -- ---- after a refutation
 

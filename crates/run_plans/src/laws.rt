@@ -18,6 +18,8 @@ ghost use Rattle.run_plans.specs.Twice.{AreSteady, IsCompleteCall};
 ghost use Rattle.run_plans.specs.Compared.{AnalyseOneSet, RaisesNoBound};
 ghost use Rattle.run_plans.specs.Compared.{SettlesWhatWasAnalysed, FindsText, SettlesWhatWasRefuted, FindsRefusal};
 
+use settling::certificates_of_analyses_need_no_more_bits;
+
 /// Let a first call analyse a set and write "schedulable", and a second one check the written bytes for the same bytes of the set. Then the
 /// second answers `valid`, or a count of faults rises, or memory runs out.
 pub fn analysed_then_checked()
@@ -51,7 +53,9 @@ pub fn settled_then_confirmed()
 /// the second writes the same text with status 0, or a count of faults rises, or memory runs out.
 pub fn settled_as_analysed()
     ensures { (first second : Call) → IsRun first → IsRun second → (c : SettlesWhatWasAnalysed first second) → FindsText second c.text }
-{}
+{
+    certificates_of_analyses_need_no_more_bits();
+}
 
 /// Let a first call refute a set and write a refusal, and a second one settle the same bytes of the set with the same allowance. Then the
 /// second writes the same text with status 1, or a count of faults rises, or memory runs out.

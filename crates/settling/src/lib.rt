@@ -7,6 +7,7 @@
 mod answer;
 mod certificates;
 mod finding;
+mod laws;
 mod reached;
 mod refusals;
 mod rising;
@@ -15,4 +16,5 @@ mod steps;
 mod values;
 
 pub use answer::{SettleStop, Settled};
+pub use laws::certificates_of_analyses_need_no_more_bits;
 pub use settling::{settle_by, settle_with};

@@ -10,9 +10,9 @@ ghost use Rattle.settling.specs.Answers.{RefusesBySmallSteps, RefusesIn64Bits, I
 use crate::answer::{SettleStop, Settled};
 use crate::finding::Points;
 use crate::refusals::{answer_confirmed, keeps_64_bits, refuse_by_rounded_points};
+use crate::laws::certificates_of_analyses_need_no_more_bits;
 use crate::rising::{Risen, rise};
 use charged_protocols::{ChargedProtocol, charged_protocols_are_analysed};
-use free_search::{the_end_is_read_in_one_way, what_is_found_is_best};
 use program_sources::ProgramSource;
 use refusal_cert::{Answer, RefuteStop, refute};
 use response_fixpoint::{Stop, Verdict, analyse_with, the_rounds_have_one_ending};
@@ -95,8 +95,7 @@ fn settle<R: Threads + Sync, P: ProgramSource + Sync>(
     ensures names { NamesTask set.now result }
     ensures bits { IfOk result (λ settled. RefusesIn64Bits settled) }
 {
-    what_is_found_is_best();
-    the_end_is_read_in_one_way();
+    certificates_of_analyses_need_no_more_bits();
     match analyse_with(rt, alloc, set, protocol, allowance) {
         Ok(Verdict::Schedulable(certificate)) => Ok(Settled::Schedulable(certificate)),
         Ok(Verdict::NotShown { .. }) => refuse(rt, alloc, set, protocol, allowance),

@@ -1,18 +1,12 @@
 use Rattle.std.proofs.Common.{◌<◌, length, arith}
 use Rattle.program_sources.specs.Recurrence.{SourceDef, source_at}
 use Rattle.settling.proofs.AnswerLaws.{answers_refusal, answers_wide, not_shown_of, shown_of, wide_analysis_of, wide_within}
-use Rattle.settling.proofs.EnoughBits.{OneEnd, analysis_needs_no_more}
 use Rattle.settling.proofs.settling.settle.Goals as goal
 
 pub returns-in-Ok-Schedulable-clause-enough : goal.returns-in-Ok-Schedulable-clause-enough
 returns-in-Ok-Schedulable-clause-enough g c =
     let f : SourceDef = source_at (g.P.ProgramSource.source c.args.protocol.now) c.args.set.now in
-    let one : OneEnd = record {
-      fits = c.the_end_is_read_in_one_way.ensures.fits;
-      keeps = c.the_end_is_read_in_one_way.ensures.keeps;
-      greatest = c.what_is_found_is_best.ensures.greatest;
-    } in
-    analysis_needs_no_more f c.args.allowance _ _ one
+    c.certificates_of_analyses_need_no_more_bits.ensures f c.args.allowance _ _
     (shown_of f c.args.allowance c.analyse_with.result c.in-Ok-Schedulable.field-0 c.in-Ok-Schedulable.certificate
     c.analyse_with.ensures.rounds c.in-Ok-Schedulable.is c.in-Ok-Schedulable.field-0-is)
 
