@@ -1,25 +1,27 @@
 use crate::judged::judged;
+use crate::texts::{jobs_in, rows_in, set_in};
 use crate::told::told;
-use sporadic_model::{Protocol, TaskSet};
+use sporadic_model::Protocol;
 use std::alloc::Global;
+use std::process::Abort;
 use std::test::Fail;
 use worked_sets::files::*;
 
 /// What is said of a schedule, given as the texts of its set, jobs and rows.
 fn told_of(alloc: Global, schedule: [&str; 3]) -> Result<String, Fail> {
     let [set, jobs, rows] = schedule;
-    let set = set_from(alloc, set)?;
-    let jobs = trace_csv::read_jobs(alloc, &set, jobs.as_bytes())?;
-    let rows = trace_csv::read_rows(alloc, &jobs, rows.as_bytes())?;
+    let set = set_in(alloc, set)?;
+    let jobs = jobs_in(alloc, &set, jobs)?;
+    let rows = rows_in(alloc, &jobs, rows)?;
     told(alloc, &jobs, &rows)
 }
 
 /// How the schedule is judged.
 fn judged_of(alloc: Global, protocol: Protocol, schedule: [&str; 3]) -> Result<String, Fail> {
     let [set, jobs, rows] = schedule;
-    let set = set_from(alloc, set)?;
-    let jobs = trace_csv::read_jobs(alloc, &set, jobs.as_bytes())?;
-    let rows = trace_csv::read_rows(alloc, &jobs, rows.as_bytes())?;
+    let set = set_in(alloc, set)?;
+    let jobs = jobs_in(alloc, &set, jobs)?;
+    let rows = rows_in(alloc, &jobs, rows)?;
     judged(alloc, protocol, &jobs, &rows)
 }
 
@@ -128,11 +130,18 @@ ended/ ended/ | - - | - -
     ),
 ];
 
+// These lines are said of the schedule.
+fn is_told(rt: &impl Abort, alloc: Global, case: &Told) -> Result<(), Fail> {
+    let (schedule, wanted) = *case;
+    let text = told_of(alloc, schedule)?;
+    assert_eq!(rt; text.as_str(), wanted);
+    Ok(())
+}
+
 #[test]
 fn the_machine_tells_what_stands_at_each_tick(rt: HostRuntime) -> Result<(), Fail> {
-    for (schedule, wanted) in TOLD {
-        let text = told_of(rt.alloc(), *schedule)?;
-        assert_eq!(rt; text.as_str(), *wanted);
+    for case in TOLD {
+        is_told(&rt, rt.alloc(), case)?;
     }
     Ok(())
 }
@@ -207,29 +216,42 @@ const BY_DPCP: &[Judged] = &[
     ([APART, APART_TOGETHER_JOBS, APART_TWO_GRANTS], "- grant"),
 ];
 
-#[test]
-fn fmlp_plus_judges_chooses_and_tells_blocked_jobs(rt: HostRuntime) -> Result<(), Fail> {
-    for (schedule, wanted) in BY_FMLP_PLUS {
-        let text = judged_of(rt.alloc(), Protocol::FmlpPlus, *schedule)?;
-        assert_eq!(rt; text.as_str(), *wanted, "at {}", schedule[2]);
+// The protocol judges the schedule so.
+fn is_judged(
+    rt: &impl Abort,
+    alloc: Global,
+    protocol: Protocol,
+    case: &Judged,
+) -> Result<(), Fail> {
+    let (schedule, wanted) = *case;
+    let text = judged_of(alloc, protocol, schedule)?;
+    assert_eq!(rt; text.as_str(), wanted, "at {}", schedule[2]);
+    Ok(())
+}
+
+fn are_judged(
+    rt: &impl Abort,
+    alloc: Global,
+    protocol: Protocol,
+    cases: &[Judged],
+) -> Result<(), Fail> {
+    for case in cases {
+        is_judged(rt, alloc, protocol, case)?;
     }
     Ok(())
+}
+
+#[test]
+fn fmlp_plus_judges_chooses_and_tells_blocked_jobs(rt: HostRuntime) -> Result<(), Fail> {
+    are_judged(&rt, rt.alloc(), Protocol::FmlpPlus, BY_FMLP_PLUS)
 }
 
 #[test]
 fn mpcp_judges_chooses_and_tells_blocked_jobs(rt: HostRuntime) -> Result<(), Fail> {
-    for (schedule, wanted) in BY_MPCP {
-        let text = judged_of(rt.alloc(), Protocol::Mpcp, *schedule)?;
-        assert_eq!(rt; text.as_str(), *wanted, "at {}", schedule[2]);
-    }
-    Ok(())
+    are_judged(&rt, rt.alloc(), Protocol::Mpcp, BY_MPCP)
 }
 
 #[test]
 fn dpcp_judges_chooses_and_tells_blocked_jobs(rt: HostRuntime) -> Result<(), Fail> {
-    for (schedule, wanted) in BY_DPCP {
-        let text = judged_of(rt.alloc(), Protocol::Dpcp, *schedule)?;
-        assert_eq!(rt; text.as_str(), *wanted, "at {}", schedule[2]);
-    }
-    Ok(())
+    are_judged(&rt, rt.alloc(), Protocol::Dpcp, BY_DPCP)
 }

@@ -2,12 +2,12 @@ ghost use Rattle.std.specs.Prelude.{◌≡◌, true};
 ghost use Rattle.sporadic_model.specs.Homes.{EachHasHome};
 
 use crate::texts::rule_word;
-use crate::told::take;
+use crate::told::{started, take};
 use dpcp_rules::Dpcp;
 use fmlp_rules::FmlpPlus;
 use mpcp_rules::Mpcp;
 use phase_machine::{Judge, Machine, is_row_for};
-use schedule_model::{JobId, JobList, Row, RowList, Rule};
+use schedule_model::{JobId, JobList, Row, RowList, RowRun, Rule};
 use sporadic_model::Protocol;
 use std::alloc::{AllocError, Global};
 use std::test::Fail;
@@ -120,6 +120,50 @@ fn row_word(
     }
 }
 
+/// What is said of the rows so far, and whether each was the chosen one.
+#[derive(Drop)]
+struct Said {
+    text: String,
+    are_chosen: bool,
+}
+
+/// Adds what is said of the row, and takes it if it breaks no rule. Is there nothing more to say, since it breaks one?
+fn say(
+    alloc: Global,
+    protocol: Protocol,
+    machine: &mut Machine,
+    row: &Row,
+    said: &mut Said,
+) -> Result<bool, Fail> {
+    match row_word(alloc, protocol, machine, row)? {
+        Ok(word) => said.text.push_str(word.as_str())?,
+        Err(rule) => {
+            said.text.push_str(rule_word(rule))?;
+            return Ok(true);
+        }
+    }
+    said.text.push_str(" ")?;
+    said.are_chosen = said.are_chosen && chosen(alloc, protocol, machine)? == *row;
+    take(machine, row)?;
+    Ok(false)
+}
+
+/// The same for each row of the run.
+fn say_run(
+    alloc: Global,
+    protocol: Protocol,
+    machine: &mut Machine,
+    run: &RowRun,
+    said: &mut Said,
+) -> Result<bool, Fail> {
+    for _ in 0..run.ticks {
+        if say(alloc, protocol, machine, &run.row, said)? {
+            return Ok(true);
+        }
+    }
+    Ok(false)
+}
+
 /// A word for each lawful row, of the jobs that are blocked in it. Then the first rule that is broken. If none is, `chosen` if each row is
 /// the chosen one, and else `lawful`.
 pub(crate) fn judged(
@@ -128,23 +172,17 @@ pub(crate) fn judged(
     jobs: &JobList,
     rows: &RowList,
 ) -> Result<String, Fail> {
-    let mut machine = Machine::new(alloc, jobs)?;
-    let mut text = String::new(alloc);
-    let mut are_chosen = true;
+    let mut machine = started(alloc, jobs)?;
+    let mut said = Said {
+        text: String::new(alloc),
+        are_chosen: true,
+    };
     for run in rows.runs() {
-        for _ in 0..run.ticks {
-            match row_word(alloc, protocol, &machine, &run.row)? {
-                Ok(word) => text.push_str(word.as_str())?,
-                Err(rule) => {
-                    text.push_str(rule_word(rule))?;
-                    return Ok(text);
-                }
-            }
-            text.push_str(" ")?;
-            are_chosen = are_chosen && chosen(alloc, protocol, &machine)? == run.row;
-            take(&mut machine, &run.row)?;
+        if say_run(alloc, protocol, &mut machine, run, &mut said)? {
+            return Ok(said.text);
         }
     }
-    text.push_str(if are_chosen { "chosen" } else { "lawful" })?;
-    Ok(text)
+    said.text
+        .push_str(if said.are_chosen { "chosen" } else { "lawful" })?;
+    Ok(said.text)
 }

@@ -8,6 +8,8 @@ mod judged;
 #[cfg(test)]
 mod list_tests;
 #[cfg(test)]
+mod lists;
+#[cfg(test)]
 mod machine_tests;
 #[cfg(test)]
 mod scripts;

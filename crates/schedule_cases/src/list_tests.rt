@@ -1,22 +1,14 @@
 ghost use Rattle.std.specs.Prelude.{◌<◌, length};
 ghost use Rattle.schedule_model.specs.Fitting.{IsMadeFor};
 
-use crate::scripts::{Part, has_segments, held_job, job_of, request_below, segment};
-use schedule_model::{Job, JobId, JobList, JobRefusal, Row, RowList, RowRefusal, RowRun, Segment};
-use sporadic_model::{ResourceId, TaskId, TaskSet};
+use crate::lists::{Work, built, list_of, no_jobs, refusal_of, refusal_to, row_of};
+use crate::scripts::{Part, has_segments};
+use schedule_model::{Job, JobId, JobList, JobRefusal, RowList, RowRefusal, RowRun, Segment};
+use sporadic_model::{ResourceId, TaskId};
 use std::alloc::{AllocError, Global};
+use std::process::Abort;
 use std::test::Fail;
-use worked_sets::{EntryRow, SetRow, TaskRow, set_of, task_row};
-
-/// What `push` answers, if the ids are in range.
-fn pushed(jobs: &mut JobList, job: Job) -> Option<Result<(), JobRefusal>> {
-    let set = jobs.set();
-    let (tasks, resources) = (set.tasks(), set.resources());
-    if job.task.0 >= tasks || !request_below(&job.script, resources) {
-        return None;
-    }
-    Some(jobs.push(job))
-}
+use worked_sets::{EntryRow, SetRow, TaskRow, task_row};
 
 /// The task, the release and the script of a job, and the refusal that is expected.
 type Case = (u32, u64, &'static [Part], Option<JobRefusal>);
@@ -87,33 +79,56 @@ const CASES: &[Case] = &[
     (1, 1_000_000_000, &[(1, None)], Some(JobRefusal::TooClose)),
 ];
 
+/// Is the case's job answered as the case says, and is the list longer by one exactly if the job is taken?
+fn is_answered(alloc: Global, jobs: &mut JobList, case: &Case) -> Result<bool, Fail> {
+    let (task, release, script, refusal) = *case;
+    let before = jobs.len();
+    let answer = refusal_to(alloc, jobs, task, (release, release), script)?;
+    let grown = before.saturating_add(u32::from(refusal.is_none()));
+    Ok(answer == refusal && jobs.len() == grown)
+}
+
+fn task_and_release(jobs: &JobList, j: u32) -> Option<(TaskId, u64)> {
+    if j >= jobs.len() {
+        return None;
+    }
+    let job = jobs.job(JobId(j));
+    Some((job.task, job.release))
+}
+
+/// Has the job these segments?
+fn has_script(jobs: &JobList, j: u32, wanted: &[Segment]) -> bool {
+    j < jobs.len() && has_segments(&jobs.job(JobId(j)).script, wanted)
+}
+
+/// A segment by its local ticks, and by the number of its resource and how long it is requested, if one is.
+macro_rules! segment_row {
+    ($local:expr) => {
+        Segment {
+            local: $local,
+            request: None,
+        }
+    };
+    ($local:expr, $resource:expr, $ticks:expr) => {
+        Segment {
+            local: $local,
+            request: Some((ResourceId($resource), $ticks)),
+        }
+    };
+}
+
 #[test]
 fn takes_jobs_or_names_the_first_refusal(rt: HostRuntime) -> Result<(), Fail> {
-    let set = set_of(rt.alloc(), PAIR)?;
-    let mut jobs = JobList::new(rt.alloc(), &set);
-    for (task, release, script, refusal) in CASES {
-        let before = jobs.len();
-        let job = job_of(rt.alloc(), *task, *release, script)?;
-        let answer = pushed(&mut jobs, job);
-        let wanted = match refusal {
-            Some(refusal) => Err(*refusal),
-            None => Ok(()),
-        };
-        assert!(rt; answer == Some(wanted), "at {task}, {release}");
-        let grown = if refusal.is_none() {
-            before.saturating_add(1)
-        } else {
-            before
-        };
-        assert_eq!(rt; jobs.len(), grown);
+    let set = built(rt.alloc(), PAIR)?;
+    let mut jobs = no_jobs(rt.alloc(), &set);
+    for case in CASES {
+        let is_right = is_answered(rt.alloc(), &mut jobs, case)?;
+        assert!(rt; is_right, "at {}, {}", case.0, case.1);
     }
     assert_eq!(rt; (jobs.len(), jobs.set().tasks()), (4, 2));
-    assert!(rt; jobs.len() == 4);
-    let job = jobs.job(JobId(2));
-    assert_eq!(rt; (job.task, job.release), (TaskId(0), 15));
-    assert!(rt; has_segments(&job.script, &[segment((3, None))]));
-    let first = [segment((2, Some(1))), segment((1, None))];
-    assert!(rt; has_segments(&jobs.job(JobId(0)).script, &first));
+    assert!(rt; task_and_release(&jobs, 2) == Some((TaskId(0), 15)));
+    assert!(rt; has_script(&jobs, 2, &[segment_row!(3)]));
+    assert!(rt; has_script(&jobs, 0, &[segment_row!(2, 0, 1), segment_row!(1)]));
     Ok(())
 }
 
@@ -132,22 +147,6 @@ const LONG: SetRow = SetRow {
 
 /// The task, the arrival, the release and the segments of a job.
 type Read = (u32, u64, u64, &'static [Segment]);
-
-/// A segment by its local ticks, and by the number of its resource and how long it is requested, if one is.
-macro_rules! segment_row {
-    ($local:expr) => {
-        Segment {
-            local: $local,
-            request: None,
-        }
-    };
-    ($local:expr, $resource:expr, $ticks:expr) => {
-        Segment {
-            local: $local,
-            request: Some((ResourceId($resource), $ticks)),
-        }
-    };
-}
 
 const READ: &[Read] = &[
     (
@@ -188,21 +187,26 @@ fn lists(jobs: &JobList, wanted: &[Read]) -> bool {
     true
 }
 
-/// Does the push of each row's job give this answer?
-fn are_pushed(
+fn job_of(alloc: Global, row: &Read) -> Result<Job, AllocError> {
+    let (task, arrival, release, script) = *row;
+    Ok(Job {
+        task: TaskId(task),
+        arrival,
+        release,
+        script: script.to_vec(alloc)?,
+    })
+}
+
+/// Is each row's job answered with this refusal, or taken if there is none?
+fn are_answered(
     alloc: Global,
     jobs: &mut JobList,
     rows: &[Read],
-    answer: Result<(), JobRefusal>,
+    refusal: Option<JobRefusal>,
 ) -> Result<bool, Fail> {
-    for (task, arrival, release, script) in rows {
-        let job = Job {
-            task: TaskId(*task),
-            arrival: *arrival,
-            release: *release,
-            script: script.to_vec(alloc)?,
-        };
-        if pushed(jobs, job) != Some(answer) {
+    for row in rows {
+        let job = job_of(alloc, row)?;
+        if refusal_of(jobs, job)? != refusal {
             return Ok(false);
         }
     }
@@ -211,12 +215,12 @@ fn are_pushed(
 
 #[test]
 fn reads_back_each_job_and_segment(rt: HostRuntime) -> Result<(), Fail> {
-    let set = set_of(rt.alloc(), LONG)?;
-    let mut jobs = JobList::new(rt.alloc(), &set);
+    let set = built(rt.alloc(), LONG)?;
+    let mut jobs = no_jobs(rt.alloc(), &set);
     assert!(rt; lists(&jobs, &[]));
-    assert!(rt; are_pushed(rt.alloc(), &mut jobs, READ, Ok(()))?);
+    assert!(rt; are_answered(rt.alloc(), &mut jobs, READ, None)?);
     assert!(rt; lists(&jobs, READ));
-    assert!(rt; are_pushed(rt.alloc(), &mut jobs, READ, Err(JobRefusal::TooClose))?);
+    assert!(rt; are_answered(rt.alloc(), &mut jobs, READ, Some(JobRefusal::TooClose))?);
     assert!(rt; lists(&jobs, READ));
     Ok(())
 }
@@ -256,157 +260,234 @@ const HELD: &[Held] = &[
     (999_999_996, 1_000_000_000, 2, None),
 ];
 
+fn refusal_to_held(
+    alloc: Global,
+    jobs: &mut JobList,
+    held: &Held,
+) -> Result<Option<JobRefusal>, Fail> {
+    let (arrival, release, local, _) = *held;
+    refusal_to(alloc, jobs, 0, (arrival, release), &[(local, None)])
+}
+
+fn arrival_and_release(jobs: &JobList, j: u32) -> Option<(u64, u64)> {
+    if j >= jobs.len() {
+        return None;
+    }
+    let job = jobs.job(JobId(j));
+    Some((job.arrival, job.release))
+}
+
 #[test]
 fn spaces_jobs_by_arrivals_and_holds_them_by_the_jitter(rt: HostRuntime) -> Result<(), Fail> {
-    let set = set_of(rt.alloc(), JITTERY)?;
-    let mut jobs = JobList::new(rt.alloc(), &set);
-    for (arrival, release, local, refusal) in HELD {
-        let job = held_job(rt.alloc(), 0, (*arrival, *release), &[(*local, None)])?;
-        let wanted = match refusal {
-            Some(refusal) => Err(*refusal),
-            None => Ok(()),
-        };
-        let answer = pushed(&mut jobs, job);
-        assert!(rt; answer == Some(wanted), "at {arrival}, {release}");
+    let set = built(rt.alloc(), JITTERY)?;
+    let mut jobs = no_jobs(rt.alloc(), &set);
+    for held in HELD {
+        let refusal = refusal_to_held(rt.alloc(), &mut jobs, held)?;
+        assert!(rt; refusal == held.3, "at {}, {}", held.0, held.1);
     }
     assert!(rt; jobs.len() == 5);
-    let (first, second) = (jobs.job(JobId(0)), jobs.job(JobId(1)));
-    assert_eq!(rt; (first.arrival, first.release), (0, 4));
-    assert_eq!(rt; (second.arrival, second.release), (10, 10));
+    assert!(rt; arrival_and_release(&jobs, 0) == Some((0, 4)));
+    assert!(rt; arrival_and_release(&jobs, 1) == Some((10, 10)));
     Ok(())
+}
+
+/// Are so many jobs taken that have this script, and that arrive every 1000 ticks?
+fn are_taken(alloc: Global, jobs: &mut JobList, count: u32, script: &[Part]) -> Result<bool, Fail> {
+    for j in 0..count {
+        let tick = 1000 * u64::from(j);
+        if refusal_to(alloc, jobs, 0, (tick, tick), script)?.is_some() {
+            return Ok(false);
+        }
+    }
+    Ok(true)
+}
+
+/// A script of so many requests of one tick, each of them after one local tick.
+fn requests(alloc: Global, count: u32) -> Result<Vec<Part>, AllocError> {
+    let mut script = Vec::new(alloc);
+    for _ in 0..count {
+        script.push((1, Some(1)))?;
+    }
+    Ok(script)
+}
+
+/// Is a job of one tick too many at these ticks?
+fn is_too_many(alloc: Global, jobs: &mut JobList, times: (u64, u64)) -> Result<bool, Fail> {
+    let refusal = refusal_to(alloc, jobs, 0, times, &[(1, None)])?;
+    Ok(refusal == Some(JobRefusal::TooMany))
 }
 
 #[test]
 fn keeps_the_limits_on_jobs_and_segments(rt: HostRuntime) -> Result<(), Fail> {
-    let set = set_of(rt.alloc(), BUSY)?;
-    let mut jobs = JobList::new(rt.alloc(), &set);
-    for j in 0..100_000u64 {
-        let job = job_of(rt.alloc(), 0, 1000 * j, &[(1, None)])?;
-        assert!(rt; pushed(&mut jobs, job) == Some(Ok(())));
-    }
-    let job = held_job(rt.alloc(), 0, (100_000_000, 100_000_001), &[(1, None)])?;
-    assert!(rt; pushed(&mut jobs, job) == Some(Err(JobRefusal::TooMany)));
+    let set = built(rt.alloc(), BUSY)?;
+    let mut jobs = no_jobs(rt.alloc(), &set);
+    assert!(rt; are_taken(rt.alloc(), &mut jobs, 100_000, &[(1, None)])?);
+    assert!(rt; is_too_many(rt.alloc(), &mut jobs, (100_000_000, 100_000_001))?);
 
-    let mut jobs = JobList::new(rt.alloc(), &set);
-    let script = [(1, Some(1)); 500];
-    for j in 0..2000u64 {
-        let job = job_of(rt.alloc(), 0, 1000 * j, &script)?;
-        assert!(rt; pushed(&mut jobs, job) == Some(Ok(())));
-    }
-    let job = job_of(rt.alloc(), 0, 2_000_000, &[(1, None)])?;
-    assert!(rt; pushed(&mut jobs, job) == Some(Err(JobRefusal::TooMany)));
+    let mut jobs = no_jobs(rt.alloc(), &set);
+    let script = requests(rt.alloc(), 500)?;
+    assert!(rt; are_taken(rt.alloc(), &mut jobs, 2000, &script)?);
+    assert!(rt; is_too_many(rt.alloc(), &mut jobs, (2_000_000, 2_000_000))?);
     Ok(())
 }
 
 /// A number of ticks, the jobs that run on both processors and the one that holds the resource, whether the rows so far fit a list of only
 /// the first job, and the refusal that is expected.
-type Run = (u64, [Option<u32>; 2], Option<u32>, bool, Option<RowRefusal>);
+type Run = (
+    u64,
+    &'static [Option<u32>],
+    Option<u32>,
+    bool,
+    Option<RowRefusal>,
+);
 
-const RUNS: [Run; 8] = [
-    (0, [None, None], None, true, Some(RowRefusal::Number)),
+const RUNS: &[Run] = &[
+    (0, &[None, None], None, true, Some(RowRefusal::Number)),
     (
         1_000_000_001,
-        [Some(2), None],
+        &[Some(2), None],
         None,
         true,
         Some(RowRefusal::Number),
     ),
     (
         1_000_000_000,
-        [None, Some(2)],
+        &[None, Some(2)],
         None,
         true,
         Some(RowRefusal::UnknownJob),
     ),
-    (1, [None, None], Some(2), true, Some(RowRefusal::UnknownJob)),
-    (3, [Some(0), None], None, true, None),
+    (
+        1,
+        &[None, None],
+        Some(2),
+        true,
+        Some(RowRefusal::UnknownJob),
+    ),
+    (3, &[Some(0), None], None, true, None),
     (
         999_999_998,
-        [None, None],
+        &[None, None],
         None,
         true,
         Some(RowRefusal::TooLong),
     ),
-    (999_999_997, [Some(0), Some(1)], Some(1), false, None),
-    (1, [None, None], None, false, Some(RowRefusal::TooLong)),
+    (999_999_997, &[Some(0), Some(1)], Some(1), false, None),
+    (1, &[None, None], None, false, Some(RowRefusal::TooLong)),
 ];
 
-fn place(job: Option<u32>) -> Option<JobId> {
-    match job {
-        Some(job) => Some(JobId(job)),
-        None => None,
-    }
-}
-
-fn run_of(
-    alloc: Global,
-    ticks: u64,
-    running: [Option<u32>; 2],
-    holder: Option<u32>,
-) -> Result<RowRun, AllocError> {
-    let mut row = Row {
-        running: Vec::new(alloc),
-        holders: Vec::new(alloc),
-    };
-    row.running.push(place(running[0]))?;
-    row.running.push(place(running[1]))?;
-    row.holders.push(place(holder))?;
-    Ok(RowRun { ticks, row })
-}
-
-/// What `push` answers, if the row has the set's sizes.
-fn put(rows: &mut RowList, jobs: &JobList, run: RowRun) -> Option<Result<(), RowRefusal>>
+/// Why the rows don't take the run, or none if they take it.
+fn refusal_of_run(
+    rows: &mut RowList,
+    jobs: &JobList,
+    run: RowRun,
+) -> Result<Option<RowRefusal>, Fail>
     requires { IsMadeFor rows.old jobs.now }
     ensures { IsMadeFor rows.new jobs.now }
 {
     let set = jobs.set();
     if run.row.running.len() != set.processors() as usize {
-        return None;
+        return Err("not a place for each processor".into());
     }
     if run.row.holders.len() != set.resources() as usize {
-        return None;
+        return Err("not a place for each resource".into());
     }
-    Some(rows.push(run))
+    Ok(rows.push(run).err())
 }
 
-/// This many first jobs, one of each task.
-fn first_jobs<'a>(alloc: Global, set: &'a TaskSet, count: u32) -> Result<JobList<'a>, Fail> {
-    let mut jobs = JobList::new(alloc, set);
-    for task in 0..count {
-        let job = job_of(alloc, task, 0, &[(1, None)])?;
-        if pushed(&mut jobs, job) != Some(Ok(())) {
-            return Err("refused".into());
+/// Is the run answered as its row says, and do the rows then fit the jobs, and fewer jobs if the row says so?
+fn is_put(
+    alloc: Global,
+    rows: &mut RowList,
+    jobs: &JobList,
+    fewer: &JobList,
+    run: &Run,
+) -> Result<bool, Fail>
+    requires { IsMadeFor rows.old jobs.now }
+    ensures { IsMadeFor rows.new jobs.now }
+{
+    let (ticks, running, holder, fits, refusal) = *run;
+    let row = row_of(alloc, running, holder)?;
+    let answer = refusal_of_run(rows, jobs, RowRun { ticks, row })?;
+    Ok(answer == refusal && rows.fits(jobs) && rows.fits(fewer) == fits)
+}
+
+/// The number of the first run that isn't answered as its row says, or after which the rows fit otherwise.
+fn first_other_run(
+    alloc: Global,
+    rows: &mut RowList,
+    jobs: &JobList,
+    fewer: &JobList,
+) -> Result<Option<usize>, Fail>
+    requires { IsMadeFor rows.old jobs.now }
+{
+    for (n, run) in RUNS.iter().enumerate() {
+        if !is_put(alloc, rows, jobs, fewer, run)? {
+            return Ok(Some(n));
         }
     }
-    Ok(jobs)
+    Ok(None)
+}
+
+/// Are there two runs, which last so long?
+fn are_two_runs(rows: &RowList, first: u64, second: u64) -> bool {
+    let runs = rows.runs();
+    runs.len() == 2 && runs[0].ticks == first && runs[1].ticks == second
+}
+
+/// Has the second run's row these places?
+fn is_second_row(rows: &RowList, running: &[Option<JobId>], holders: &[Option<JobId>]) -> bool {
+    match rows.runs().get(1) {
+        Some(run) => {
+            run.row.running.as_slice() == running && run.row.holders.as_slice() == holders
+        }
+        None => false,
+    }
+}
+
+/// The first jobs of the two tasks.
+const FIRST_JOBS: &[Work] = &[(0, 0, &[(1, None)]), (1, 0, &[(1, None)])];
+
+const FIRST_JOB: &[Work] = &[(0, 0, &[(1, None)])];
+
+const WIDE: SetRow = SetRow {
+    processors: 3,
+    ..PAIR
+};
+
+// Rows that took the runs, or refused them, as the table says.
+fn rows_of_runs(
+    rt: &impl Abort,
+    alloc: Global,
+    jobs: &JobList,
+    fewer: &JobList,
+) -> Result<RowList, Fail> {
+    let mut rows = RowList::new(alloc, jobs);
+    assert_eq!(rt; first_other_run(alloc, &mut rows, jobs, fewer)?, None);
+    Ok(rows)
+}
+
+fn rows_of_pair(rt: &impl Abort, alloc: Global) -> Result<RowList, Fail> {
+    let set = built(alloc, PAIR)?;
+    let jobs = list_of(alloc, &set, FIRST_JOBS)?;
+    let fewer = list_of(alloc, &set, FIRST_JOB)?;
+    rows_of_runs(rt, alloc, &jobs, &fewer)
+}
+
+/// Do the rows fit the first jobs of the wider set?
+fn fit_wider(alloc: Global, rows: &RowList) -> Result<bool, Fail> {
+    let set = built(alloc, WIDE)?;
+    let jobs = list_of(alloc, &set, FIRST_JOBS)?;
+    Ok(rows.fits(&jobs))
 }
 
 #[test]
 fn takes_rows_or_names_the_first_refusal(rt: HostRuntime) -> Result<(), Fail> {
-    let set = set_of(rt.alloc(), PAIR)?;
-    let wide = SetRow {
-        processors: 3,
-        ..PAIR
-    };
-    let wider = set_of(rt.alloc(), wide)?;
-    let jobs = first_jobs(rt.alloc(), &set, 2)?;
-    let fewer = first_jobs(rt.alloc(), &set, 1)?;
-    let others = first_jobs(rt.alloc(), &wider, 2)?;
-    let mut rows = RowList::new(rt.alloc(), &jobs);
-    for (ticks, running, holder, fits, refusal) in RUNS {
-        let run = run_of(rt.alloc(), ticks, running, holder)?;
-        let wanted = match refusal {
-            Some(refusal) => Err(refusal),
-            None => Ok(()),
-        };
-        assert!(rt; put(&mut rows, &jobs, run) == Some(wanted), "at {ticks}");
-        assert!(rt; rows.fits(&jobs) && rows.fits(&fewer) == fits, "at {ticks}");
-    }
-    assert!(rt; rows.ticks() == 1_000_000_000 && !rows.fits(&others));
-    let runs = rows.runs();
-    assert!(rt; runs.len() == 2 && runs[0].ticks == 3 && runs[1].ticks == 999_999_997);
-    let running = [place(Some(0)), place(Some(1))];
-    assert!(rt; runs[1].row.running.as_slice() == running.as_slice());
-    assert!(rt; runs[1].row.holders.as_slice() == [place(Some(1))].as_slice());
+    let rows = rows_of_pair(&rt, rt.alloc())?;
+    assert!(rt; rows.ticks() == 1_000_000_000);
+    assert!(rt; !fit_wider(rt.alloc(), &rows)?);
+    assert!(rt; are_two_runs(&rows, 3, 999_999_997));
+    let (one, two) = (Some(JobId(0)), Some(JobId(1)));
+    assert!(rt; is_second_row(&rows, &[one, two], &[two]));
     Ok(())
 }

@@ -20,16 +20,6 @@ pub(crate) fn segment((local, length): Part) -> Segment {
     Segment { local, request }
 }
 
-/// A job that is released when it arrives.
-pub(crate) fn job_of(
-    alloc: Global,
-    task: u32,
-    release: u64,
-    script: &[Part],
-) -> Result<Job, AllocError> {
-    held_job(alloc, task, (release, release), script)
-}
-
 /// A job that arrives at the first tick and is released at the second.
 pub(crate) fn held_job(
     alloc: Global,

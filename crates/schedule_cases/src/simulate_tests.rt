@@ -1,58 +1,39 @@
-ghost use Rattle.std.specs.Prelude.{◌≡◌, ◌≤◌, true, IfOk};
+ghost use Rattle.std.specs.Prelude.{◌≡◌, true};
 ghost use Rattle.sporadic_model.specs.Homes.{HasHomesFor};
 ghost use Rattle.schedule_model.specs.Fitting.{is_fitting};
 
+use crate::texts::{jobs_in, set_in};
 use schedule_model::{JobList, RowList};
 use sim_engine::simulate;
-use sporadic_model::{Protocol, TaskSet};
-use std::alloc::{AllocError, Global};
+use sporadic_model::Protocol;
+use std::alloc::Global;
+use std::process::Abort;
 use std::test::Fail;
-use taskset_json::home_check;
-use trace_conform::{TaskMeasure, conform};
-use trace_csv::{read_jobs, write_rows};
-use worked_sets::files::set_from;
-
-/// The set from its text, which has the homes that the protocol asks for.
-fn set_of(alloc: Global, protocol: Protocol, text: &str) -> Result<TaskSet, Fail>
-    ensures { IfOk result (λ set. HasHomesFor protocol set) }
-{
-    let set = set_from(alloc, text)?;
-    match home_check(&set, protocol) {
-        Ok(()) => Ok(set),
-        Err(_) => Err("a home is missing".into()),
-    }
-}
-
-/// The jobs of the set from their text.
-fn jobs_of<'a>(alloc: Global, set: &'a TaskSet, text: &str) -> Result<JobList<'a>, Fail>
-    ensures { IfOk result (λ jobs. jobs.set ≡ set.now) }
-{
-    match read_jobs(alloc, set, text.as_bytes()) {
-        Ok(jobs) => Ok(jobs),
-        Err(_) => Err("the jobs are refused".into()),
-    }
-}
+use trace_conform::{Measured, TaskMeasure, Unlawful, conform};
+use trace_csv::write_rows;
+use worked_sets::suits;
 
 /// The rows that the protocol chooses for the jobs in ten ticks.
-fn rows_of(alloc: Global, protocol: Protocol, jobs: &JobList) -> Result<RowList, Fail>
-    requires suits { HasHomesFor protocol jobs.now.set }
-    ensures { IfOk result (λ rows. is_fitting rows jobs.now ≡ true) }
-{
+fn rows_of(alloc: Global, protocol: Protocol, jobs: &JobList) -> Result<RowList, Fail> {
+    if !suits(jobs.set(), protocol) {
+        return Err("a home is missing".into());
+    }
     Ok(simulate(alloc, protocol, jobs, 10)?)
 }
 
-fn written(alloc: Global, jobs: &JobList, rows: &RowList) -> Result<Vec<u8>, AllocError>
-    requires { is_fitting rows.now jobs.now ≡ true }
-{
-    write_rows(alloc, jobs.set(), rows)
+fn written(alloc: Global, jobs: &JobList, rows: &RowList) -> Result<Vec<u8>, Fail> {
+    if !rows.fits(jobs) {
+        return Err("the rows don't fit".into());
+    }
+    Ok(write_rows(alloc, jobs.set(), rows)?)
 }
 
 /// Their text.
 fn text_of(alloc: Global, protocol: Protocol, set: &str, jobs: &str) -> Result<Vec<u8>, Fail> {
-    let set = set_of(alloc, protocol, set)?;
-    let jobs = jobs_of(alloc, &set, jobs)?;
+    let set = set_in(alloc, set)?;
+    let jobs = jobs_in(alloc, &set, jobs)?;
     let rows = rows_of(alloc, protocol, &jobs)?;
-    Ok(written(alloc, &jobs, &rows)?)
+    written(alloc, &jobs, &rows)
 }
 
 /// A task on each of three processors. They share `q`, whose home is a fourth processor without tasks.
@@ -77,19 +58,45 @@ const BY_ISSUE: &str =
 const AT_HOME: &str =
     "ticks,P1,P2,P3,P4,q\n1,,,3,,\n1,,2,,3,3\n1,1,,,3,3\n1,,,,3,3\n1,,,3,1,1\n1,1,,,2,2\n1,,2,,,\n3,,,,,\n";
 
+// The protocol makes these rows.
+fn makes(rt: &impl Abort, alloc: Global, protocol: Protocol, rows: &str) -> Result<(), Fail> {
+    let text = text_of(alloc, protocol, SHARED, SHARED_JOBS)?;
+    assert_eq!(rt; text.as_slice(), rows.as_bytes());
+    Ok(())
+}
+
 #[test]
 fn each_protocol_makes_its_own_schedule(rt: HostRuntime) -> Result<(), Fail> {
-    for (protocol, rows) in [
-        (Protocol::Mpcp, BY_TASK),
-        (Protocol::FmlpPlus, BY_ISSUE),
-        (Protocol::Dpcp, AT_HOME),
-    ] {
-        assert_eq!(rt;
-            text_of(rt.alloc(), protocol, SHARED, SHARED_JOBS)?.as_slice(),
-            rows.as_bytes()
-        );
+    makes(&rt, rt.alloc(), Protocol::Mpcp, BY_TASK)?;
+    makes(&rt, rt.alloc(), Protocol::FmlpPlus, BY_ISSUE)?;
+    makes(&rt, rt.alloc(), Protocol::Dpcp, AT_HOME)
+}
+
+fn conforming(
+    alloc: Global,
+    protocol: Protocol,
+    jobs: &JobList,
+    rows: &RowList,
+) -> Result<Measured, Unlawful>
+    requires suits { HasHomesFor protocol jobs.now.set }
+    requires fits { is_fitting rows.now jobs.now ≡ true }
+{
+    conform(alloc, protocol, jobs, rows)
+}
+
+fn measured(
+    alloc: Global,
+    protocol: Protocol,
+    jobs: &JobList,
+    rows: &RowList,
+) -> Result<Vec<TaskMeasure>, Fail> {
+    if !suits(jobs.set(), protocol) || !rows.fits(jobs) {
+        return Err("not rows for the jobs and the protocol".into());
     }
-    Ok(())
+    match conforming(alloc, protocol, jobs, rows) {
+        Ok(measured) => Ok(measured.tasks),
+        Err(_) => Err("unlawful, or out of memory".into()),
+    }
 }
 
 /// What is measured of each task over the rows that the protocol chooses in ten ticks.
@@ -99,13 +106,10 @@ fn measures_of(
     set: &str,
     jobs: &str,
 ) -> Result<Vec<TaskMeasure>, Fail> {
-    let set = set_of(alloc, protocol, set)?;
-    let jobs = jobs_of(alloc, &set, jobs)?;
+    let set = set_in(alloc, set)?;
+    let jobs = jobs_in(alloc, &set, jobs)?;
     let rows = rows_of(alloc, protocol, &jobs)?;
-    match conform(alloc, protocol, &jobs, &rows) {
-        Ok(measured) => Ok(measured.tasks),
-        Err(_) => Err("unlawful, or out of memory".into()),
-    }
+    measured(alloc, protocol, &jobs, &rows)
 }
 
 /// Has each task one finished job, with this response and this blocking?

@@ -7,4 +7,4 @@ use Rattle.schedule_cases.proofs.simulate_tests.written.Goals as goal
 pub write_rows-requires : goal.write_rows-requires
 write_rows-requires c =
     subst (λ (s : SetDef). are_sized s c.args.rows.now.runs ≡ true) (sym c.set.ensures)
-    (sized_if_fitting c.args.jobs.now c.args.rows.now.runs c.requires)
+    (sized_if_fitting c.args.jobs.now c.args.rows.now.runs (sym c.if-not-fits.ensures.value))
