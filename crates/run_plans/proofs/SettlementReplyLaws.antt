@@ -56,7 +56,8 @@ settlement_of_answer p digest set n (Ok (settled.Refused refusal)) a from right 
   record { holds = right.0; writable = steps_writable (steps_seen refusal) small; from = refused_from p set n refusal from },
   is,
 ))
-settlement_of_answer p digest set n (Err (stop.Wide task)) a from right wide enough names small is = inr (inr (inl (task.0, names, record { left = from; cause = wide }, is)))
+settlement_of_answer p digest set n (Err (stop.Wide task)) a from right wide enough names small is =
+    inr (inr (inl (task.0, names, record { left = from; cause = wide }, is)))
 settlement_of_answer p digest set n (Err stop.Allowance) a from right wide enough names small is = inr (inr (inr (from, is)))
 settlement_of_answer p digest set n (Err stop.Memory) a from right wide enough names small is = absurd is
 

@@ -9,8 +9,8 @@ ghost use Rattle.settling.specs.Answers.{RefusesBySmallSteps, RefusesIn64Bits, I
 
 use crate::answer::{SettleStop, Settled};
 use crate::finding::Points;
-use crate::refusals::{answer_confirmed, keeps_64_bits, refuse_by_rounded_points};
 use crate::laws::certificates_of_analyses_need_no_more_bits;
+use crate::refusals::{answer_confirmed, keeps_64_bits, refuse_by_rounded_points};
 use crate::rising::{Risen, rise};
 use charged_protocols::{ChargedProtocol, charged_protocols_are_analysed};
 use program_sources::ProgramSource;

@@ -13,7 +13,8 @@ returns-then-eq-clause-found g c =
     let last = c.in-Some.last.now in
     let at : slice_get c.args.before.now c.args.i.0 ≡ Some c.in-Some.last.now =
     slice_get_read c.args.before.now (length c.args.before.now) c.args.i.0 last refl look.3.0 look.1 in
-    let stay : c.in-Some.last.now.limits.items ≡ c.in_ok-limits.limits.items = same_vectors last.limits.items c.in_ok-limits.limits.items c.if-eq.ensures in
+    let stay : c.in-Some.last.now.limits.items ≡ c.in_ok-limits.limits.items =
+    same_vectors last.limits.items c.in_ok-limits.limits.items c.if-eq.ensures in
     taken_over c.args.points f c.requires.before.0 c.args.bounds.now c.args.i.0 c.args.before.now last c.in_ok-reached.reached
     c.in_ok-limits.limits.items
     (λ u v most. g.met.P.ProgramSource.rises c.args.protocol.now c.args.set.now c.args.i.0 u v c.requires.serves c.requires.task most)
