@@ -1,9 +1,12 @@
-use schedule_model::{JobId, JobList};
+ghost use Rattle.std.specs.Prelude.{◌<◌, length};
+
+use crate::texts::{jobs_in, set_in};
+use schedule_model::{JobId, JobList, ListedScript, Segment};
+use sporadic_model::TaskId;
 use std::alloc::{AllocError, Global};
 use std::fmt::Write;
 use std::test::Fail;
-use trace_csv::read_jobs;
-use worked_sets::files::{PAIR, set_from};
+use worked_sets::files::PAIR;
 
 /// Two tasks on one processor. The higher is released up to 4 ticks after it arrives.
 const JITTER: &str = r#"{"processors":1,"tasks":[
@@ -16,21 +19,46 @@ const RELEASES: &str = "task,release,script";
 
 const ARRIVALS: &str = "task,arrival,release,script";
 
-/// A line for each job: its task, counted from 0, its arrival, its release and its script, in which resources are
-/// counted from 0.
+/// Adds the local ticks of the segment, and its resource, counted from 0, with the ticks of its request.
+fn push_segment(text: &mut String, segment: Segment) -> Result<(), AllocError> {
+    write!(text, "{}", segment.local)?;
+    match segment.request {
+        Some((q, ticks)) => write!(text, " {}:{ticks} ", q.0),
+        None => Ok(()),
+    }
+}
+
+fn push_script(text: &mut String, script: &ListedScript) -> Result<(), AllocError> {
+    for n in 0..script.len() {
+        push_segment(text, script.at(n))?;
+    }
+    Ok(())
+}
+
+fn push_times(
+    text: &mut String,
+    task: TaskId,
+    arrival: u64,
+    release: u64,
+) -> Result<(), AllocError> {
+    write!(text, "{},{arrival},{release},", task.0)
+}
+
+/// Adds a line of the job: its task, counted from 0, its arrival, its release and its script.
+fn push_job(text: &mut String, jobs: &JobList, j: u32) -> Result<(), AllocError>
+    requires { j < length jobs.now.jobs }
+{
+    let job = jobs.job(JobId(j));
+    push_times(text, job.task, job.arrival, job.release)?;
+    push_script(text, &job.script)?;
+    text.push_str("\n")
+}
+
+/// A line for each job.
 fn described(alloc: Global, jobs: &JobList) -> Result<String, AllocError> {
     let mut text = String::new(alloc);
     for j in 0..jobs.len() {
-        let job = jobs.job(JobId(j));
-        write!(text, "{},{},{},", job.task.0, job.arrival, job.release)?;
-        for n in 0..job.script.len() {
-            let segment = job.script.at(n);
-            write!(text, "{}", segment.local)?;
-            if let Some((q, ticks)) = segment.request {
-                write!(text, " {}:{ticks} ", q.0)?;
-            }
-        }
-        text.push_str("\n")?;
+        push_job(&mut text, jobs, j)?;
     }
     Ok(text)
 }
@@ -76,14 +104,23 @@ const CASES: &[Case] = &[
 
 const PAIR_READ: &str = "0,3,3,1 0:1 1\n1,0,0,1 0:2 1\n";
 
+/// What is read of the case's text.
+fn read_of(alloc: Global, set: &str, header: &str, lines: &str) -> Result<String, Fail> {
+    let set = set_in(alloc, set)?;
+    let text = format!(in alloc; "{header}\n{lines}")?;
+    let jobs = jobs_in(alloc, &set, text.as_str())?;
+    Ok(described(alloc, &jobs)?)
+}
+
+fn is_read(alloc: Global, case: &Case) -> Result<bool, Fail> {
+    let (set, header, lines, wanted) = *case;
+    Ok(read_of(alloc, set, header, lines)?.as_str() == wanted)
+}
+
 #[test]
 fn reads_arrivals_releases_and_scripts_under_both_headers(rt: HostRuntime) -> Result<(), Fail> {
-    for (set, header, lines, wanted) in CASES {
-        let set = set_from(rt.alloc(), set)?;
-        let text = format!(in rt.alloc(); "{header}\n{lines}")?;
-        let jobs = read_jobs(rt.alloc(), &set, text.as_bytes())?;
-        let described = described(rt.alloc(), &jobs)?;
-        assert!(rt; described.as_str() == *wanted, "at {lines}");
+    for case in CASES {
+        assert!(rt; is_read(rt.alloc(), case)?, "at {}", case.2);
     }
     Ok(())
 }

@@ -1,10 +1,11 @@
 use cert_json::{CertRefusal, digest_text, read, read_old, set_digest, write};
 use program_form::{Certificate, Dual};
 use std::alloc::{AllocError, Global};
+use std::process::Abort;
 use std::test::Fail;
 
-/// More bytes than any text of these tests has.
-const MOST_TEXT: usize = 100_000;
+/// No text of these tests has more bytes.
+const MOST_TEXT: usize = 600_000;
 
 /// The digest of no set.
 const DIGEST: [u8; 32] = [0xab; 32];
@@ -15,13 +16,6 @@ const OF_TWO: &str =
 
 const OLD_OF_TWO: &str =
     "{\"bounds\":[5,5],\"duals\":[{\"den\":1,\"num\":[2,0,0,0]},{\"den\":1,\"num\":[1,0,0,0]}],\"protocol\":\"fmlp+\",\"verdict\":\"schedulable\",\"version\":1}\n";
-
-fn dual(alloc: Global, den: u64, num: &[u64]) -> Result<Dual, AllocError> {
-    Ok(Dual {
-        den,
-        num: num.to_vec(alloc)?,
-    })
-}
 
 /// A text, and its digest as the standard gives it.
 const DIGESTS: &[(&str, &str)] = &[
@@ -35,26 +29,47 @@ const DIGESTS: &[(&str, &str)] = &[
     ),
 ];
 
-#[test]
-fn a_digest_is_written_in_hexadecimal(rt: HostRuntime) -> Result<(), Fail> {
-    for (bytes, text) in DIGESTS {
-        let digest = digest_text(rt.alloc(), &set_digest(bytes.as_bytes()))?;
-        assert_eq!(rt; digest.as_str(), *text);
-    }
+// The digest of the text is written so.
+fn is_digest(rt: &impl Abort, alloc: Global, text: &str, wanted: &str) -> Result<(), AllocError> {
+    let digest = digest_text(alloc, &set_digest(text.as_bytes()))?;
+    assert_eq!(rt; digest.as_str(), wanted);
     Ok(())
 }
 
 #[test]
-fn writes_the_certificate_of_two_tasks(rt: HostRuntime) -> Result<(), Fail> {
-    let alloc = rt.alloc();
-    let certificate = Certificate {
+fn a_digest_is_written_in_hexadecimal(rt: HostRuntime) -> Result<(), Fail> {
+    for (text, wanted) in DIGESTS {
+        is_digest(&rt, rt.alloc(), text, wanted)?;
+    }
+    Ok(())
+}
+
+fn dual(alloc: Global, den: u64, num: &[u64]) -> Result<Dual, AllocError> {
+    Ok(Dual {
+        den,
+        num: num.to_vec(alloc)?,
+    })
+}
+
+fn of_two(alloc: Global) -> Result<Certificate, AllocError> {
+    let mut duals = Vec::new(alloc);
+    duals.push(dual(alloc, 1, &[2, 0, 0, 0])?)?;
+    duals.push(dual(alloc, 1, &[1, 0, 0, 0])?)?;
+    Ok(Certificate {
         bounds: vec![in alloc; 5, 5]?,
-        duals: vec![in alloc;
-            dual(alloc, 1, &[2, 0, 0, 0])?,
-            dual(alloc, 1, &[1, 0, 0, 0])?,
-        ]?,
-    };
-    let text = write(alloc, "fmlp+", &DIGEST, &certificate)?;
+        duals,
+    })
+}
+
+/// The text of the certificate of no set. It has no contract, so what its callers know doesn't have the text.
+fn written(alloc: Global, word: &str, certificate: &Certificate) -> Result<Vec<u8>, AllocError> {
+    write(alloc, word, &DIGEST, certificate)
+}
+
+#[test]
+fn writes_the_certificate_of_two_tasks(rt: HostRuntime) -> Result<(), Fail> {
+    let certificate = of_two(rt.alloc())?;
+    let text = written(rt.alloc(), "fmlp+", &certificate)?;
     assert_eq!(rt; text.as_slice(), OF_TWO.as_bytes());
     Ok(())
 }
@@ -62,13 +77,13 @@ fn writes_the_certificate_of_two_tasks(rt: HostRuntime) -> Result<(), Fail> {
 /// What the text is read as, written again; or why it is refused.
 fn again(
     alloc: Global,
-    text: &str,
+    text: &[u8],
     word: &str,
 ) -> Result<Result<Vec<u8>, CertRefusal>, AllocError> {
     if text.len() > MOST_TEXT {
         return Ok(Err(CertRefusal::NotJson));
     }
-    match read(alloc, text.as_bytes(), word) {
+    match read(alloc, text, word) {
         Ok(file) => Ok(Ok(write(alloc, word, &file.digest, &file.certificate)?)),
         Err(refusal) => Ok(Err(refusal)),
     }
@@ -97,39 +112,62 @@ const READ: &[(&str, &str, &str)] = &[
     (GREATEST, "mpcp", GREATEST),
 ];
 
-#[test]
-fn reads_what_is_written(rt: HostRuntime) -> Result<(), Fail> {
-    for (text, word, written) in READ {
-        match again(rt.alloc(), text, word)? {
-            Ok(line) => assert_eq!(rt; line.as_slice(), written.as_bytes()),
-            Err(refusal) => assert_eq!(rt; Some(refusal), None, "at {text}"),
-        }
+// What the text is read as gives the wanted text.
+fn gives(
+    rt: &impl Abort,
+    alloc: Global,
+    text: &str,
+    word: &str,
+    wanted: &str,
+) -> Result<(), AllocError> {
+    match again(alloc, text.as_bytes(), word)? {
+        Ok(line) => assert_eq!(rt; line.as_slice(), wanted.as_bytes()),
+        Err(refusal) => assert_eq!(rt; Some(refusal), None, "at {text}"),
     }
     Ok(())
+}
+
+#[test]
+fn reads_what_is_written(rt: HostRuntime) -> Result<(), Fail> {
+    for (text, word, wanted) in READ {
+        gives(&rt, rt.alloc(), text, word, wanted)?;
+    }
+    Ok(())
+}
+
+fn refusal_of(alloc: Global, text: &str, word: &str) -> Result<Option<CertRefusal>, AllocError> {
+    Ok(again(alloc, text.as_bytes(), word)?.err())
 }
 
 // No command asks for the last two words.
 #[test]
 fn refuses_a_certificate_for_another_protocol(rt: HostRuntime) -> Result<(), Fail> {
     for word in &["mpcp", "dpcp", "fmlp", ""] {
-        match again(rt.alloc(), OF_TWO, word)? {
-            Ok(_) => return Err("is not refused".into()),
-            Err(refusal) => assert_eq!(rt; refusal, CertRefusal::OtherProtocol),
-        }
+        let refusal = refusal_of(rt.alloc(), OF_TWO, word)?;
+        assert!(rt; refusal == Some(CertRefusal::OtherProtocol));
     }
     Ok(())
 }
 
+/// What the text of version 1 is read as, written as version 2; or why it is refused.
+fn renewed(
+    alloc: Global,
+    text: &str,
+    word: &str,
+) -> Result<Result<Vec<u8>, CertRefusal>, AllocError> {
+    if text.len() > MOST_TEXT {
+        return Ok(Err(CertRefusal::NotJson));
+    }
+    match read_old(alloc, text.as_bytes(), word) {
+        Ok(certificate) => Ok(Ok(written(alloc, word, &certificate)?)),
+        Err(refusal) => Ok(Err(refusal)),
+    }
+}
+
 #[test]
 fn the_version_before_is_written_with_a_digest(rt: HostRuntime) -> Result<(), Fail> {
-    if OLD_OF_TWO.len() > MOST_TEXT {
-        return Ok(());
-    }
-    match read_old(rt.alloc(), OLD_OF_TWO.as_bytes(), "fmlp+") {
-        Ok(certificate) => {
-            let text = write(rt.alloc(), "fmlp+", &DIGEST, &certificate)?;
-            assert_eq!(rt; text.as_slice(), OF_TWO.as_bytes());
-        }
+    match renewed(rt.alloc(), OLD_OF_TWO, "fmlp+")? {
+        Ok(text) => assert_eq!(rt; text.as_slice(), OF_TWO.as_bytes()),
         Err(refusal) => assert_eq!(rt; Some(refusal), None),
     }
     Ok(())
@@ -152,15 +190,12 @@ fn largest(alloc: Global) -> Result<Certificate, AllocError> {
 
 #[test]
 fn reads_half_a_megabyte_that_was_written(rt: HostRuntime) -> Result<(), Fail> {
-    let text = write(rt.alloc(), "dpcp", &DIGEST, &largest(rt.alloc())?)?;
-    if text.len() < 512_000 || text.len() > 600_000 {
+    let text = written(rt.alloc(), "dpcp", &largest(rt.alloc())?)?;
+    if text.len() < 512_000 || text.len() > MOST_TEXT {
         return Err("64 times 400 numerators take 20 bytes each".into());
     }
-    match read(rt.alloc(), &text, "dpcp") {
-        Ok(file) => {
-            let again = write(rt.alloc(), "dpcp", &file.digest, &file.certificate)?;
-            assert!(rt; again == text);
-        }
+    match again(rt.alloc(), &text, "dpcp")? {
+        Ok(again) => assert!(rt; again == text),
         Err(refusal) => assert_eq!(rt; Some(refusal), None),
     }
     Ok(())

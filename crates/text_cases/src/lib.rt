@@ -13,3 +13,5 @@ mod row_text_tests;
 mod schedule_tests;
 #[cfg(test)]
 mod set_tests;
+#[cfg(test)]
+mod texts;

@@ -2,6 +2,7 @@ use program_form::Dual;
 use refusal_json::{ReadFault, read_refusal, write_refusal};
 use refusal_laws::{Refusal, RefusalStep};
 use std::alloc::{AllocError, Global};
+use std::process::Abort;
 use std::test::Fail;
 
 /// The digest of no set.
@@ -28,13 +29,20 @@ fn step(
     })
 }
 
+/// The text of the refusal for no set. It has no contract, so what its callers know doesn't have the text.
+fn written(alloc: Global, word: &str, refusal: &Refusal) -> Result<Vec<u8>, AllocError> {
+    write_refusal(alloc, word, &DIGEST, refusal)
+}
+
+fn of_one(alloc: Global) -> Result<Refusal, AllocError> {
+    let mut steps = Vec::new(alloc);
+    steps.push(step(alloc, 1, 5, 1, &[1])?)?;
+    Ok(Refusal { steps })
+}
+
 #[test]
 fn writes_the_refusal_of_one_step(rt: HostRuntime) -> Result<(), Fail> {
-    let alloc = rt.alloc();
-    let refusal = Refusal {
-        steps: vec![in alloc; step(alloc, 1, 5, 1, &[1])?]?,
-    };
-    let text = write_refusal(alloc, "mpcp", &DIGEST, &refusal)?;
+    let text = written(rt.alloc(), "mpcp", &of_one(rt.alloc())?)?;
     assert_eq!(rt; text.as_slice(), OF_ONE.as_bytes());
     Ok(())
 }
@@ -73,23 +81,39 @@ const READ: &[(&str, &str, &str)] = &[
     (GREATEST, "spin", GREATEST),
 ];
 
-#[test]
-fn reads_what_is_written(rt: HostRuntime) -> Result<(), Fail> {
-    for (text, word, written) in READ {
-        match again(rt.alloc(), text, word)? {
-            Ok(line) => assert_eq!(rt; line.as_slice(), written.as_bytes()),
-            Err(fault) => assert_eq!(rt; Some(fault), None, "at {text}"),
-        }
+// What the text is read as gives the wanted text.
+fn gives(
+    rt: &impl Abort,
+    alloc: Global,
+    text: &str,
+    word: &str,
+    wanted: &str,
+) -> Result<(), AllocError> {
+    match again(alloc, text, word)? {
+        Ok(line) => assert_eq!(rt; line.as_slice(), wanted.as_bytes()),
+        Err(fault) => assert_eq!(rt; Some(fault), None, "at {text}"),
     }
     Ok(())
+}
+
+#[test]
+fn reads_what_is_written(rt: HostRuntime) -> Result<(), Fail> {
+    for (text, word, wanted) in READ {
+        gives(&rt, rt.alloc(), text, word, wanted)?;
+    }
+    Ok(())
+}
+
+fn fault_of(alloc: Global, text: &str, word: &str) -> Option<ReadFault> {
+    read_refusal(alloc, text.as_bytes(), word).err()
 }
 
 // No command asks for the last two words.
 #[test]
 fn takes_no_refusal_for_another_protocol(rt: HostRuntime) -> Result<(), Fail> {
     for word in &["fmlp+", "dpcp", "MPCP", ""] {
-        let fault = read_refusal(rt.alloc(), OF_ONE.as_bytes(), word).err();
-        assert_eq!(rt; fault, Some(ReadFault::OtherProtocol));
+        let fault = fault_of(rt.alloc(), OF_ONE, word);
+        assert!(rt; fault == Some(ReadFault::OtherProtocol));
     }
     Ok(())
 }

@@ -1,47 +1,86 @@
 ghost use Rattle.std.specs.Prelude.{◌<◌, length};
 
+use crate::texts::set_in;
 use sporadic_model::{Protocol, ResourceId, TaskId, TaskSet};
 use std::alloc::{AllocError, Global};
 use std::fmt::Write;
+use std::process::Abort;
 use std::test::Fail;
 use taskset_json::{SetRefusal, home_check};
-use worked_sets::files::set_from;
+
+/// Adds a line of the resource: its name, and its home if it has one.
+fn push_resource(text: &mut String, name: &str, home: Option<u32>) -> Result<(), AllocError> {
+    match home {
+        Some(processor) => writeln!(text, "{name} at {processor}"),
+        None => writeln!(text, "{name}"),
+    }
+}
+
+/// The processor, the period, the deadline, the cost, the local limit and the jitter of a task.
+type Numbers = (u32, u64, u64, u64, u64, u64);
+
+fn numbers(set: &TaskSet, x: TaskId) -> Numbers
+    requires { x.0 < length set.now.tasks }
+{
+    (
+        set.processor(x),
+        set.period(x),
+        set.deadline(x),
+        set.cost(x),
+        set.local(x),
+        set.jitter(x),
+    )
+}
+
+fn push_numbers(text: &mut String, name: &str, numbers: Numbers) -> Result<(), AllocError> {
+    let (processor, period, deadline, cost, local, jitter) = numbers;
+    writeln!(
+        text,
+        "{name} on {processor}: {period} {deadline} {cost} {local} {jitter}"
+    )
+}
+
+/// Adds a line of the resource that a task uses, if it does.
+fn push_use(text: &mut String, name: &str, count: u64, length: u64) -> Result<(), AllocError> {
+    if count == 0 {
+        return Ok(());
+    }
+    writeln!(text, "  {name} {count} {length}")
+}
+
+fn push_task(text: &mut String, set: &TaskSet, x: TaskId) -> Result<(), AllocError>
+    requires { x.0 < length set.now.tasks }
+{
+    push_numbers(text, set.task_name(x), numbers(set, x))?;
+    for q in 0..set.resources() {
+        let q = ResourceId(q);
+        push_use(
+            text,
+            set.resource_name(q),
+            set.count(x, q),
+            set.length(x, q),
+        )?;
+    }
+    Ok(())
+}
+
+fn push_resources(text: &mut String, set: &TaskSet) -> Result<(), AllocError> {
+    for q in 0..set.resources() {
+        let q = ResourceId(q);
+        push_resource(text, set.resource_name(q), set.home(q))?;
+    }
+    Ok(())
+}
 
 /// A line for each resource and each task, and after a task one for each resource that it uses.
 fn described(alloc: Global, set: &TaskSet) -> Result<String, AllocError> {
     let mut text = String::new(alloc);
     writeln!(text, "{} processors", set.processors())?;
-    for q in 0..set.resources() {
-        let name = set.resource_name(ResourceId(q));
-        match set.home(ResourceId(q)) {
-            Some(processor) => writeln!(text, "{name} at {processor}")?,
-            None => writeln!(text, "{name}")?,
-        }
-    }
+    push_resources(&mut text, set)?;
     for x in 0..set.tasks() {
-        described_task(&mut text, set, TaskId(x))?;
+        push_task(&mut text, set, TaskId(x))?;
     }
     Ok(text)
-}
-
-fn described_task(text: &mut String, set: &TaskSet, x: TaskId) -> Result<(), AllocError>
-    requires { x.0 < length set.now.tasks }
-{
-    let name = set.task_name(x);
-    let (processor, period, deadline) = (set.processor(x), set.period(x), set.deadline(x));
-    let (cost, local, jitter) = (set.cost(x), set.local(x), set.jitter(x));
-    writeln!(
-        text,
-        "{name} on {processor}: {period} {deadline} {cost} {local} {jitter}"
-    )?;
-    for q in 0..set.resources() {
-        let q = ResourceId(q);
-        let (name, count, length) = (set.resource_name(q), set.count(x, q), set.length(x, q));
-        if count > 0 {
-            writeln!(text, "  {name} {count} {length}")?;
-        }
-    }
-    Ok(())
 }
 
 /// Each member, in any order. The task `t2` has only those that it must have.
@@ -59,21 +98,29 @@ const LEAST: &str = r#"{"processors":1,"tasks":[{"name":"t","processor":1,"perio
 
 const LEAST_READ: &str = "1 processors\nt on 1: 8 8 3 3 0\n";
 
-#[test]
-fn reads_each_member_and_the_least_set(rt: HostRuntime) -> Result<(), Fail> {
-    for (text, lines) in &[(MEMBERS, MEMBERS_READ), (LEAST, LEAST_READ)] {
-        let set = set_from(rt.alloc(), text)?;
-        assert_eq!(rt; described(rt.alloc(), &set)?.as_str(), *lines);
-    }
+// The set of the text is described by these lines.
+fn is_described(rt: &impl Abort, alloc: Global, text: &str, lines: &str) -> Result<(), Fail> {
+    let set = set_in(alloc, text)?;
+    assert_eq!(rt; described(alloc, &set)?.as_str(), lines);
     Ok(())
 }
 
 #[test]
+fn reads_each_member_and_the_least_set(rt: HostRuntime) -> Result<(), Fail> {
+    is_described(&rt, rt.alloc(), MEMBERS, MEMBERS_READ)?;
+    is_described(&rt, rt.alloc(), LEAST, LEAST_READ)
+}
+
+fn home_refusal(set: &TaskSet, protocol: Protocol) -> Option<SetRefusal> {
+    home_check(set, protocol).err()
+}
+
+#[test]
 fn asks_for_homes_under_dpcp_alone(rt: HostRuntime) -> Result<(), Fail> {
-    let set = set_from(rt.alloc(), MEMBERS)?;
-    let homeless = Err(SetRefusal::NoHome(ResourceId(1)));
-    assert_eq!(rt; home_check(&set, Protocol::Dpcp), homeless);
-    assert_eq!(rt; home_check(&set, Protocol::Mpcp), Ok(()));
+    let set = set_in(rt.alloc(), MEMBERS)?;
+    let homeless = Some(SetRefusal::NoHome(ResourceId(1)));
+    assert!(rt; home_refusal(&set, Protocol::Dpcp) == homeless);
+    assert!(rt; home_refusal(&set, Protocol::Mpcp).is_none());
     Ok(())
 }
 
@@ -122,16 +169,28 @@ fn largest(alloc: Global) -> Result<String, AllocError> {
     Ok(text)
 }
 
+fn has_task(set: &TaskSet, x: TaskId, name: &str, period: u64, cost: u64) -> bool {
+    x.0 < set.tasks() && set.task_name(x) == name && set.period(x) == period && set.cost(x) == cost
+}
+
+/// Has a job of the task so many requests of the resource, of this length?
+fn has_requests(set: &TaskSet, x: TaskId, q: ResourceId, count: u64, length: u64) -> bool {
+    x.0 < set.tasks()
+        && q.0 < set.resources()
+        && set.count(x, q) == count
+        && set.length(x, q) == length
+}
+
 #[test]
 fn reads_a_set_at_all_its_limits(rt: HostRuntime) -> Result<(), Fail> {
     let text = largest(rt.alloc())?;
-    let set = set_from(rt.alloc(), text.as_str())?;
+    let set = set_in(rt.alloc(), text.as_str())?;
     assert!(rt; set.tasks() == 64);
     assert!(rt; set.resources() == 32);
     let (x, q) = (TaskId(63), ResourceId(31));
-    assert_eq!(rt; set.task_name(x), "a_task_whose_name_has_32_bytes73");
-    assert_eq!(rt; [set.period(x), set.cost(x)], [1_000_000_000; 2]);
-    assert_eq!(rt; [set.count(x, q), set.length(x, q)], [1000, 999_999_999]);
-    assert_eq!(rt; home_check(&set, Protocol::Dpcp), Ok(()));
+    let name = "a_task_whose_name_has_32_bytes73";
+    assert!(rt; has_task(&set, x, name, 1_000_000_000, 1_000_000_000));
+    assert!(rt; has_requests(&set, x, q, 1000, 999_999_999));
+    assert!(rt; home_refusal(&set, Protocol::Dpcp).is_none());
     Ok(())
 }
