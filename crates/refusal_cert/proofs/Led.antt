@@ -8,7 +8,8 @@ use Rattle.std.proofs.lemmas.List.{append-nil, get_or_push, get_or_append_left, 
 use Rattle.number_laws.specs.Sums.{sum_below}
 use Rattle.program_form.specs.Certificate.{DualDef}
 use Rattle.program_form.specs.Limits.{HasLimitsAtMost}
-use Rattle.program_form.specs.Program.{ProgramDef}
+use Rattle.program_form.specs.Points.{IsScaledPoint}
+use Rattle.program_form.specs.Program.{ProgramDef, columns}
 use Rattle.program_form.proofs.Points.{kept_by_greater}
 use Rattle.program_sources.specs.Bounds.{AtMost}
 use Rattle.program_sources.specs.Recurrence.{SourceDef, IsResponse, response_with, interference_of}
@@ -27,16 +28,16 @@ use Rattle.refusal_cert.proofs.PointLaws.{IsBestPoint, best_point}
 use Rattle.refusal_cert.proofs.RoundSteps.{step_above, no_step_below, steps_more}
 
 -- The bounds that steps come to.
-abbrev after_all : SourceDef → List StepDef → List ℕ
+abbrev pub after_all : SourceDef → List StepDef → List ℕ
 after_all f steps = after_steps (costs_of f.set) steps
 
-after_all_length : (f : SourceDef) (steps : List StepDef) → length (after_all f steps) ≡ tasks_of f
+pub after_all_length : (f : SourceDef) (steps : List StepDef) → length (after_all f steps) ≡ tasks_of f
 after_all_length f steps = after_length (costs_of f.set) steps ∙ costs_length f.set
 
 -- A list of steps, each of which is one at the bounds before it. None passes its task's latest bound.
-record Leads (f : SourceDef) (steps : List StepDef) : Type 0 where
-  each : (k : ℕ) → k < length steps → IsStep f (vector_before f.set steps k) (step_at steps k)
-  calm : (k : ℕ) → k < length steps → PassesLatest f.set (step_at steps k) → ⊥
+pub record Leads (f : SourceDef) (steps : List StepDef) : Type 0 where
+  pub each : (k : ℕ) → k < length steps → IsStep f (vector_before f.set steps k) (step_at steps k)
+  pub calm : (k : ℕ) → k < length steps → PassesLatest f.set (step_at steps k) → ⊥
 
 each_more : (f : SourceDef) (steps : List StepDef) (s : StepDef) → Leads f steps → IsStep f (after_all f steps) s
     → (k : ℕ) → k < length (steps ++ s ∷ []) → IsStep f (vector_before f.set (steps ++ s ∷ []) k) (step_at (steps ++ s ∷ []) k)
@@ -78,7 +79,7 @@ leads_more f steps s leads is low = record {
   ];
 }
 
-last_holds : (f : SourceDef) (steps : List StepDef) (s : StepDef) → Leads f steps → IsStep f (after_all f steps) s
+pub last_holds : (f : SourceDef) (steps : List StepDef) (s : StepDef) → Leads f steps → IsStep f (after_all f steps) s
     → PassesLatest f.set s → Holds f (steps ++ s ∷ [])
 last_holds f steps s leads is late = record {
   some = omega (arith, length-append steps (s ∷ []));
@@ -91,59 +92,68 @@ last_holds f steps s leads is late = record {
 }
 
 -- A step's task, counted from 0.
-own : (i value : ℕ) (point : DualDef) → place_of (step_of i value point) ≡ i
+pub own : (i value : ℕ) (point : DualDef) → place_of (step_of i value point) ≡ i
 own i value point = omega arith
 
--- The step of a run at the bounds r. It is a step at any bounds that are at least r and lie below the value at the task's place.
-step_is : (f : SourceDef) → LimitsRise f → (r v : List ℕ) (i left used value : ℕ) (point : DualDef) → AtMost (tasks_of f) r v
-    → i < tasks_of f → slice_index v i < value → slice_index r i < value → PointRuns f r i left (Valued used value point)
-    → IsStep f v (step_of i value point)
-step_is f rise r v i left used value point above here rising past (dual, run, gives) =
+-- A point of task i's program at the bounds r, and the response time with the ticks that it is worth there. They make a step at any bounds
+-- that are at least r, if these lie below the value at the task's place.
+pub step_of_point : (f : SourceDef) → LimitsRise f → (r v : List ℕ) (i ticks value : ℕ) (point : DualDef) → AtMost (tasks_of f) r v
+    → i < tasks_of f → slice_index v i < value → length point.num ≡ columns (f.program i r)
+    → IsScaledPoint (f.program i r) point.den (slice_index point.num) → ticks ≤ whole_worth (f.program i r) point
+    → value ≤ response_with f r i ticks → IsStep f v (step_of i value point)
+step_of_point f rise r v i ticks value point above here rising size rows whole most =
     let p : ProgramDef = f.program i r in
     let q : ProgramDef = f.program i v in
-    let solved = run.ends in
-    let b : ℕ = solved.response.blocking in
-    let best : IsBestPoint p point b = best_point p left solved.exchanges solved.optimum solved.best dual point b run.is_program solved.ends
-    (gives.above past) solved.response.greatest in
     let less : HasLimitsAtMost p q = rise i r v here above in
     let worths : whole_worth p point ≡ whole_worth q point =
     ap (λ (costs : List ℕ). sum_below (length costs) (λ c. slice_index costs c * slice_index point.num c) / point.den) less.same_costs in
     let more : interference_of f.interfering f.set r i ≤ interference_of f.interfering f.set v i =
     interference_rises f.interfering f.set r v i here above in
-    let is : value ≡ response_with f r i b = solved.response.response in
-    let low : value ≤ response_with f v i (whole_worth q point) = omega (arith, is, best.whole, worths, more) in
+    let low : value ≤ response_with f v i (whole_worth q point) = omega (arith, most, whole, worths, more) in
     let at : IsStepAt f v i value point = record {
       task = here;
       rising = rising;
-      size = best.size ∙ ap length less.same_costs;
-      rows = kept_by_greater p q point.den (slice_index point.num) less best.rows;
+      size = size ∙ ap length less.same_costs;
+      rows = kept_by_greater p q point.den (slice_index point.num) less rows;
       low = low;
     } in
     record { from_one = omega arith; at = subst (λ (j : ℕ). IsStepAt f v j value point) (sym (own i value point)) at }
+
+-- The step of a run at the bounds r.
+step_is : (f : SourceDef) → LimitsRise f → (r v : List ℕ) (i left used value : ℕ) (point : DualDef) → AtMost (tasks_of f) r v
+    → i < tasks_of f → slice_index v i < value → slice_index r i < value → PointRuns f r i left (Valued used value point)
+    → IsStep f v (step_of i value point)
+step_is f rise r v i left used value point above here rising past (dual, run, gives) =
+    let p : ProgramDef = f.program i r in
+    let solved = run.ends in
+    let b : ℕ = solved.response.blocking in
+    let best : IsBestPoint p point b = best_point p left solved.exchanges solved.optimum solved.best dual point b run.is_program solved.ends
+    (gives.above past) solved.response.greatest in
+    let whole : b ≤ whole_worth p point = omega (arith, best.whole) in
+    let most : value ≤ response_with f r i b = omega (arith, solved.response.response) in
+    step_of_point f rise r v i b value point above here rising best.size best.rows whole most
 
 -- Is the recurrence at these bounds at least r?
 abbrev Rises : SourceDef → List ℕ → Type 0
 Rises f r = (i v : ℕ) → i < tasks_of f → IsResponse f r i v → slice_index r i ≤ v
 
 -- Within a round at r. The steps up to here lead to the values that were found, and to r for the tasks that are still to come.
-record IsLed (f : SourceDef) (r : List ℕ) (found : Found) (i : ℕ) (steps : List StepDef) : Type 0 where
-  leads : Leads f steps
-  above : AtMost (tasks_of f) r (after_all f steps)
-  done : (j : ℕ) → j < i → slice_index (after_all f steps) j ≡ slice_index found.values j
-  rest : (j : ℕ) → i ≤ j → slice_index (after_all f steps) j ≡ slice_index r j
+pub record IsLed (f : SourceDef) (r : List ℕ) (found : Found) (i : ℕ) (steps : List StepDef) : Type 0 where
+  pub leads : Leads f steps
+  pub above : AtMost (tasks_of f) r (after_all f steps)
+  pub done : (j : ℕ) → j < i → slice_index (after_all f steps) j ≡ slice_index found.values j
+  pub rest : (j : ℕ) → i ≤ j → slice_index (after_all f steps) j ≡ slice_index r j
 
 -- A task that gives a step.
-led_step : (f : SourceDef) → LimitsRise f → (r : List ℕ) (left i : ℕ) (before : Found) (used value : ℕ) (point : DualDef)
-    (steps : List StepDef) → i < tasks_of f → length before.values ≡ i
-    → PointRuns f r i left (Valued used value point) → value ≤ latest_of f i → IsLed f r before i steps → slice_index r i < value
-    → IsLed f r (with_task before used value point) (suc i) (steps ++ step_of i value point ∷ [])
-led_step f rise r left i before used value point steps here count run within led past =
+pub led_step : (f : SourceDef) (r : List ℕ) (i : ℕ) (before : Found) (used value : ℕ) (dual point : DualDef) (steps : List StepDef)
+    → i < tasks_of f → length before.values ≡ i → IsStep f (after_all f steps) (step_of i value point) → value ≤ latest_of f i
+    → IsLed f r before i steps → slice_index r i < value
+    → IsLed f r (with_task before used value dual) (suc i) (steps ++ step_of i value point ∷ [])
+led_step f r i before used value dual point steps here count is within led past =
     let s : StepDef = step_of i value point in
     let v : List ℕ = after_all f steps in
     let next : after_all f (steps ++ s ∷ []) ≡ with_step v s = after_both (costs_of f.set) steps (s ∷ []) in
     let place : place_of s ≡ i = own i value point in
-    let rising : slice_index v i < value = omega (arith, led.rest i (omega arith), past) in
-    let is : IsStep f v s = step_is f rise r v i left used value point led.above here rising past run in
     let low : PassesLatest f.set s → ⊥ =
     subst (λ (j : ℕ). latest_of f j < value → ⊥) (sym place) (λ late. omega (arith, within, late)) in
     let long : length v ≡ tasks_of f = after_all_length f steps in
@@ -171,7 +181,7 @@ led_step f rise r left i before used value point steps here count run within led
     }
 
 -- A task that gives none: its value is its bound.
-led_same : (f : SourceDef) (r : List ℕ) (i : ℕ) (before : Found) (used value : ℕ) (point : DualDef) (steps : List StepDef)
+pub led_same : (f : SourceDef) (r : List ℕ) (i : ℕ) (before : Found) (used value : ℕ) (point : DualDef) (steps : List StepDef)
     → length before.values ≡ i → slice_index r i ≡ value → IsLed f r before i steps
     → IsLed f r (with_task before used value point) (suc i) steps
 led_same f r i before used value point steps count same led = record {
@@ -186,6 +196,14 @@ led_same f r i before used value point steps count same led = record {
   ];
   rest = λ j l. led.rest j (omega (arith, l));
 }
+
+-- The step of a run, behind the steps up to it.
+step_there : (f : SourceDef) → LimitsRise f → (r : List ℕ) (left i : ℕ) (before : Found) (used value : ℕ) (point : DualDef)
+    (steps : List StepDef) → i < tasks_of f → PointRuns f r i left (Valued used value point) → IsLed f r before i steps
+    → slice_index r i < value → IsStep f (after_all f steps) (step_of i value point)
+step_there f rise r left i before used value point steps here run led past =
+    let rising : slice_index (after_all f steps) i < value = omega (arith, led.rest i (omega arith), past) in
+    step_is f rise r (after_all f steps) i left used value point led.above here rising past run
 
 led_task : (f : SourceDef) → LimitsRise f → (r : List ℕ) (left i : ℕ) (before : Found) (used value : ℕ) (point : DualDef)
     (steps : List StepDef) → Rises f r → i < tasks_of f → length before.values ≡ i
@@ -294,8 +312,7 @@ refusal_holds f rise fit a i v (r, left, found, used, point, below, comes, run, 
     led_round f rise r (a - comes.spent) earlier to.rises i found (omega (arith, below)) comes.passed (led_start f r earlier to) in
     let steps : List StepDef = earlier ++ round_steps r found i in
     let past : slice_index r i < v = omega (arith, to.within i below, late) in
-    let rising : slice_index (after_all f steps) i < v = omega (arith, led.rest i (omega arith), past) in
-    let is = step_is f rise r (after_all f steps) i left used v point led.above below rising past run in
+    let is = step_there f rise r left i found used v point steps below run led past in
     last_holds f steps (step_of i v point) led.leads is (subst (λ (j : ℕ). latest_of f j < v) (sym (own i v point)) late)
 
 -- And if rounds end in Schedulable, their bounds fit.
