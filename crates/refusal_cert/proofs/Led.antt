@@ -22,22 +22,14 @@ use Rattle.response_fixpoint.specs.Rounds.{Valued, NotShown, Schedulable, Found,
 use Rattle.response_fixpoint.proofs.LeastExists.{cost_below}
 use Rattle.response_fixpoint.proofs.RoundLaws.{passed_task, values_length}
 use Rattle.response_fixpoint.proofs.RunLaws.{CostsFit}
+use Rattle.refusal_cert.specs.Leading.{after_all, Leads, IsLed}
 use Rattle.refusal_cert.specs.Refuting.{PointRuns, refuting}
 use Rattle.refusal_cert.specs.Steps.{step_of, steps_over, round_steps, way_steps, refusal_of}
 use Rattle.refusal_cert.proofs.PointLaws.{IsBestPoint, best_point}
 use Rattle.refusal_cert.proofs.RoundSteps.{step_above, no_step_below, steps_more}
 
--- The bounds that steps come to.
-abbrev pub after_all : SourceDef → List StepDef → List ℕ
-after_all f steps = after_steps (costs_of f.set) steps
-
 pub after_all_length : (f : SourceDef) (steps : List StepDef) → length (after_all f steps) ≡ tasks_of f
 after_all_length f steps = after_length (costs_of f.set) steps ∙ costs_length f.set
-
--- A list of steps, each of which is one at the bounds before it. None passes its task's latest bound.
-pub record Leads (f : SourceDef) (steps : List StepDef) : Type 0 where
-  pub each : (k : ℕ) → k < length steps → IsStep f (vector_before f.set steps k) (step_at steps k)
-  pub calm : (k : ℕ) → k < length steps → PassesLatest f.set (step_at steps k) → ⊥
 
 each_more : (f : SourceDef) (steps : List StepDef) (s : StepDef) → Leads f steps → IsStep f (after_all f steps) s
     → (k : ℕ) → k < length (steps ++ s ∷ []) → IsStep f (vector_before f.set (steps ++ s ∷ []) k) (step_at (steps ++ s ∷ []) k)
@@ -136,13 +128,6 @@ step_is f rise r v i left used value point above here rising past (dual, run, gi
 -- Is the recurrence at these bounds at least r?
 abbrev Rises : SourceDef → List ℕ → Type 0
 Rises f r = (i v : ℕ) → i < tasks_of f → IsResponse f r i v → slice_index r i ≤ v
-
--- Within a round at r. The steps up to here lead to the values that were found, and to r for the tasks that are still to come.
-pub record IsLed (f : SourceDef) (r : List ℕ) (found : Found) (i : ℕ) (steps : List StepDef) : Type 0 where
-  pub leads : Leads f steps
-  pub above : AtMost (tasks_of f) r (after_all f steps)
-  pub done : (j : ℕ) → j < i → slice_index (after_all f steps) j ≡ slice_index found.values j
-  pub rest : (j : ℕ) → i ≤ j → slice_index (after_all f steps) j ≡ slice_index r j
 
 -- A task that gives a step.
 pub led_step : (f : SourceDef) (r : List ℕ) (i : ℕ) (before : Found) (used value : ℕ) (dual point : DualDef) (steps : List StepDef)

@@ -1,3 +1,4 @@
 pub mod Refuting
 pub mod Steps
+pub mod Leading
 pub mod Answers

@@ -13,7 +13,7 @@ use Rattle.program_sources.proofs.RecurrenceLaws.{one_response}
 use Rattle.exchange_runs.specs.Table.{Table}
 use Rattle.free_search.specs.Ends.{IsEndAfter, IsFoundDual, HasGreatDual}
 use Rattle.settling.specs.Rising.{IsFoundOf, AreFoundAt, IsProvedLeast}
-use Rattle.settling.specs.Ways.{AreResponses, IsAfterRounds, EndsTooGreat, LosesWhole, NoneNeedsMore, AllFitAt, IsOnWay}
+use Rattle.settling.specs.Ways.{AreResponses, IsAfterRounds, EndsTooGreat, LosesWhole, NoneNeedsMore}
 use Rattle.settling.specs.declared.finding.Points.{Points}
 use Rattle.settling.specs.declared.finding.Points.TheVariants.{Exact}
 use Rattle.settling.specs.declared.reached.Reached.{Reached}
@@ -21,6 +21,19 @@ use Rattle.settling.proofs.FindingLaws.{EndsAtGreatest}
 use Rattle.settling.proofs.RiseLaws.{found_there, found_at}
 use Rattle.settling.proofs.WayLaws.{way_rises, response_of, next_responses}
 use Rattle.settling.proofs.CertificateLaws.{IsMadeOf, certificate_with, dual_there}
+
+-- Is the end of no task's run too great at the bounds v? And at no vector of fewer than k rounds?
+abbrev pub AllFitAt : SourceDef → List ℕ → Type 0
+AllFitAt f v = (i : ℕ) → i < tasks_of f → EndsTooGreat (f.program i v) → ⊥
+
+abbrev pub AllFitBefore : SourceDef → ℕ → Type 0
+AllFitBefore f k = (j : ℕ) (v : List ℕ) → j < k → IsAfterRounds f j v → AllFitAt f v
+
+-- Is v the vector after some rounds, before which all fit?
+pub record IsOnWay (f : SourceDef) (v : List ℕ) : Type 0 where
+  pub rounds : ℕ
+  pub after : IsAfterRounds f rounds v
+  pub fit : AllFitBefore f rounds
 
 -- The end of a run is read in one way: it has one dual as a search writes it, and where one is written none is too great.
 abbrev pub EndsFit : Type 0

@@ -17,15 +17,14 @@ use Rattle.refusal_cert.specs.Refuting.{refuting}
 use Rattle.refusal_cert.specs.Answers.{Refutes}
 use Rattle.refusal_cert.specs.declared.answer.Answer.TheVariants as refutation
 use Rattle.settling.specs.Rising.{IsProvedLeast}
+use Rattle.settling.specs.Trails.{HasSmallPoints}
+use Rattle.settling.specs.Walks.{walk, WantsMore, IsUnrefuted}
 use Rattle.settling.specs.Ways.{NothingFits, NeedsMoreBits, NoneNeedsMore}
+use Rattle.settling.specs.declared.finding.Points.TheVariants.{Rounded}
 use Rattle.settling.specs.declared.answer.Settled.{Settled}
 use Rattle.settling.specs.declared.answer.Settled.TheVariants as settled
 use Rattle.settling.specs.declared.answer.SettleStop.{SettleStop}
 use Rattle.settling.specs.declared.answer.SettleStop.TheVariants as stop
-
--- Are all numbers of each step's point below 2^63?
-abbrev pub HasSmallPoints : List StepDef → Type 0
-HasSmallPoints steps = (k : ℕ) → k < length steps → IsSmallDual (step_at steps k).point
 
 -- Can a text of refusals hold the step? Its task and value have 64 bits. Its point has a denominator of at least 1, and no number above
 -- 2^63 - 1.
@@ -61,12 +60,13 @@ abbrev pub NamesTask : SetDef → Result Settled SettleStop → Type 0
 NamesTask set (Ok settled) = Unit {0}
 NamesTask set (Err stop) = StopsWithin set stop
 
--- Does a wide stop come only if nothing fits, or if the program of the task that it names needs more than 63 bits?
-abbrev pub IsWideOnlySo : Result Settled SettleStop → SourceDef → Type 0
-IsWideOnlySo (Ok settled) f = Unit {0}
-IsWideOnlySo (Err (stop.Wide task)) f = (NothingFits f) ⊎ NeedsMoreBits f task.0
-IsWideOnlySo (Err stop.Allowance) f = Unit {0}
-IsWideOnlySo (Err stop.Memory) f = Unit {0}
+-- Does a wide stop come only in two cases? Nothing fits, and the walk with rounded points passes no latest bound. Or the program of the task
+-- that it names needs more than 63 bits.
+abbrev pub IsWideOnlySo : Result Settled SettleStop → SourceDef → ℕ → Type 0
+IsWideOnlySo (Ok settled) f allowance = Unit {0}
+IsWideOnlySo (Err (stop.Wide task)) f allowance = ((NothingFits f) × IsUnrefuted f allowance) ⊎ NeedsMoreBits f task.0
+IsWideOnlySo (Err stop.Allowance) f allowance = Unit {0}
+IsWideOnlySo (Err stop.Memory) f allowance = Unit {0}
 
 -- Is a set schedulable only if no task needs more bits?
 abbrev pub HasEnough : SourceDef → Settled → Type 0
@@ -95,17 +95,26 @@ abbrev pub IsLeftOpen : SourceDef → ℕ → Type 0
 IsLeftOpen f allowance = ((i : ℕ) × EndsIn (rounds_of f) allowance (Wide i))
     ⊎ ((IsNotShown f allowance) × IsWideToRefute f allowance)
 
--- What is answered by steps of a search: a refusal that holds, with small points, or none.
-abbrev pub RefusesSo : Result Settled SettleStop → SourceDef → Type 0
-RefusesSo (Ok (settled.Schedulable certificate)) f = ⊥
-RefusesSo (Ok (settled.Refused refusal)) f = (IsRight (settled.Refused refusal) f) × HasSmallPoints (steps_seen refusal)
-RefusesSo (Err e) f = Unit {0}
+-- Is it a refusal that holds, with small points?
+abbrev pub IsRefusedSo : SourceDef → Settled → Type 0
+IsRefusedSo f (settled.Schedulable certificate) = ⊥
+IsRefusedSo f (settled.Refused refusal) = (IsRight (settled.Refused refusal) f) × HasSmallPoints (steps_seen refusal)
+
+-- What a walk with rounded points gives: a refusal that holds, with small points. Or it stops for what its rounds end in.
+abbrev pub RefusesSo : Result Settled SettleStop → SourceDef → ℕ → Type 0
+RefusesSo (Ok (settled.Schedulable certificate)) f allowance = ⊥
+RefusesSo (Ok (settled.Refused refusal)) f allowance = (IsRight (settled.Refused refusal) f) × HasSmallPoints (steps_seen refusal)
+RefusesSo (Err (stop.Wide task)) f allowance = IsUnrefuted f allowance
+RefusesSo (Err stop.Allowance) f allowance = EndsIn (walk Rounded f) allowance Allowance
+RefusesSo (Err stop.Memory) f allowance = Unit {0}
 
 -- What is answered if the analysis is wide.
-abbrev pub GivesWide : Result Settled SettleStop → SourceDef → Type 0
-GivesWide (Ok (settled.Schedulable certificate)) f = IsRight (settled.Schedulable certificate) f
-GivesWide (Ok (settled.Refused refusal)) f = (IsRight (settled.Refused refusal) f) × HasSmallPoints (steps_seen refusal)
-GivesWide (Err e) f = Unit {0}
+abbrev pub GivesWide : Result Settled SettleStop → SourceDef → ℕ → Type 0
+GivesWide (Ok (settled.Schedulable certificate)) f allowance = IsRight (settled.Schedulable certificate) f
+GivesWide (Ok (settled.Refused refusal)) f allowance = (IsRight (settled.Refused refusal) f) × HasSmallPoints (steps_seen refusal)
+GivesWide (Err (stop.Wide task)) f allowance = Unit {0}
+GivesWide (Err stop.Allowance) f allowance = WantsMore f allowance
+GivesWide (Err stop.Memory) f allowance = Unit {0}
 
 -- What is answered if the analysis doesn't show the set.
 abbrev pub GivesRefusal : Result Settled SettleStop → SourceDef → ℕ → Type 0
@@ -114,7 +123,7 @@ GivesRefusal (Ok (settled.Refused refusal)) f allowance = (IsRight (settled.Refu
     × ((Refutes (Ok (refutation.Refused refusal)) f allowance)
     ⊎ ((IsWideToRefute f allowance) × HasSmallPoints (steps_seen refusal)))
 GivesRefusal (Err (stop.Wide task)) f allowance = IsWideToRefute f allowance
-GivesRefusal (Err stop.Allowance) f allowance = (IsWideToRefute f allowance) ⊎ EndsIn (refuting f) allowance Allowance
+GivesRefusal (Err stop.Allowance) f allowance = ((IsWideToRefute f allowance) × WantsMore f allowance) ⊎ EndsIn (refuting f) allowance Allowance
 GivesRefusal (Err stop.Memory) f allowance = Unit {0}
 
 -- Where an answer comes from. If the rounds don't leave the set open, it is that of the analysis, or that of the rounds of refusals.
@@ -128,7 +137,7 @@ Settles (Ok (settled.Refused refusal)) f allowance =
     ⊎ ((IsLeftOpen f allowance) × HasSmallPoints (steps_seen refusal))
 Settles (Err (stop.Wide task)) f allowance = IsLeftOpen f allowance
 Settles (Err stop.Allowance) f allowance = (EndsIn (rounds_of f) allowance Allowance)
-    ⊎ (IsLeftOpen f allowance) ⊎ ((IsNotShown f allowance) × EndsIn (refuting f) allowance Allowance)
+    ⊎ ((IsLeftOpen f allowance) × WantsMore f allowance) ⊎ ((IsNotShown f allowance) × EndsIn (refuting f) allowance Allowance)
 Settles (Err stop.Memory) f allowance = Unit {0}
 
 -- Does the answer come from there, and is it right?

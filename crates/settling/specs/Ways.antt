@@ -53,16 +53,3 @@ NeedsMoreBits f i = (k : ℕ) × (v : List ℕ) × (IsAfterRounds f k v) × (i <
 -- Does no task need more?
 abbrev pub NoneNeedsMore : SourceDef → Type 0
 NoneNeedsMore f = (i : ℕ) → NeedsMoreBits f i → ⊥
-
--- Is the end of no task's run too great at the bounds v? And at no vector of fewer than k rounds?
-abbrev pub AllFitAt : SourceDef → List ℕ → Type 0
-AllFitAt f v = (i : ℕ) → i < tasks_of f → EndsTooGreat (f.program i v) → ⊥
-
-abbrev pub AllFitBefore : SourceDef → ℕ → Type 0
-AllFitBefore f k = (j : ℕ) (v : List ℕ) → j < k → IsAfterRounds f j v → AllFitAt f v
-
--- Is v the vector after some rounds, before which all fit?
-pub record IsOnWay (f : SourceDef) (v : List ℕ) : Type 0 where
-  pub rounds : ℕ
-  pub after : IsAfterRounds f rounds v
-  pub fit : AllFitBefore f rounds

@@ -1,15 +1,13 @@
 //! Certificates of bounds that are at most every fitting vector. None is answered without its check.
 
-ghost use Rattle.std.specs.Prelude.{◌≡◌, ◌<◌, ◌≤◌, ◌^◌, length, map, IfOk, IfErr, IsTrue};
+ghost use Rattle.std.specs.Prelude.{◌≡◌, ◌≤◌, map, IfOk, IfErr, IsTrue};
 ghost use Rattle.program_form.specs.Certificate.{dual_seen, certificate_seen};
-ghost use Rattle.program_sources.specs.Bounds.{IsInRange};
 ghost use Rattle.program_sources.specs.Recurrence.{source_at};
-ghost use Rattle.program_sources.specs.Fitting.{AreBelowAllFitting};
 ghost use Rattle.response_fixpoint.specs.Answers.{IsSmallDual};
-ghost use Rattle.settling.specs.Rising.{AreFoundAt, AreNextBounds, IsLastFailure, IsProvedLeast, StopsFor, StopsLost};
+ghost use Rattle.settling.specs.Rising.{IsFixed, IsLastFailure, IsProvedLeast, StopsFor, StopsLost};
+ghost use Rattle.settling.specs.declared.finding.Points.TheVariants.{Exact};
 
 use crate::answer::SettleStop;
-use crate::finding::Points;
 use crate::reached::Reached;
 use dual_check::{Invalid, judge};
 use free_search::what_is_found_is_best;
@@ -54,25 +52,22 @@ fn stop_for(invalid: Invalid) -> SettleStop
     }
 }
 
-/// The certificate of these bounds with the duals that were found, if it is valid. It is, unless a dual loses the whole part of its optimum.
+/// The certificate of bounds that don't rise any more, with the duals that were found. It is judged. It is valid, unless a dual loses the
+/// whole part of its optimum.
 pub(crate) fn certificate_of<P: ProgramSource>(
     alloc: Global,
     set: &TaskSet,
     protocol: &P,
-    points: Points,
     bounds: Vec<u64>,
     reached: Vec<Reached>,
+    allowance: u64,
 ) -> Result<Certificate, SettleStop>
     requires serves { P.serves protocol.now set.now }
-    requires range { IsInRange set.now bounds.items }
-    requires below { AreBelowAllFitting (source_at (P.source protocol.now) set.now) bounds.items }
-    requires one_each { length reached.items ≡ length set.now.tasks }
-    requires found { AreFoundAt points (source_at (P.source protocol.now) set.now) bounds.items reached.items }
-    requires fixed { AreNextBounds (source_at (P.source protocol.now) set.now) bounds.items (length set.now.tasks) reached.items bounds.items }
+    requires fixed { IsFixed Exact (source_at (P.source protocol.now) set.now) allowance bounds.items reached.items }
     ensures least { IfOk result (λ c. IsProvedLeast (source_at (P.source protocol.now) set.now) (certificate_seen c)) }
     ensures made { IfOk result (λ c. certificate_seen c
         ≡ record { bounds = bounds.items; duals = map dual_seen (map (λ r. r.dual) reached.items) }) }
-    ensures lost { IfErr result (StopsLost points (source_at (P.source protocol.now) set.now) bounds.items) }
+    ensures lost { IfErr result (StopsLost (source_at (P.source protocol.now) set.now) bounds.items) }
 {
     what_is_found_is_best();
     a_certificate_below_all_fitting_is_least();

@@ -1,10 +1,13 @@
 //! What a search finds of a program, as found or with its point rounded down.
 
-ghost use Rattle.std.specs.Prelude.{◌≡◌, length, IfOk, IfErr};
-ghost use Rattle.settling.specs.Rising.{StopsSo, IsFoundBy, IsRoundedFrom};
+ghost use Rattle.std.specs.Prelude.{◌≡◌, ◌<◌, ◌≤◌, ◌^◌, length, IfOk, IfErr, MatchOption};
+ghost use Rattle.program_form.specs.Program.{columns};
+ghost use Rattle.program_form.specs.Certificate.{dual_seen};
+ghost use Rattle.refusal_laws.specs.Steps.{whole_worth};
+ghost use Rattle.settling.specs.Rising.{IsFoundBy, IsRoundedFrom, StopsSo};
 
-use free_search::{Found, SearchStop, round_down, search};
-use program_form::{Dual, MOST_NUMBER, SparseProgram};
+use free_search::{Found, SearchStop, round_down, search, what_is_found_is_best};
+use program_form::{Dual, SparseProgram};
 use std::alloc::{AllocError, Global};
 use whole_numbers::Whole;
 
@@ -17,18 +20,24 @@ pub(crate) enum Points {
     Rounded,
 }
 
-// How many whole ticks such a point is worth. A test follows, so nothing rests on this.
-fn ticks_of(program: &SparseProgram, point: &Dual) -> u64 {
-    let mut sum = 0u128;
+/// How many whole ticks the point is worth. None if they have more than 64 bits.
+fn worth_of(alloc: Global, program: &SparseProgram, point: &Dual) -> Result<Option<u64>, AllocError>
+    requires size { length point.now.num.items ≡ columns program.now }
+    requires den { 0 < point.now.den }
+    ensures { IfOk result (λ found. MatchOption found (2 ^ 64 ≤ whole_worth program.now (dual_seen point.now))
+        (λ ticks. ticks ≡ whole_worth program.now (dual_seen point.now))) }
+{
+    let mut sum = Whole::zero(alloc);
     for c in 0..program.columns() {
-        let number = point.num.get(c as usize).copied().unwrap_or(0);
-        sum = sum.saturating_add(u128::from(program.cost(c)) * u128::from(number));
+        let number = Whole::of(alloc, point.num[c as usize]);
+        sum.add_times(&number, program.cost(c))?;
     }
-    (sum / u128::from(point.den.max(1))).min(u128::from(MOST_NUMBER)) as u64
+    let division = sum.divided_by(alloc, &Whole::of(alloc, point.den))?;
+    Ok(division.quotient.as_u64())
 }
 
 fn wholes_of(alloc: Global, numbers: &[u64]) -> Result<Vec<Whole>, AllocError>
-    ensures { IfOk result (λ v. length v.items ≡ length numbers.now) }
+    ensures { IfOk result (λ v. v.items ≡ numbers.now) }
 {
     let mut wholes = Vec::with_capacity(alloc, numbers.len())?;
     for number in numbers {
@@ -37,18 +46,24 @@ fn wholes_of(alloc: Global, numbers: &[u64]) -> Result<Vec<Whole>, AllocError>
     Ok(wholes)
 }
 
-/// The same with its point rounded down if it needs more than 63 bits. `Lost` comes if no such point has 63 bits.
+/// The same with its point rounded down if it needs more than 63 bits. `Lost` comes if no such point has 63 bits, or if it is worth more
+/// ticks than 64 bits hold.
 fn round_found(alloc: Global, program: &SparseProgram, found: Found) -> Result<Found, SearchStop>
-    ensures { IfOk result (IsRoundedFrom found) }
+    requires size { length found.num.items ≡ columns program.now }
+    requires den { 0 < found.den }
+    ensures { IsRoundedFrom program.now found result }
 {
     let Some(point) = round_down(alloc, &found)? else {
+        return Err(SearchStop::Lost);
+    };
+    let Some(ticks) = worth_of(alloc, program, &point)? else {
         return Err(SearchStop::Lost);
     };
     let Found { dual, used, .. } = found;
     Ok(Found {
         den: Whole::of(alloc, point.den),
         num: wholes_of(alloc, &point.num)?,
-        ticks: ticks_of(program, &point),
+        ticks,
         dual,
         used,
     })
@@ -61,9 +76,10 @@ pub(crate) fn find(
     program: &SparseProgram,
     units: u64,
 ) -> Result<Found, SearchStop>
-    ensures found { IfOk result (IsFoundBy points program.now) }
-    ensures stops { IfErr result (StopsSo points program.now) }
+    ensures found { IfOk result (IsFoundBy points program.now units) }
+    ensures stops { IfErr result (StopsSo points program.now units) }
 {
+    what_is_found_is_best();
     let found = match search(alloc, program, units) {
         Ok(found) => found,
         Err(stop) => return Err(stop),

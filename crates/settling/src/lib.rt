@@ -1,7 +1,7 @@
 //! Settling task sets: least bounds or a refusal, also if an analysis is wide.
 //!
 //! A search over numbers of any size finds points and duals of programs. Each point is tested without rounding before it raises a bound. A
-//! certificate is judged before it is answered, and a refusal is confirmed.
+//! certificate is judged before it is answered.
 #![tactic(auto)]
 
 mod answer;
@@ -11,9 +11,10 @@ mod laws;
 mod reached;
 mod refusals;
 mod rising;
+mod rounds;
 mod settling;
+mod shortening;
 mod steps;
-mod values;
 
 pub use answer::{SettleStop, Settled};
 pub use laws::certificates_of_analyses_need_no_more_bits;

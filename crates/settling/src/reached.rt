@@ -1,10 +1,10 @@
 //! What the program of each task reaches at bounds, by points that are tested.
 
-ghost use Rattle.std.specs.Prelude.{◌≡◌, ℕ, ◌<◌, ◌≤◌, ◌^◌, List, length, IfOk, IfErr};
+ghost use Rattle.std.specs.Prelude.{◌≡◌, ℕ, ◌<◌, ◌≤◌, ◌^◌, List, length, IfOk, IfErr, MatchOption};
 ghost use Rattle.program_form.specs.Certificate.{dual_seen};
 ghost use Rattle.program_sources.specs.Bounds.{IsInRange};
 ghost use Rattle.program_sources.specs.Recurrence.{source_at};
-ghost use Rattle.settling.specs.Rising.{IsFoundOf, AreFoundAt, StopsAt, IsSame};
+ghost use Rattle.settling.specs.Rising.{IsFoundOf, AreFoundAt, StopsAt, IsSame, IsWrittenOver, AreGreat, seen_point};
 
 use crate::answer::SettleStop;
 use crate::finding::{Points, find};
@@ -23,11 +23,11 @@ pub(crate) struct Reached {
     pub ticks: u64,
     /// The limits of its rows there. If they stay, the program stays, and what was found of it.
     pub limits: Vec<u64>,
-    /// The point that reaches it, if each number has 63 bits. A refusal with this point is confirmed.
+    /// The point that reaches it, if each number has 63 bits.
     pub point: Option<Dual>,
     /// The dual of the end of its run. A certificate with this dual is judged.
     pub dual: Dual,
-    /// The units that the search used.
+    /// The units that its run takes: one, and one more for each exchange.
     pub used: u64,
 }
 
@@ -41,12 +41,19 @@ pub(crate) fn copy_of(alloc: Global, dual: &Dual) -> Result<Dual, AllocError>
 }
 
 // The number, if it has 63 bits.
-fn small(number: &Whole) -> Option<u64> {
-    number.as_u64().filter(|n| *n <= MOST_NUMBER)
+fn small(number: &Whole) -> Option<u64>
+    ensures { MatchOption result (2 ^ 63 ≤ number.now) (λ n. (n ≡ number.now) × (n < 2 ^ 63)) }
+{
+    match number.as_u64() {
+        Some(n) if n <= MOST_NUMBER => Some(n),
+        _ => None,
+    }
 }
 
 // The point with numbers of 63 bits, if all its numbers have so few.
-fn small_point(alloc: Global, den: &Whole, num: &[Whole]) -> Result<Option<Dual>, AllocError> {
+fn small_point(alloc: Global, den: &Whole, num: &[Whole]) -> Result<Option<Dual>, AllocError>
+    ensures { IfOk result (λ o. MatchOption o (AreGreat den.now num.now) (λ d. IsWrittenOver den.now num.now (dual_seen d))) }
+{
     let Some(den) = small(den) else {
         return Ok(None);
     };
@@ -60,20 +67,25 @@ fn small_point(alloc: Global, den: &Whole, num: &[Whole]) -> Result<Option<Dual>
     Ok(Some(Dual { den, num: numbers }))
 }
 
-/// What was found of a program whose limits stay. This takes a unit.
+fn copy_of_point(alloc: Global, point: &Option<Dual>) -> Result<Option<Dual>, AllocError>
+    ensures { IfOk result (λ o. seen_point o ≡ seen_point point.now) }
+{
+    match point {
+        Some(point) => Ok(Some(copy_of(alloc, point)?)),
+        None => Ok(None),
+    }
+}
+
+/// What was found of a program whose limits stay.
 fn take_over(alloc: Global, before: &Reached) -> Result<Reached, AllocError>
     ensures { IfOk result (IsSame before.now) }
 {
-    let point = match &before.point {
-        Some(point) => Some(copy_of(alloc, point)?),
-        None => None,
-    };
     Ok(Reached {
         ticks: before.ticks,
         limits: Vec::from_slice(alloc, &before.limits)?,
-        point,
+        point: copy_of_point(alloc, &before.point)?,
         dual: copy_of(alloc, &before.dual)?,
-        used: 1,
+        used: before.used,
     })
 }
 
@@ -93,7 +105,8 @@ fn search_task<P: ProgramSource>(
     requires range { IsInRange set.now bounds.now }
     requires limits { limits.items ≡ ((P.source protocol.now set.now).program i.0 bounds.now).limits }
     ensures found { IfOk result (IsFoundOf points ((P.source protocol.now set.now).program i.0 bounds.now)) }
-    ensures stops { IfErr result (StopsAt points (source_at (P.source protocol.now) set.now) bounds.now) }
+    ensures within { IfOk result (λ reached. reached.used ≤ units) }
+    ensures stops { IfErr result (StopsAt points (source_at (P.source protocol.now) set.now) bounds.now i.0 units) }
 {
     what_is_found_is_best();
     let program = protocol.sparse_program(alloc, set, i, bounds)?;
@@ -113,9 +126,8 @@ fn search_task<P: ProgramSource>(
     if ticks > MOST_NUMBER {
         return Err(SettleStop::Wide(i));
     }
-    // an exact point always passes
     if !is_worth(alloc, &program, &den, &num, ticks)? {
-        return Err(SettleStop::Wide(i));
+        unreachable!()
     }
     Ok(Reached {
         ticks,
@@ -127,7 +139,7 @@ fn search_task<P: ProgramSource>(
 }
 
 /// What is found of the program of task `i` at these bounds. `before` is what was found of the programs at other bounds.
-fn reach_task<P: ProgramSource>(
+pub(crate) fn reach_task<P: ProgramSource>(
     alloc: Global,
     set: &TaskSet,
     protocol: &P,
@@ -142,65 +154,18 @@ fn reach_task<P: ProgramSource>(
     requires range { IsInRange set.now bounds.now }
     requires before { (u : List ℕ) × AreFoundAt points (source_at (P.source protocol.now) set.now) u before.now }
     ensures found { IfOk result (IsFoundOf points ((P.source protocol.now set.now).program i.0 bounds.now)) }
-    ensures stops { IfErr result (StopsAt points (source_at (P.source protocol.now) set.now) bounds.now) }
+    ensures within { IfOk result (λ reached. reached.used ≤ units) }
+    ensures stops { IfErr result (StopsAt points (source_at (P.source protocol.now) set.now) bounds.now i.0 units) }
 {
     let limits = protocol.limits(alloc, set, i, bounds)?;
     if let Some(last) = before.get(i.0 as usize) {
         if last.limits == limits {
+            if last.used > units {
+                return Err(SettleStop::Allowance);
+            }
             let reached = take_over(alloc, last)?;
             return Ok(reached);
         }
     }
     search_task(alloc, set, protocol, points, i, bounds, limits, units)
-}
-
-/// What is found of the program of each task at these bounds, with so many units for all.
-pub(crate) fn reach_all<P: ProgramSource>(
-    alloc: Global,
-    set: &TaskSet,
-    protocol: &P,
-    points: Points,
-    bounds: &[u64],
-    before: &[Reached],
-    units: u64,
-) -> Result<Vec<Reached>, SettleStop>
-    requires serves { P.serves protocol.now set.now }
-    requires range { IsInRange set.now bounds.now }
-    requires before { (u : List ℕ) × AreFoundAt points (source_at (P.source protocol.now) set.now) u before.now }
-    ensures found { IfOk result (λ v. AreFoundAt points (source_at (P.source protocol.now) set.now) bounds.now v.items) }
-    ensures one_each { IfOk result (λ v. length v.items ≡ length set.now.tasks) }
-    ensures stops { IfErr result (StopsAt points (source_at (P.source protocol.now) set.now) bounds.now) }
-{
-    let mut all = Vec::new(alloc);
-    let mut left = units;
-    for i in 0..set.tasks() {
-        let reached = match reach_task(
-            alloc,
-            set,
-            protocol,
-            points,
-            TaskId(i),
-            bounds,
-            before,
-            left,
-        ) {
-            Ok(reached) => reached,
-            Err(stop) => return Err(stop),
-        };
-        left = left.saturating_sub(reached.used);
-        all.push(reached)?;
-    }
-    Ok(all)
-}
-
-/// The units of a round: those of its searches, and one for each task that isn't searched.
-pub(crate) fn units_of(all: &[Reached]) -> u64
-    requires { length all.now < 2 ^ 32 }
-    ensures { length all.now ≤ result }
-{
-    let mut units = 0u64;
-    for reached in all {
-        units = units.saturating_add(reached.used.max(1));
-    }
-    units
 }

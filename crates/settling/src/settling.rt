@@ -6,14 +6,20 @@ ghost use Rattle.response_fixpoint.specs.Runs.{rounds_of};
 ghost use Rattle.settling.specs.Answers.{AnswersSo, GivesRefusal, GivesWide};
 ghost use Rattle.settling.specs.Answers.{Settles, IsRight, IsSchedulable, IsSound, Keeps, NamesTask};
 ghost use Rattle.settling.specs.Answers.{RefusesBySmallSteps, RefusesIn64Bits, IsWideOnlySo, HasEnough};
+ghost use Rattle.settling.specs.Rising.{IsFixed};
+ghost use Rattle.settling.specs.Ways.{NothingFits};
+ghost use Rattle.settling.specs.declared.finding.Points.TheVariants.{Exact};
 
 use crate::answer::{SettleStop, Settled};
+use crate::certificates::certificate_of;
 use crate::finding::Points;
 use crate::laws::certificates_of_analyses_need_no_more_bits;
-use crate::refusals::{answer_confirmed, keeps_64_bits, refuse_by_rounded_points};
+use crate::reached::Reached;
+use crate::refusals::{answer_refusal, keeps_64_bits, refuse_by_rounded_points};
 use crate::rising::{Risen, rise};
 use charged_protocols::{ChargedProtocol, charged_protocols_are_analysed};
-use program_sources::ProgramSource;
+use free_search::{the_end_is_read_in_one_way, what_is_found_is_best};
+use program_sources::{ProgramSource, recurrence_is_monotone};
 use refusal_cert::{Answer, RefuteStop, refute};
 use response_fixpoint::{Stop, Verdict, analyse_with, the_rounds_have_one_ending};
 use soundness_laws::analysed_protocols_are_sound;
@@ -21,8 +27,31 @@ use sporadic_model::{TaskId, TaskSet};
 use std::alloc::Global;
 use std::thread::Threads;
 
+/// The certificate at the end of a walk with exact points.
+fn settle_fixed<P: ProgramSource>(
+    alloc: Global,
+    set: &TaskSet,
+    protocol: &P,
+    bounds: Vec<u64>,
+    reached: Vec<Reached>,
+    allowance: u64,
+) -> Result<Settled, SettleStop>
+    requires serves { P.serves protocol.now set.now }
+    requires fixed { IsFixed Exact (source_at (P.source protocol.now) set.now) allowance bounds.items reached.items }
+    ensures gives { GivesWide result (source_at (P.source protocol.now) set.now) allowance }
+    ensures wide { IsWideOnlySo result (source_at (P.source protocol.now) set.now) allowance }
+    ensures enough { IfOk result (HasEnough (source_at (P.source protocol.now) set.now)) }
+    ensures names { NamesTask set.now result }
+    ensures bits { IfOk result (λ settled. RefusesIn64Bits settled) }
+{
+    recurrence_is_monotone::<P>();
+    what_is_found_is_best();
+    the_end_is_read_in_one_way();
+    let certificate = certificate_of(alloc, set, protocol, bounds, reached, allowance)?;
+    Ok(Settled::Schedulable(certificate))
+}
+
 /// Settles a set whose analysis is wide at this task.
-#[tactic(auto, using(crate::proofs::AnswerLaws::wide_of, crate::proofs::AnswerLaws::only_if_nothing, crate::proofs::AnswerLaws::only_if_open, crate::proofs::AnswerLaws::refused_enough))]
 fn settle_wide<R: Threads + Sync, P: ProgramSource + Sync>(
     rt: &R,
     alloc: Global,
@@ -33,15 +62,19 @@ fn settle_wide<R: Threads + Sync, P: ProgramSource + Sync>(
 ) -> Result<Settled, SettleStop>
     requires serves { P.serves protocol.now set.now }
     requires task { task.0 < length set.now.tasks }
-    ensures gives { GivesWide result (source_at (P.source protocol.now) set.now) }
-    ensures wide { IsWideOnlySo result (source_at (P.source protocol.now) set.now) }
+    ensures gives { GivesWide result (source_at (P.source protocol.now) set.now) allowance }
+    ensures wide { IsWideOnlySo result (source_at (P.source protocol.now) set.now) allowance }
     ensures enough { IfOk result (HasEnough (source_at (P.source protocol.now) set.now)) }
     ensures names { NamesTask set.now result }
     ensures bits { IfOk result (λ settled. RefusesIn64Bits settled) }
 {
+    recurrence_is_monotone::<P>();
+    what_is_found_is_best();
     match rise(alloc, set, protocol, Points::Exact, allowance) {
-        Ok(Risen::Least(certificate)) => Ok(Settled::Schedulable(certificate)),
-        Ok(Risen::Late(Some(refusal))) => answer_confirmed(rt, alloc, set, protocol, refusal, task),
+        Ok(Risen::Fixed(bounds, reached)) => {
+            settle_fixed(alloc, set, protocol, bounds, reached, allowance)
+        }
+        Ok(Risen::Late(Some(refusal))) => Ok(answer_refusal(rt, alloc, set, protocol, refusal)?),
         Ok(Risen::Late(None)) => {
             refuse_by_rounded_points(rt, alloc, set, protocol, task, allowance)
         }
@@ -50,7 +83,6 @@ fn settle_wide<R: Threads + Sync, P: ProgramSource + Sync>(
 }
 
 /// Refuses a set that the analysis doesn't show.
-#[tactic(auto, using(crate::proofs::AnswerLaws::refused_enough))]
 fn refuse<R: Threads + Sync, P: ProgramSource + Sync>(
     rt: &R,
     alloc: Global,
@@ -59,9 +91,9 @@ fn refuse<R: Threads + Sync, P: ProgramSource + Sync>(
     allowance: u64,
 ) -> Result<Settled, SettleStop>
     requires serves { P.serves protocol.now set.now }
-    requires none { (s : List ℕ) → AreFitting (source_at (P.source protocol.now) set.now) s → ⊥ }
+    requires none { NothingFits (source_at (P.source protocol.now) set.now) }
     ensures gives { GivesRefusal result (source_at (P.source protocol.now) set.now) allowance }
-    ensures wide { IsWideOnlySo result (source_at (P.source protocol.now) set.now) }
+    ensures wide { IsWideOnlySo result (source_at (P.source protocol.now) set.now) allowance }
     ensures enough { IfOk result (HasEnough (source_at (P.source protocol.now) set.now)) }
     ensures names { NamesTask set.now result }
     ensures bits { IfOk result (λ settled. RefusesIn64Bits settled) }
@@ -90,7 +122,7 @@ fn settle<R: Threads + Sync, P: ProgramSource + Sync>(
 ) -> Result<Settled, SettleStop>
     requires serves { P.serves protocol.now set.now }
     ensures answers { AnswersSo result (source_at (P.source protocol.now) set.now) allowance }
-    ensures wide { IsWideOnlySo result (source_at (P.source protocol.now) set.now) }
+    ensures wide { IsWideOnlySo result (source_at (P.source protocol.now) set.now) allowance }
     ensures enough { IfOk result (HasEnough (source_at (P.source protocol.now) set.now)) }
     ensures names { NamesTask set.now result }
     ensures bits { IfOk result (λ settled. RefusesIn64Bits settled) }
@@ -130,8 +162,9 @@ pub fn settle_by<R: Threads + Sync, P: ProgramSource + Sync>(
 
     // If some bounds fit, a wide stop names a task whose program needs more than 63 bits. At some vector of the recurrence's rounds its
     // run's end is too great to be written. Or its dual at the least bounds, as it is written, loses the whole part of the optimum. If the
-    // answer is schedulable, there is no such task.
-    ensures wide { IsWideOnlySo result (source_at (P.source protocol.now) set.now) }
+    // answer is schedulable, there is no such task. If nothing fits, a wide stop comes only for this too, or if the walk with rounded points
+    // passes no latest bound.
+    ensures wide { IsWideOnlySo result (source_at (P.source protocol.now) set.now) allowance }
     ensures enough { IfOk result (HasEnough (source_at (P.source protocol.now) set.now)) }
 
     // What is answered can be written: a wide stop names a task of the set, and the numbers of a refusal's steps are small.
@@ -148,11 +181,11 @@ pub fn settle_by<R: Threads + Sync, P: ProgramSource + Sync>(
 /// The analysis is made first, so that its answer stays if it has one. A set that it doesn't show is refuted. If either is wide, a search
 /// over numbers of any size proposes points and duals. Bounds rise from the costs by points that are tested. If no bound rises any more,
 /// they are the least that fit, and the duals make a certificate, which is judged. If a value passes its task's latest bound, steps with
-/// points of 63 bits make a refusal, which is confirmed.
+/// points of 63 bits make a refusal. Steps that its last one doesn't need are left out, as far as they are found.
 ///
 /// `allowance` is the number of units for the analysis, as many for the refutation, and as many for each walk of a search. A task takes one
 /// in each round, and one more for each exchange. `SettleStop::Wide` names a task whose program isn't settled. It comes only if the
-/// analysis is wide, or the refutation of a set that isn't shown. `SettleStop::Allowance` comes if one of them, or a search, wants more
+/// analysis is wide, or the refutation of a set that isn't shown. `SettleStop::Allowance` comes only if one of them, or a walk, wants more
 /// units. `SettleStop::Memory` comes only if memory runs out.
 pub fn settle_with<R: Threads + Sync, P: ChargedProtocol + Sync>(
     rt: &R,
@@ -168,7 +201,7 @@ pub fn settle_with<R: Threads + Sync, P: ChargedProtocol + Sync>(
     ensures right { IfOk result (λ settled. IsRight settled (source_at (P.source protocol.now) set.now)) }
     ensures exactly { IfOk result (λ settled. IsSchedulable settled
         ↔ ((s : List ℕ) × AreFitting (source_at (P.source protocol.now) set.now) s)) }
-    ensures wide { IsWideOnlySo result (source_at (P.source protocol.now) set.now) }
+    ensures wide { IsWideOnlySo result (source_at (P.source protocol.now) set.now) allowance }
     ensures enough { IfOk result (HasEnough (source_at (P.source protocol.now) set.now)) }
     ensures names { NamesTask set.now result }
     ensures small_steps { IfOk result (λ settled. RefusesBySmallSteps settled) }

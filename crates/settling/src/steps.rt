@@ -1,14 +1,12 @@
-//! The steps of a walk, as a refusal has them. A refusal is confirmed before it is answered, so nothing rests on these.
+//! The steps of a walk, as a refusal has them.
 
-ghost use Rattle.std.specs.Prelude.{◌≡◌, length};
-ghost use Rattle.program_sources.specs.Bounds.{IsInRange};
-ghost use Rattle.settling.specs.Rising.{HaveSmallTicks};
+ghost use Rattle.std.specs.Prelude.{OnOk};
+ghost use Rattle.settling.specs.Trails.{IsEmpty, AddsStep, Refuses};
 
-use crate::reached::{Reached, copy_of};
+use crate::reached::copy_of;
 use program_form::Dual;
-use program_sources::{ProgramSource, response};
 use refusal_laws::{Refusal, RefusalStep};
-use sporadic_model::{TaskId, TaskSet};
+use sporadic_model::TaskId;
 use std::alloc::{AllocError, Global};
 
 /// The steps so far.
@@ -20,26 +18,30 @@ pub(crate) struct Steps {
 }
 
 impl Steps {
-    pub(crate) fn new(alloc: Global) -> Steps {
+    pub(crate) fn new(alloc: Global) -> Steps
+        ensures { IsEmpty result }
+    {
         Steps {
             list: Vec::new(alloc),
             are_written: true,
         }
     }
 
-    /// Adds the step of task `i`, counted from 0, to this value.
-    fn add(
+    /// Adds the step of a task to this value.
+    pub(crate) fn add(
         &mut self,
         alloc: Global,
-        i: u32,
+        task: TaskId,
         value: u64,
         point: &Option<Dual>,
-    ) -> Result<(), AllocError> {
+    ) -> Result<(), AllocError>
+        ensures { OnOk result (AddsStep self.old self.new task.0 value point.now) }
+    {
         match point {
             Some(point) => {
                 let point = copy_of(alloc, point)?;
                 self.list.push(RefusalStep {
-                    task: u64::from(i) + 1,
+                    task: u64::from(task.0) + 1,
                     value,
                     point,
                 })?;
@@ -50,38 +52,13 @@ impl Steps {
     }
 
     /// The refusal of these steps, if all are written.
-    pub(crate) fn refusal(self) -> Option<Refusal> {
+    pub(crate) fn refusal(self) -> Option<Refusal>
+        ensures { Refuses self result }
+    {
         if !self.are_written {
             return None;
         }
         let Steps { list, .. } = self;
         Some(Refusal { steps: list })
     }
-}
-
-/// Adds the steps of a round at these bounds: one for each task whose bound rises, up to the first that passes its latest bound.
-pub(crate) fn add_steps<P: ProgramSource>(
-    alloc: Global,
-    set: &TaskSet,
-    protocol: &P,
-    bounds: &[u64],
-    reached: &[Reached],
-    steps: &mut Steps,
-) -> Result<(), AllocError>
-    requires serves { P.serves protocol.now set.now }
-    requires range { IsInRange set.now bounds.now }
-    requires small { HaveSmallTicks reached.now }
-    requires one_each { length reached.now ≡ length set.now.tasks }
-{
-    for i in 0..set.tasks() {
-        let task = TaskId(i);
-        let value = response(set, protocol, task, bounds, reached[i as usize].ticks);
-        if value > bounds[i as usize] {
-            steps.add(alloc, i, value, &reached[i as usize].point)?;
-        }
-        if value > set.latest_bound(task) {
-            return Ok(());
-        }
-    }
-    Ok(())
 }

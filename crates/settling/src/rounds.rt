@@ -1,0 +1,101 @@
+//! One round of a walk.
+
+ghost use Rattle.std.specs.Prelude.{◌≡◌, ℕ, ◌+◌, ◌<◌, ◌≤◌, ◌^◌, ◌++◌, ◌∷◌, [], List, max, slice_index, length, OnOk};
+ghost use Rattle.program_form.specs.Certificate.{dual_seen};
+ghost use Rattle.program_sources.specs.Bounds.{IsInRange};
+ghost use Rattle.program_sources.specs.Recurrence.{source_at, response_with};
+ghost use Rattle.response_fixpoint.specs.Rounds.{with_task};
+ghost use Rattle.settling.specs.Rising.{AreFoundAt};
+ghost use Rattle.settling.specs.Trails.{IsTrail};
+ghost use Rattle.settling.specs.Turns.{found_of, AreWrittenIfRounded, GivesTurn};
+
+use crate::answer::SettleStop;
+use crate::finding::Points;
+use crate::reached::{Reached, reach_task};
+use crate::steps::Steps;
+use program_sources::{ProgramSource, recurrence_is_monotone, response};
+use sporadic_model::{TaskId, TaskSet};
+use std::alloc::{AllocError, Global};
+
+/// What a round has found: its units, the next bounds in ticks, and what was found of each task's program.
+#[derive(Drop)]
+pub(crate) struct Round {
+    pub used: u64,
+    pub next: Vec<u64>,
+    pub reached: Vec<Reached>,
+}
+
+/// The response time of task `i` with these ticks as blocking, or its bound if that is greater.
+fn next_bound<P: ProgramSource>(
+    set: &TaskSet,
+    protocol: &P,
+    i: TaskId,
+    bounds: &[u64],
+    ticks: u64,
+) -> u64
+    requires serves { P.serves protocol.now set.now }
+    requires task { i.0 < length set.now.tasks }
+    requires range { IsInRange set.now bounds.now }
+    requires small { ticks < 2 ^ 63 }
+    ensures { result ≡ max (response_with (source_at (P.source protocol.now) set.now) bounds.now i.0 ticks) (slice_index bounds.now i.0) }
+{
+    response(set, protocol, i, bounds, ticks).max(bounds[i.0 as usize])
+}
+
+/// Takes a task, whose next bound is given, into the round.
+fn take_task(round: &mut Round, reached: Reached, bound: u64) -> Result<(), AllocError>
+    requires { round.old.used + reached.used < 2 ^ 64 }
+    ensures found { OnOk result (found_of round.new ≡ with_task (found_of round.old) reached.used bound (dual_seen reached.dual)) }
+    ensures reached { OnOk result (round.new.reached.items ≡ round.old.reached.items ++ reached ∷ []) }
+{
+    let used = reached.used;
+    round.next.push(bound)?;
+    round.reached.push(reached)?;
+    round.used += used;
+    Ok(())
+}
+
+/// One round at `bounds`: what is found of each task's program, and the task's next bound, task by task. Each program may take the units
+/// that the tasks before it have left. `before` is what was found at other bounds. `steps` gets a step for each bound that rises. None if
+/// a task's value passes its latest bound. Then the last step is that task's.
+pub(crate) fn take_round<P: ProgramSource>(
+    alloc: Global,
+    set: &TaskSet,
+    protocol: &P,
+    points: Points,
+    bounds: &[u64],
+    before: &[Reached],
+    left: u64,
+    steps: &mut Steps,
+) -> Result<Option<Round>, SettleStop>
+    requires serves { P.serves protocol.now set.now }
+    requires range { IsInRange set.now bounds.now }
+    requires before { (u : List ℕ) × AreFoundAt points (source_at (P.source protocol.now) set.now) u before.now }
+    requires steps { IsTrail (source_at (P.source protocol.now) set.now) bounds.now steps.old }
+    requires written { AreWrittenIfRounded points steps.old }
+    ensures { GivesTurn result points (source_at (P.source protocol.now) set.now) bounds.now left steps.new }
+{
+    recurrence_is_monotone::<P>();
+    let mut round = Round {
+        used: 0,
+        next: Vec::new(alloc),
+        reached: Vec::new(alloc),
+    };
+    for i in 0..set.tasks() {
+        let task = TaskId(i);
+        let here = left - round.used;
+        let reached = match reach_task(alloc, set, protocol, points, task, bounds, before, here) {
+            Ok(reached) => reached,
+            Err(stop) => return Err(stop),
+        };
+        let bound = next_bound(set, protocol, task, bounds, reached.ticks);
+        if bound > bounds[i as usize] {
+            steps.add(alloc, task, bound, &reached.point)?;
+        }
+        if bound > set.latest_bound(task) {
+            return Ok(None);
+        }
+        take_task(&mut round, reached, bound)?;
+    }
+    Ok(Some(round))
+}
