@@ -1,5 +1,5 @@
 -- The steps of a walk, which may make a refusal.
-use Rattle.std.specs.Prelude.{◌≡◌, ℕ, ◌<◌, List, [], ◌∷◌, ◌++◌, map, length, IsTrue, false, Some, None}
+use Rattle.std.specs.Prelude.{◌≡◌, ℕ, ◌<◌, ◌≤◌, List, [], ◌∷◌, ◌++◌, map, length, IsTrue, false, Some, None}
 use Rattle.std.specs.declared.option.Option.{Option}
 use Rattle.program_form.specs.Certificate.{dual_seen}
 use Rattle.program_form.specs.declared.certificate.Dual.{Dual}
@@ -31,6 +31,11 @@ abbrev pub AddsStep : Steps → Steps → ℕ → ℕ → Option Dual → Type 0
 AddsStep before now i value (Some point) =
     (seen now ≡ seen before ++ step_of i value (dual_seen point) ∷ []) × (now.are_written ≡ before.are_written)
 AddsStep before now i value None = now.are_written ≡ false
+
+-- The same if the value is above the task's bound. Else the steps stay.
+pub record AddsRise (before now : Steps) (i bound value : ℕ) (point : Option Dual) : Type 0 where
+  pub rises : bound < value → AddsStep before now i value point
+  pub stays : value ≤ bound → now ≡ before
 
 -- Do the steps lead to the bounds v, with small points?
 pub record LeadsTo (f : SourceDef) (v : List ℕ) (steps : List StepDef) : Type 0 where

@@ -89,9 +89,7 @@ pub(crate) fn take_round<P: ProgramSource>(
             Err(stop) => return Err(stop),
         };
         let bound = next_bound(set, protocol, task, bounds, reached.ticks);
-        if bound > bounds[i as usize] {
-            steps.add(alloc, task, bound, &reached.point)?;
-        }
+        steps.add(alloc, task, bounds[i as usize], bound, &reached.point)?;
         if bound > set.latest_bound(task) {
             return Ok(None);
         }

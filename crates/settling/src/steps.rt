@@ -1,7 +1,7 @@
 //! The steps of a walk, as a refusal has them.
 
 ghost use Rattle.std.specs.Prelude.{OnOk};
-ghost use Rattle.settling.specs.Trails.{IsEmpty, AddsStep, Refuses};
+ghost use Rattle.settling.specs.Trails.{IsEmpty, AddsRise, Refuses};
 
 use crate::reached::copy_of;
 use program_form::Dual;
@@ -27,16 +27,20 @@ impl Steps {
         }
     }
 
-    /// Adds the step of a task to this value.
+    /// Adds the step of a task from its bound to this value, if the value is greater.
     pub(crate) fn add(
         &mut self,
         alloc: Global,
         task: TaskId,
+        bound: u64,
         value: u64,
         point: &Option<Dual>,
     ) -> Result<(), AllocError>
-        ensures { OnOk result (AddsStep self.old self.new task.0 value point.now) }
+        ensures { OnOk result (AddsRise self.old self.new task.0 bound value point.now) }
     {
+        if value <= bound {
+            return Ok(());
+        }
         match point {
             Some(point) => {
                 let point = copy_of(alloc, point)?;

@@ -1,0 +1,120 @@
+-- What a round of a walk has found, one task more at a time, and how the rounds end.
+use Rattle.std.proofs.Common.{◌≡◌, ◌∙◌, inl, inr, ℕ, suc, ◌+◌, ◌-◌, ◌<◌, ◌≤◌, List, [], ◌∷◌, ◌++◌, length, refl, sym, ap, subst, arith, Err}
+use Rattle.std.specs.Prelude.{slice_index, max}
+use Rattle.std.proofs.lemmas.List.{length_push}
+use Rattle.program_form.specs.Certificate.{DualDef, dual_seen}
+use Rattle.program_sources.specs.Recurrence.{SourceDef, response_with}
+use Rattle.program_sources.specs.Fitting.{tasks_of, latest_of}
+use Rattle.response_fixpoint.specs.Answers.{Halts}
+use Rattle.response_fixpoint.specs.Rounds.{RunEnd, TooWide, OutOfUnits, Found, with_task, nothing_found, RoundsOf, Passes, Reaches, ComesTo}
+use Rattle.settling.specs.Rising.{IsFoundOf, StopsAt, StopsWalk, IsNextBound}
+use Rattle.settling.specs.Turns.{found_of, IsPart, IsLate, GivesTurn}
+use Rattle.settling.specs.Walks.{IsWalked, walk}
+use Rattle.settling.specs.declared.answer.SettleStop.{SettleStop}
+use Rattle.settling.specs.declared.answer.SettleStop.TheVariants as stop
+use Rattle.settling.specs.declared.finding.Points.{Points}
+use Rattle.settling.specs.declared.reached.Reached.{Reached}
+use Rattle.settling.specs.declared.rounds.Round.{Round}
+use Rattle.settling.specs.declared.steps.Steps.{Steps}
+use Rattle.settling.proofs.RiseLaws.{none_found, one_more_found, no_bounds, one_more_bound}
+
+-- What a search found makes a run of the walk.
+walked_of : (points : Points) (f : SourceDef) (r : List ℕ) (i left bound : ℕ) (found : Reached) → IsFoundOf points (f.program i r) found
+    → found.used ≤ left → bound ≡ max (response_with f r i found.ticks) (slice_index r i)
+    → IsWalked points f r i left found.used bound (dual_seen found.dual)
+walked_of points f r i left bound found is within value = record {
+  exchanges = is.exchanges;
+  table = is.table;
+  end = is.end;
+  units = is.units;
+  within = within;
+  dual_is = is.dual;
+  ticks = found.ticks;
+  reads = is.reads;
+  small = is.is_reached.small;
+  value_is = value;
+}
+
+pub part_begins : (points : Points) (f : SourceDef) (r : List ℕ) (left : ℕ) (round : Round) → found_of round ≡ nothing_found
+    → length round.reached.items ≡ 0 → IsPart points f r left 0 round
+part_begins points f r left round nothing none =
+    let used : round.used ≡ 0 = ap (λ (x : Found). x.used) nothing in
+    let next : length round.next.items ≡ 0 = ap (λ (x : Found). length x.values) nothing in
+    record {
+      passed = nothing;
+      one_each = none;
+      reached = none_found points f r round.reached.items none;
+      next = no_bounds f r round.next.items round.reached.items next;
+      within = omega (arith, used);
+      least = omega arith;
+    }
+
+pub part_goes_on : (points : Points) (f : SourceDef) (r : List ℕ) (left i bound : ℕ) (before now : Round) (found : Reached)
+    → IsPart points f r left i before → IsFoundOf points (f.program i r) found → found.used ≤ left - before.used
+    → bound ≡ max (response_with f r i found.ticks) (slice_index r i) → bound ≤ latest_of f i
+    → found_of now ≡ with_task (found_of before) found.used bound (dual_seen found.dual)
+    → now.reached.items ≡ before.reached.items ++ found ∷ [] → IsPart points f r left (i + 1) now
+part_goes_on points f r left i bound before now found part is within value low same all =
+    let runs = walked_of points f r i (left - before.used) bound found is within value in
+    let after : Found = with_task (found_of before) found.used bound (dual_seen found.dual) in
+    let next : Passes (walk points f) r left (suc i) after =
+    (found_of before, found.used, bound, dual_seen found.dual, part.passed, runs, low, refl) in
+    let count : suc i ≡ i + 1 = omega arith in
+    let used : now.used ≡ before.used + found.used = ap (λ (x : Found). x.used) same in
+    let bounds : now.next.items ≡ before.next.items ++ bound ∷ [] = ap (λ (x : Found). x.values) same in
+    let own : IsNextBound f r i found.ticks bound = record { greater = value; within = low } in
+    record {
+      passed = subst (λ (x : Found). Passes (walk points f) r left (i + 1) x) (sym same)
+          (subst (λ (k : ℕ). Passes (walk points f) r left k after) count next);
+      one_each = omega (arith, ap length all, length_push before.reached.items found, part.one_each);
+      reached = rw all (one_more_found points f r before.reached.items i found part.one_each part.reached is);
+      next = rw (all, bounds) (one_more_bound f r before.next.items before.reached.items i bound found part.one_each part.next own);
+      within = omega (arith, used, within, part.within);
+      least = omega (arith, used, part.least, is.units);
+    }
+
+-- A round ends where a search stops, and where a value passes its latest bound.
+pub turn_stops : (points : Points) (f : SourceDef) (r : List ℕ) (left i : ℕ) (round : Round) (steps : Steps) (s : SettleStop)
+    → i < tasks_of f → IsPart points f r left i round → StopsAt points f r i (left - round.used) s
+    → GivesTurn (Err s) points f r left steps
+turn_stops points f r left i round steps (stop.Wide task) here part (same, runs) =
+    subst (λ (k : ℕ). Halts (walk points f) r left k TooWide) (sym same)
+    (record { found = found_of round; below = here; passed = part.passed; run = runs })
+turn_stops points f r left i round steps stop.Allowance here part runs =
+    (i, record { found = found_of round; below = here; passed = part.passed; run = runs })
+turn_stops points f r left i round steps stop.Memory here part runs = tt
+
+pub late_of : (points : Points) (f : SourceDef) (r : List ℕ) (left i bound : ℕ) (round : Round) (found : Reached) → i < tasks_of f
+    → IsPart points f r left i round → IsFoundOf points (f.program i r) found → found.used ≤ left - round.used
+    → bound ≡ max (response_with f r i found.ticks) (slice_index r i) → slice_index r i ≤ latest_of f i → latest_of f i < bound
+    → IsLate points f r left
+late_of points f r left i bound round found here part is within value most late = record {
+  task = i;
+  used = found.used;
+  value = bound;
+  dual = dual_seen found.dual;
+  halts = record {
+    found = found_of round;
+    below = here;
+    passed = part.passed;
+    run = walked_of points f r i (left - round.used) bound found is within value;
+  };
+  late = late;
+  ticks = found.ticks;
+  reached = is.is_reached.reached;
+  response = omega (arith, value, most, late);
+}
+
+-- The rounds come to where a round of theirs halts.
+pub comes_at : (o : RoundsOf) (allowance k spent : ℕ) (r : List ℕ) (i : ℕ) (e : RunEnd) (h : Halts o r (allowance - spent) i e)
+    → Reaches o allowance k spent r → ComesTo o allowance r i (allowance - spent - h.found.used) h.found
+comes_at o allowance k spent r i e h way = record { rounds = k; spent = spent; reached = way; passed = h.passed; units = refl }
+
+pub walk_stops : (points : Points) (f : SourceDef) (allowance k spent : ℕ) (r : List ℕ) (s : SettleStop) (steps : Steps)
+    → Reaches (walk points f) allowance k spent r → GivesTurn (Err s) points f r (allowance - spent) steps
+    → StopsWalk points f allowance s
+walk_stops points f allowance k spent r (stop.Wide task) steps way h =
+    (r, allowance - spent - h.found.used, h.found, h.below, comes_at (walk points f) allowance k spent r task.0 TooWide h way, h.run)
+walk_stops points f allowance k spent r stop.Allowance steps way (i, h) =
+    (r, i, allowance - spent - h.found.used, h.found, h.below, comes_at (walk points f) allowance k spent r i OutOfUnits h way, h.run)
+walk_stops points f allowance k spent r stop.Memory steps way h = tt
