@@ -6,3 +6,5 @@ pub mod BitLaws
 pub mod AnswerLaws
 pub mod SmallSteps
 pub mod EnoughBits
+pub mod TrailLaws
+pub mod TurnLaws

@@ -4,7 +4,7 @@ use Rattle.std.specs.Prelude.{slice_index, slice_get, Some, None}
 use Rattle.std.specs.declared.option.Option.{Option}
 use Rattle.std.proofs.lemmas.Bool.{cases_lt}
 use Rattle.std.proofs.lemmas.List.{get_or_append_left, get_or_push, length_push}
-use Rattle.std.proofs.lemmas.Option.{slice_get_cases, slice_get_read}
+use Rattle.std.proofs.lemmas.Option.{slice_get_cases, slice_get_read, slice_get-get_or}
 use Rattle.program_form.specs.Certificate.{DualDef}
 use Rattle.program_form.specs.Points.{Reaches, IsGreatestReached}
 use Rattle.program_form.specs.Program.{ProgramDef}
@@ -13,8 +13,8 @@ use Rattle.program_sources.specs.Recurrence.{SourceDef, response_with}
 use Rattle.program_sources.specs.Fitting.{AreFitting, AreBelowAllFitting, tasks_of, latest_of}
 use Rattle.response_fixpoint.proofs.PlaceLaws.{each_more, each_none}
 use Rattle.response_fixpoint.proofs.SolutionLaws.{Rises, renewed_program}
-use Rattle.settling.specs.Rising.{IsFoundOf, AreFoundAt, HaveSmallTicks, IsSame, IsNextBound, AreNextBounds, PassesLatest}
-use Rattle.settling.specs.Ways.{IsEndDual, NothingFits}
+use Rattle.settling.specs.Rising.{IsFoundOf, AreFoundAt, HaveSmallTicks, IsSame, IsNextBound, AreNextBounds}
+use Rattle.settling.specs.Ways.{NothingFits}
 use Rattle.settling.specs.declared.finding.Points.{Points}
 use Rattle.settling.specs.declared.reached.Reached.{Reached}
 
@@ -87,20 +87,34 @@ same_ticks : (r s : Reached) → Some r ≡ Some s → r.ticks ≡ s.ticks
 unfolding ticks_of
 same_ticks r s same = ap ticks_of same
 
+-- What stands in a list with one more element.
+get_before : (found : List Reached) (r : Reached) (k : ℕ) → k < length found → slice_get found k ≡ slice_get (found ++ r ∷ []) k
+get_before found r k here =
+    let grown = length_push found r in
+    slice_get-get_or found k r here ∙ (ap Some (sym (get_or_append_left found (r ∷ []) r k here))
+    ∙ sym (slice_get-get_or (found ++ r ∷ []) k r (omega (arith, here, grown))))
+
+get_last : (found : List Reached) (r : Reached) (k : ℕ) → length found ≡ k → slice_get (found ++ r ∷ []) k ≡ Some r
+get_last found r k last =
+    let grown = length_push found r in
+    slice_get-get_or (found ++ r ∷ []) k r (omega (arith, last, grown)) ∙ ap Some (get_or_push found r r k last)
+
 -- One more bound.
-pub one_more_bound : (f : SourceDef) (v next : List ℕ) (found : List Reached) (i b : ℕ) (r : Reached) → AreNextBounds f v i found next
-    → slice_get found i ≡ Some r → IsNextBound f v i r.ticks b → AreNextBounds f v (i + 1) found (next ++ b ∷ [])
-one_more_bound f v next found i b r are at here = record {
+pub one_more_bound : (f : SourceDef) (v next : List ℕ) (found : List Reached) (i b : ℕ) (r : Reached) → length found ≡ i
+    → AreNextBounds f v i found next → IsNextBound f v i r.ticks b → AreNextBounds f v (i + 1) (found ++ r ∷ []) (next ++ b ∷ [])
+one_more_bound f v next found i b r count are here = record {
   one_each = omega (arith, length_push next b, are.one_each);
   each = λ k x below there. elim (cases_lt k i) [
     | inl earlier ↦
         let same : slice_index (next ++ b ∷ []) k ≡ slice_index next k =
         get_or_append_left next (b ∷ []) 0 k (omega (arith, earlier, are.one_each)) in
-        subst (λ (n : ℕ). IsNextBound f v k x.ticks n) (sym same) (are.each k x earlier there)
+        let old : slice_get found k ≡ Some x = get_before found r k (omega (arith, earlier, count)) ∙ there in
+        subst (λ (n : ℕ). IsNextBound f v k x.ticks n) (sym same) (are.each k x earlier old)
     | inr late ↦
         let last : i ≡ k = omega (arith, late, below) in
         let same : slice_index (next ++ b ∷ []) k ≡ b = get_or_push next b 0 k (are.one_each ∙ last) in
-        let one : Some r ≡ Some x = sym at ∙ (ap (λ (j : ℕ). slice_get found j) last ∙ there) in
+        let at : slice_get (found ++ r ∷ []) k ≡ Some r = get_last found r k (count ∙ last) in
+        let one : Some r ≡ Some x = sym at ∙ there in
         let own : IsNextBound f v k r.ticks b = subst (λ (j : ℕ). IsNextBound f v j r.ticks b) last here in
         let ticks : r.ticks ≡ x.ticks = same_ticks r x one in
         subst (λ (n : ℕ). IsNextBound f v k x.ticks n) (sym same) (subst (λ (t : ℕ). IsNextBound f v k t b) ticks own)
@@ -137,10 +151,9 @@ next_below points f v next found responds are size all below s fits i here =
     omega (arith, response, own, b.greater)
 
 -- If a response time passes its latest bound, nothing fits.
-pub late_fits_nothing : (points : Points) (f : SourceDef) (v : List ℕ) (found : List Reached) → RespondsBelow f → AreFoundAt points f v found
-    → AreBelowAllFitting f v → PassesLatest f v found → NothingFits f
-late_fits_nothing points f v found responds all below (i, r, here, at, late) s fits =
-    let response : response_with f v i r.ticks ≤ slice_index s i =
-    responds v s i r.ticks below fits here (found_at points f v found i r all at).is_reached.reached in
+pub late_fits_nothing : (f : SourceDef) (v : List ℕ) (i ticks : ℕ) → RespondsBelow f → AreBelowAllFitting f v → i < tasks_of f
+    → Reaches (f.program i v) ticks → latest_of f i < response_with f v i ticks → NothingFits f
+late_fits_nothing f v i ticks responds below here reached late s fits =
+    let response : response_with f v i ticks ≤ slice_index s i = responds v s i ticks below fits here reached in
     let within : slice_index s i ≤ latest_of f i = fits.within i here in
     absurd (omega (arith, response, within, late))

@@ -20,13 +20,12 @@ use Rattle.response_fixpoint.specs.Rounds.{TooWide, OutOfUnits, Schedulable, Not
 use Rattle.schedule_answers.specs.declared.checked.Invalid.{Invalid}
 use Rattle.schedule_answers.specs.declared.checked.Invalid.TheVariants as invalid
 use Rattle.free_search.specs.Ends.{IsEndAfter, IsFoundDual, NeedsMoreThan}
-use Rattle.free_search.specs.Rounding.{HaveGreat}
+use Rattle.free_search.specs.Rounding.{AreWrittenDown, HaveGreatWholes}
 use Rattle.free_search.specs.declared.found.Found.{Found}
 use Rattle.free_search.specs.declared.found.SearchStop.{SearchStop}
 use Rattle.free_search.specs.declared.found.SearchStop.TheVariants.{Memory, Units, Lost}
-use Rattle.free_search.specs.declared.rounding.Rounding.TheVariants.{Down}
 use Rattle.settling.specs.Trails.{IsRefusal}
-use Rattle.settling.specs.Walks.{IsRoundedOver, Reads, IsPastReading, WalkRuns, walk}
+use Rattle.settling.specs.Walks.{Reads, IsPastReading, WalkRuns, walk}
 use Rattle.settling.specs.Ways.{LosesWhole, NothingFits}
 use Rattle.settling.specs.declared.answer.SettleStop.{SettleStop}
 use Rattle.settling.specs.declared.answer.SettleStop.TheVariants as stop
@@ -100,7 +99,7 @@ duals_found found = map dual_seen (map (λ r. r.dual) found)
 -- Is it the same with its point rounded down? And are the ticks what the rounded point is worth?
 pub record HasRounded (p : ProgramDef) (found rounded : Found) : Type 0 where
   pub point : DualDef
-  pub written : IsRoundedOver found.den found.num.items point
+  pub written : AreWrittenDown found.num.items found.den point
   pub den : rounded.den ≡ point.den
   pub num : rounded.num.items ≡ point.num
   pub ticks : rounded.ticks ≡ whole_worth p point
@@ -110,7 +109,7 @@ pub record HasRounded (p : ProgramDef) (found rounded : Found) : Type 0 where
 -- Is there such a point, worth more ticks than 64 bits hold?
 pub record IsWorthTooMuch (p : ProgramDef) (found : Found) : Type 0 where
   pub point : DualDef
-  pub written : IsRoundedOver found.den found.num.items point
+  pub written : AreWrittenDown found.num.items found.den point
   pub great : 2 ^ 64 ≤ whole_worth p point
 
 -- What rounding the point of what was found gives. Lost says that the point or its worth is too great.
@@ -118,7 +117,7 @@ abbrev pub IsRoundedFrom : ProgramDef → Found → Result Found SearchStop → 
 IsRoundedFrom p found (Ok rounded) = HasRounded p found rounded
 IsRoundedFrom p found (Err Memory) = Unit {0}
 IsRoundedFrom p found (Err Units) = ⊥
-IsRoundedFrom p found (Err Lost) = (HaveGreat Down found.num.items found.den 1) ⊎ IsWorthTooMuch p found
+IsRoundedFrom p found (Err Lost) = (HaveGreatWholes found.num.items found.den) ⊎ IsWorthTooMuch p found
 
 -- Is this read at the end of the program's run, within so many units? And is its point worth the ticks?
 pub record IsFoundBy (points : Points) (p : ProgramDef) (units : ℕ) (found : Found) : Type 0 where

@@ -8,22 +8,17 @@ use Rattle.program_sources.specs.Fitting.{tasks_of, latest_of}
 use Rattle.exchange_runs.specs.Table.{Table}
 use Rattle.exchange_runs.specs.Readings.{value_of}
 use Rattle.free_search.specs.Ends.{IsEndAfter, IsPointOf, IsFoundDual, IsTooGreat, NeedsMoreThan}
-use Rattle.free_search.specs.Rounding.{AreInLowestTerms, HaveNoExact, AreRounded, HaveGreat}
-use Rattle.free_search.specs.declared.rounding.Rounding.TheVariants.{Down}
+use Rattle.free_search.specs.Rounding.{AreWrittenDown, HaveGreatWholes}
 use Rattle.refusal_laws.specs.Steps.{costs_of, whole_worth}
 use Rattle.response_fixpoint.specs.Rounds.{RunEnd, Valued, TooWide, OutOfUnits, RoundsOf, Schedulable, Wide, Allowance, EndsIn}
 use Rattle.settling.specs.Ways.{NothingFits}
 use Rattle.settling.specs.declared.finding.Points.{Points}
 use Rattle.settling.specs.declared.finding.Points.TheVariants.{Exact, Rounded}
 
--- Are these the numbers over `den`, written with 63 bits? They are in lowest terms. Only if no exact ones have 63 bits, each is rounded
+-- Is it the point of a run's end, written with 63 bits? It is in lowest terms. Only if no exact one has 63 bits, each number is rounded
 -- down, over the greatest power of two at which all of them have.
-abbrev pub IsRoundedOver : ℕ → List ℕ → DualDef → Type 0
-IsRoundedOver den num point = AreInLowestTerms num den point ⊎ (HaveNoExact num den × AreRounded Down num den point)
-
--- Is it the point of a run's end, written so?
 abbrev pub IsRoundedPoint : ProgramDef → Table → DualDef → Type 0
-IsRoundedPoint p t point = (den : ℕ) × (num : List ℕ) × (IsPointOf p t den num) × IsRoundedOver den num point
+IsRoundedPoint p t point = (den : ℕ) × (num : List ℕ) × (IsPointOf p t den num) × AreWrittenDown num den point
 
 -- How many whole ticks does a walk read at the end of a run? With exact points it is the whole part of the optimum. With rounded ones it is
 -- what the rounded point is worth.
@@ -34,7 +29,7 @@ Reads Rounded p t ticks = (point : DualDef) × (IsRoundedPoint p t point) × (ti
 -- Has the rounded point more than 63 bits, over any power of two?
 abbrev pub HasGreatPoint : Points → ProgramDef → Table → Type 0
 HasGreatPoint Exact p t = ⊥
-HasGreatPoint Rounded p t = (den : ℕ) × (num : List ℕ) × (IsPointOf p t den num) × HaveGreat Down num den 1
+HasGreatPoint Rounded p t = (den : ℕ) × (num : List ℕ) × (IsPointOf p t den num) × HaveGreatWholes num den
 
 -- Is the end too great to be read: its dual, its point or the ticks?
 abbrev pub IsPastReading : Points → ProgramDef → Table → Type 0

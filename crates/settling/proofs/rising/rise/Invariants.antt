@@ -1,20 +1,26 @@
-use Rattle.std.proofs.Common.{◌≡◌, ℕ, List}
+use Rattle.std.proofs.Common.{ℕ, ◌≤◌, ◌-◌, List}
 use Rattle.program_sources.specs.Bounds.{IsInRange}
 use Rattle.program_sources.specs.Recurrence.{source_at}
 use Rattle.program_sources.specs.Fitting.{AreBelowAllFitting}
+use Rattle.response_fixpoint.specs.Rounds.{Reaches}
 use Rattle.settling.specs.Rising.{AreFoundAt}
-use Rattle.settling.specs.Ways.{IsOnWay}
-use Rattle.settling.specs.declared.finding.Points.TheVariants.{Exact}
+use Rattle.settling.specs.Trails.{IsTrail}
+use Rattle.settling.specs.Turns.{AreWrittenIfRounded}
+use Rattle.settling.specs.Walks.{walk}
 use Rattle.settling.proofs.rising.rise.Given as goal
 
--- the bounds are at most every fitting vector, and, with exact points, those after some rounds; what was found before is of other bounds
-abbrev pub invariant-loop-all : goal.invariant-loop-all
-invariant-loop-all g l = record {
+-- the rounds of the walk have come to these bounds, with the units that are spent, and the steps lead there; the bounds are at most every
+-- fitting vector; what was found before is of other bounds
+abbrev pub invariant-loop-turn : goal.invariant-loop-turn
+invariant-loop-turn g l = record {
+  way : (k : ℕ) × Reaches (walk l.points (source_at (g.P.ProgramSource.source l.protocol) l.set)) l.allowance k l.spent l.bounds.items;
+  within : l.spent ≤ l.allowance;
   range : IsInRange l.set l.bounds.items;
   below : AreBelowAllFitting (source_at (g.P.ProgramSource.source l.protocol) l.set) l.bounds.items;
-  before : (u : List ℕ) × AreFoundAt l.points (source_at (g.P.ProgramSource.source l.protocol) l.set) u l.reached.items;
-  way : l.points ≡ Exact → IsOnWay (source_at (g.P.ProgramSource.source l.protocol) l.set) l.bounds.items;
+  before : (u : List ℕ) × AreFoundAt l.points (source_at (g.P.ProgramSource.source l.protocol) l.set) u l.before.items;
+  trail : IsTrail (source_at (g.P.ProgramSource.source l.protocol) l.set) l.bounds.items l.steps;
+  written : AreWrittenIfRounded l.points l.steps;
 }
 
-abbrev pub decreases-loop-all : goal.decreases-loop-all
-decreases-loop-all g l = l.left
+abbrev pub decreases-loop-turn : goal.decreases-loop-turn
+decreases-loop-turn g l = l.allowance - l.spent

@@ -1,0 +1,12 @@
+use Rattle.program_sources.specs.Recurrence.{source_at}
+use Rattle.settling.specs.Trails.{IsTrailWithin}
+use Rattle.settling.specs.Turns.{found_of, IsPart, AreWrittenIfRounded}
+use Rattle.settling.proofs.rounds.take_round.Given as goal
+
+-- the tasks so far pass, and the steps lead to what was found of them
+abbrev pub invariant-loop-i : goal.invariant-loop-i
+invariant-loop-i g l = record {
+  part : IsPart l.points (source_at (g.P.ProgramSource.source l.protocol) l.set) l.bounds l.left l.i l.round;
+  trail : IsTrailWithin (source_at (g.P.ProgramSource.source l.protocol) l.set) l.bounds (found_of l.round) l.i l.steps;
+  written : AreWrittenIfRounded l.points l.steps;
+}
