@@ -11,14 +11,14 @@ use Rattle.program_form.specs.declared.certificate.Dual.{Dual}
 use Rattle.program_sources.specs.Recurrence.{SourceDef, response_with}
 use Rattle.program_sources.specs.Fitting.{tasks_of, latest_of}
 use Rattle.program_sources.proofs.RecurrenceLaws.{LimitsRise}
-use Rattle.refusal_laws.specs.Steps.{StepDef, no_step, step_at, IsStep}
+use Rattle.refusal_laws.specs.Steps.{StepDef, no_step, step_at, costs_of, IsStep}
 use Rattle.response_fixpoint.specs.Answers.{IsSmallDual}
 use Rattle.response_fixpoint.specs.Rounds.{Found, with_task}
 use Rattle.refusal_cert.specs.Leading.{after_all, IsLed}
 use Rattle.refusal_cert.specs.Steps.{step_of}
 use Rattle.refusal_cert.proofs.Led.{after_all_length, own, step_of_point, led_step, led_same, last_holds}
 use Rattle.settling.specs.Rising.{IsPointFor, seen_point}
-use Rattle.settling.specs.Trails.{HasSmallPoints, AddsStep, AddsRise, LeadsTo, LeadsWithin, IsRefusal, IsTrail, IsTrailWithin, EndsTrail, seen}
+use Rattle.settling.specs.Trails.{HasSmallPoints, IsEmpty, AddsStep, AddsRise, LeadsTo, LeadsWithin, IsRefusal, IsTrail, IsTrailWithin, EndsTrail, seen}
 use Rattle.settling.specs.Turns.{AreWrittenIfRounded}
 use Rattle.settling.specs.declared.finding.Points.{Points}
 use Rattle.settling.specs.declared.finding.Points.TheVariants.{Rounded}
@@ -105,6 +105,15 @@ pub trail_ends : (f : SourceDef) → LimitsRise f → (r : List ℕ) (i value ti
 trail_ends f rise r i value ticks found point before now here is within late shows adds trail =
     let past : slice_index r i < value = omega (arith, within, late) in
     late_adds f rise r i value ticks found point before now here is late shows (adds.rises past) past trail
+
+-- A walk begins with no step, at the costs.
+pub trail_starts : (f : SourceDef) (v : List ℕ) (steps : Steps) → v ≡ costs_of f.set → IsEmpty steps → IsTrail f v steps
+trail_starts f v steps first empty written =
+    subst (λ (s : List StepDef). LeadsTo f v s) (sym empty.none) (record {
+      leads = record { each = λ k l. absurd (omega (arith, l)); calm = λ k l. absurd (omega (arith, l)) };
+      vector = sym first;
+      small = λ k l. absurd (omega (arith, l));
+    })
 
 -- A round begins at r, and ends at what it has found.
 pub trail_begins : (f : SourceDef) (r : List ℕ) (found : Found) (steps : Steps) → IsTrail f r steps → IsTrailWithin f r found 0 steps
