@@ -17,7 +17,7 @@ use Rattle.free_search.specs.Ends.{IsEndAfter, IsFoundDual, HasGreatDual}
 use Rattle.response_fixpoint.specs.Rounds.{Schedulable, Wide, Found, Passes, Reaches, EndsIn}
 use Rattle.response_fixpoint.proofs.RoundLaws.{passed_task, values_length}
 use Rattle.settling.specs.Rising.{IsFixed, IsProvedLeast, duals_found}
-use Rattle.settling.specs.Walks.{IsWalked, walk}
+use Rattle.settling.specs.Walks.{IsPastReading, IsWalked, walk}
 use Rattle.settling.specs.Ways.{AreResponses, IsAfterRounds, EndsTooGreat, LosesWhole, NeedsMoreBits, NoneNeedsMore}
 use Rattle.settling.specs.declared.finding.Points.TheVariants.{Exact}
 use Rattle.settling.specs.declared.reached.Reached.{Reached}
@@ -48,6 +48,12 @@ abbrev pub EndsOnce : Type 0
 EndsOnce = (p : ProgramDef) (k j : ℕ) (t u : Table) (d e : DualDef) → IsEndAfter p k t → IsEndAfter p j u → IsFoundDual p t d
     → IsFoundDual p u e → d ≡ e
 
+-- The end of a run that is past reading is too great.
+pub past_is_too_great : (p : ProgramDef) (k : ℕ) (t : Table) → IsEndAfter p k t → IsPastReading Exact p t → EndsTooGreat p
+past_is_too_great p k t end (inl great) = (k, t, end, inl great)
+past_is_too_great p k t end (inr (inl none)) = absurd none
+past_is_too_great p k t end (inr (inr (ticks, reads, great))) = (k, t, end, inr (ticks, reads, great))
+
 -- Where a run is walked, its end fits.
 small_value : (f : SourceDef) (v : List ℕ) (i left used value : ℕ) (dual : DualDef) (j n : ℕ) (u : Table) → EndsAtGreatest
     → IsWalked Exact f v i left used value dual → IsEndAfter (f.program i v) j u → IsFloor (value_of (f.program i v) u) (pos n) → n < 2 ^ 63
@@ -56,7 +62,7 @@ small_value f v i left used value dual j n u at run end floor =
     (at (f.program i v) j u n end floor).reached in
     omega (arith, within, run.small)
 
-walked_fits : (f : SourceDef) (v : List ℕ) (i left used value : ℕ) (dual : DualDef) → EndsFit → EndsAtGreatest
+pub walked_fits : (f : SourceDef) (v : List ℕ) (i left used value : ℕ) (dual : DualDef) → EndsFit → EndsAtGreatest
     → IsWalked Exact f v i left used value dual → EndsTooGreat (f.program i v) → ⊥
 walked_fits f v i left used value dual fit at run (j, u, end, inl (inl great)) =
     fit (f.program i v) run.exchanges j run.table u dual run.end end run.dual_is great
@@ -124,13 +130,9 @@ way_of_walk f fit at above allowance (suc k) used r (before, q, found, reached, 
 -- If the walk is wide at a task, that task needs more bits.
 pub wide_needs_more : (f : SourceDef) → EndsFit → EndsAtGreatest → ComesUpAbove f → (allowance i : ℕ)
     → EndsIn (walk Exact f) allowance (Wide i) → NeedsMoreBits f i
-wide_needs_more f fit at above allowance i (r, left, found, below, comes, (k, t, within, end, inl great)) =
+wide_needs_more f fit at above allowance i (r, left, found, below, comes, (k, t, within, end, past)) =
     let way : IsOnWay f r = way_of_walk f fit at above allowance comes.rounds comes.spent r comes.reached in
-    (way.rounds, r, way.after, below, inl (k, t, end, inl great))
-wide_needs_more f fit at above allowance i (r, left, found, below, comes, (k, t, within, end, inr (inl none))) = absurd none
-wide_needs_more f fit at above allowance i (r, left, found, below, comes, (k, t, within, end, inr (inr (ticks, reads, great)))) =
-    let way : IsOnWay f r = way_of_walk f fit at above allowance comes.rounds comes.spent r comes.reached in
-    (way.rounds, r, way.after, below, inl (k, t, end, inr (ticks, reads, great)))
+    (way.rounds, r, way.after, below, inl (past_is_too_great (f.program i r) k t end past))
 
 -- What the end of a walk says of its bounds: they are on the way, all fit there too, and the recurrence gives them again.
 record IsEndOfWay (f : SourceDef) (v : List ℕ) : Type 0 where
