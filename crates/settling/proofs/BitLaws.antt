@@ -1,5 +1,5 @@
 -- The rounds of a walk with exact points are those of the recurrence. So its ends say which tasks need more than 63 bits.
-use Rattle.std.proofs.Common.{◌≡◌, inl, inr, ℕ, zero, suc, ◌+◌, ◌-◌, ◌<◌, ◌≤◌, ◌^◌, List, length, refl, sym, ap, subst, arith}
+use Rattle.std.proofs.Common.{◌≡◌, inl, inr, ℕ, zero, suc, ◌+◌, ◌-◌, ◌<◌, ◌≤◌, ◌^◌, List, refl, sym, ap, subst, arith}
 use Rattle.std.proofs.Common.{pos, ◌∙◌}
 use Rattle.std.specs.Prelude.{slice_index}
 use Rattle.std.proofs.lemmas.Bool.{cases_lt}
@@ -49,7 +49,7 @@ EndsOnce = (p : ProgramDef) (k j : ℕ) (t u : Table) (d e : DualDef) → IsEndA
     → IsFoundDual p u e → d ≡ e
 
 -- The end of a run that is past reading is too great.
-pub past_is_too_great : (p : ProgramDef) (k : ℕ) (t : Table) → IsEndAfter p k t → IsPastReading Exact p t → EndsTooGreat p
+past_is_too_great : (p : ProgramDef) (k : ℕ) (t : Table) → IsEndAfter p k t → IsPastReading Exact p t → EndsTooGreat p
 past_is_too_great p k t end (inl great) = (k, t, end, inl great)
 past_is_too_great p k t end (inr (inl none)) = absurd none
 past_is_too_great p k t end (inr (inr (ticks, reads, great))) = (k, t, end, inr (ticks, reads, great))
@@ -62,7 +62,7 @@ small_value f v i left used value dual j n u at run end floor =
     (at (f.program i v) j u n end floor).reached in
     omega (arith, within, run.small)
 
-pub walked_fits : (f : SourceDef) (v : List ℕ) (i left used value : ℕ) (dual : DualDef) → EndsFit → EndsAtGreatest
+walked_fits : (f : SourceDef) (v : List ℕ) (i left used value : ℕ) (dual : DualDef) → EndsFit → EndsAtGreatest
     → IsWalked Exact f v i left used value dual → EndsTooGreat (f.program i v) → ⊥
 walked_fits f v i left used value dual fit at run (j, u, end, inl (inl great)) =
     fit (f.program i v) run.exchanges j run.table u dual run.end end run.dual_is great

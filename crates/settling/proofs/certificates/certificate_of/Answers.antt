@@ -11,7 +11,8 @@ use Rattle.settling.proofs.certificates.certificate_of.Goals as goal
 pub judge-requires-clause-denominators : goal.judge-requires-clause-denominators
 judge-requires-clause-denominators g c =
     let f : SourceDef = source_at (g.P.ProgramSource.source c.args.protocol.now) c.args.set.now in
-    subst (λ (ds : List Dual). HasDenominators (record { bounds = c.args.bounds.items; duals = map dual_seen ds })) (sym c.in_ok-duals.ensures)
+    subst (λ (ds : List Dual). HasDenominators (record { bounds = c.args.bounds.items; duals = map dual_seen ds }))
+    (sym c.in_ok-duals.ensures)
     (has_denominators f c.args.allowance c.args.bounds.items c.args.reached.items c.what_is_found_is_best.ensures.covers c.requires.fixed)
 
 pub stop_for-requires : goal.stop_for-requires
@@ -35,7 +36,8 @@ returns-in-Ok-clause-least g c =
     let valid : IsValid f (certificate_with c.args.bounds.items c.args.reached.items) =
     subst (λ (ds : List Dual). IsValid f (record { bounds = c.args.bounds.items; duals = map dual_seen ds })) c.in_ok-duals.ensures
     c.in-Ok.ensures.judges.0 in
-    subst (λ (ds : List Dual). IsProvedLeast f (record { bounds = c.args.bounds.items; duals = map dual_seen ds })) (sym c.in_ok-duals.ensures)
+    subst (λ (ds : List Dual). IsProvedLeast f (record { bounds = c.args.bounds.items; duals = map dual_seen ds }))
+    (sym c.in_ok-duals.ensures)
     (proved_least f c.args.allowance c.args.bounds.items c.args.reached.items c.what_is_found_is_best.ensures.covers c.requires.fixed
     (c.a_certificate_below_all_fitting_is_least.ensures f (certificate_with c.args.bounds.items c.args.reached.items) valid
     c.requires.fixed.below) valid)
