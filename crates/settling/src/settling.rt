@@ -66,6 +66,7 @@ fn settle_wide<R: Threads + Sync, P: ProgramSource + Sync>(
 {
     recurrence_is_monotone::<P>();
     what_is_found_is_best();
+    the_end_is_read_in_one_way();
     match rise(alloc, set, protocol, Points::Exact, allowance) {
         Ok(Risen::Fixed(bounds, reached)) => {
             settle_fixed(alloc, set, protocol, bounds, reached, allowance)
