@@ -3,7 +3,7 @@ use Rattle.std.proofs.Common.{◌≡◌, ℕ, ◌<◌, List, map, Ok, Err, IfOk,
 use Rattle.std.specs.Prelude.{◌↔◌, Bool, Result}
 use Rattle.program_form.specs.Certificate.{CertificateDef, dual_seen, certificate_seen}
 use Rattle.program_sources.specs.Recurrence.{SourceDef}
-use Rattle.program_sources.specs.Fitting.{AreFitting, tasks_of}
+use Rattle.program_sources.specs.Fitting.{AreFitting, AreLeastFitting, tasks_of}
 use Rattle.response_fixpoint.specs.Answers.{Answers, IsBest}
 use Rattle.response_fixpoint.specs.Rounds.{Ending, Schedulable, NotShown, Wide, Allowance, EndsIn}
 use Rattle.response_fixpoint.specs.Runs.{rounds_of}
@@ -25,13 +25,12 @@ use Rattle.schedule_model.specs.declared.rule.Rule.{Rule}
 use Rattle.soundness_laws.specs.Sound.{Sound}
 use Rattle.soundness_laws.specs.Analyses.{AreValues}
 use Rattle.settling.specs.Answers.{Settles, IsRight, IsSchedulable, Keeps, AnswersSo, GivesWide, GivesRefusal, IsNotShown, IsLeftOpen}
-use Rattle.settling.specs.Answers.{RefusesSo, IsSound, IsWideOnlySo, HasEnough, StopsWithin}
-use Rattle.settling.specs.Rising.{StopsAt, StopsLost, StopsOpen, ShowsEnough}
-use Rattle.settling.specs.Ways.{IsOnWay, NothingFits, NoneNeedsMore}
+use Rattle.settling.specs.Answers.{RefusesSo, IsRefusedSo, IsSound, IsWideOnlySo, HasEnough, StopsWithin}
+use Rattle.settling.specs.Rising.{StopsLost, StopsWalk}
+use Rattle.settling.specs.Walks.{walk}
+use Rattle.settling.specs.Ways.{LosesWhole, NothingFits, NeedsMoreBits}
 use Rattle.settling.specs.declared.finding.Points.{Points}
-use Rattle.settling.specs.declared.finding.Points.TheVariants.{Exact}
-use Rattle.settling.specs.declared.rising.Risen.{Risen}
-use Rattle.settling.specs.declared.rising.Risen.TheVariants as risen
+use Rattle.settling.specs.declared.finding.Points.TheVariants.{Exact, Rounded}
 use Rattle.settling.specs.declared.answer.Settled.{Settled}
 use Rattle.settling.specs.declared.answer.Settled.TheVariants as settled
 use Rattle.settling.specs.declared.answer.SettleStop.{SettleStop}
@@ -57,7 +56,7 @@ keeps_of f allowance (Ok (settled.Refused refusal)) one (inl ((i, value, late), 
 keeps_of f allowance (Ok (settled.Refused refusal)) one (inr (left, small)) e ends = left_open f allowance one left e ends
 keeps_of f allowance (Err (stop.Wide task)) one left e ends = left_open f allowance one left e ends
 keeps_of f allowance (Err stop.Allowance) one (inl own) e ends = inl (one e Allowance ends own)
-keeps_of f allowance (Err stop.Allowance) one (inr (inl left)) e ends = inr (left_open f allowance one left e ends)
+keeps_of f allowance (Err stop.Allowance) one (inr (inl (left, more))) e ends = inr (left_open f allowance one left e ends)
 keeps_of f allowance (Err stop.Allowance) one (inr (inr ((i, value, late), short))) e ends =
     inr (inl (i, value, one e (NotShown i value) ends late))
 keeps_of f allowance (Err stop.Memory) one settles e ends = tt
@@ -76,11 +75,11 @@ pub answers_best : (f : SourceDef) (allowance : ℕ) (c : Certificate)
 answers_best f allowance c ends best = (inl ends, record { least = best.least; valid = best.valid; small = best.small })
 
 pub answers_wide : (f : SourceDef) (allowance i : ℕ) (r : Result Settled SettleStop) → EndsIn (rounds_of f) allowance (Wide i)
-    → GivesWide r f → AnswersSo r f allowance
+    → GivesWide r f allowance → AnswersSo r f allowance
 answers_wide f allowance i (Ok (settled.Schedulable certificate)) wide gives = (inr (i, wide), gives)
 answers_wide f allowance i (Ok (settled.Refused refusal)) wide gives = (inr (inl (i, wide), gives.1), gives.0)
 answers_wide f allowance i (Err (stop.Wide task)) wide gives = (inl (i, wide), tt)
-answers_wide f allowance i (Err stop.Allowance) wide gives = (inr (inl (inl (i, wide))), tt)
+answers_wide f allowance i (Err stop.Allowance) wide gives = (inr (inl (inl (i, wide), gives)), tt)
 answers_wide f allowance i (Err stop.Memory) wide gives = (tt, tt)
 
 pub answers_refusal : (f : SourceDef) (allowance : ℕ) (r : Result Settled SettleStop) → IsNotShown f allowance
@@ -90,23 +89,52 @@ answers_refusal f allowance (Ok (settled.Refused refusal)) late (right, inl refu
 answers_refusal f allowance (Ok (settled.Refused refusal)) late (right, inr (wide, small)) =
     (inr (inr (late, wide), small), right)
 answers_refusal f allowance (Err (stop.Wide task)) late gives = (inr (late, gives), tt)
-answers_refusal f allowance (Err stop.Allowance) late (inl wide) = (inr (inl (inr (late, wide))), tt)
+answers_refusal f allowance (Err stop.Allowance) late (inl (wide, more)) = (inr (inl (inr (late, wide), more)), tt)
 answers_refusal f allowance (Err stop.Allowance) late (inr short) = (inr (inr (late, short)), tt)
 answers_refusal f allowance (Err stop.Memory) late gives = (tt, tt)
 
--- What steps of a search give, for a wide analysis and for wide rounds of refusals.
-pub wide_of : (f : SourceDef) (r : Result Settled SettleStop) → RefusesSo r f → GivesWide r f
-wide_of f (Ok (settled.Schedulable certificate)) gives = absurd gives
-wide_of f (Ok (settled.Refused refusal)) gives = gives
-wide_of f (Err e) gives = tt
+-- What a walk with rounded points gives if nothing fits, for a wide analysis and for wide rounds of refusals.
+pub wide_of : (f : SourceDef) (allowance : ℕ) (r : Result Settled SettleStop) → NothingFits f → RefusesSo r f allowance
+    → GivesWide r f allowance
+wide_of f allowance (Ok (settled.Schedulable certificate)) nothing gives = absurd gives
+wide_of f allowance (Ok (settled.Refused refusal)) nothing gives = gives
+wide_of f allowance (Err (stop.Wide task)) nothing gives = tt
+wide_of f allowance (Err stop.Allowance) nothing gives = inr (nothing, gives)
+wide_of f allowance (Err stop.Memory) nothing gives = tt
 
 pub refusal_of_steps : (f : SourceDef) (allowance i : ℕ) (r : Result Settled SettleStop) → EndsIn (refuting f) allowance (Wide i)
-    → RefusesSo r f → GivesRefusal r f allowance
-refusal_of_steps f allowance i (Ok (settled.Schedulable certificate)) wide gives = absurd gives
-refusal_of_steps f allowance i (Ok (settled.Refused refusal)) wide gives = (gives.0, inr ((i, wide), gives.1))
-refusal_of_steps f allowance i (Err (stop.Wide task)) wide gives = (i, wide)
-refusal_of_steps f allowance i (Err stop.Allowance) wide gives = inl (i, wide)
-refusal_of_steps f allowance i (Err stop.Memory) wide gives = tt
+    → NothingFits f → RefusesSo r f allowance → GivesRefusal r f allowance
+refusal_of_steps f allowance i (Ok (settled.Schedulable certificate)) wide nothing gives = absurd gives
+refusal_of_steps f allowance i (Ok (settled.Refused refusal)) wide nothing gives = (gives.0, inr ((i, wide), gives.1))
+refusal_of_steps f allowance i (Err (stop.Wide task)) wide nothing gives = (i, wide)
+refusal_of_steps f allowance i (Err stop.Allowance) wide nothing gives = inl ((i, wide), inr (nothing, gives))
+refusal_of_steps f allowance i (Err stop.Memory) wide nothing gives = tt
+
+pub only_if_nothing : (f : SourceDef) (allowance : ℕ) (r : Result Settled SettleStop) → NothingFits f → RefusesSo r f allowance
+    → IsWideOnlySo r f allowance
+only_if_nothing f allowance (Ok settled) nothing gives = tt
+only_if_nothing f allowance (Err (stop.Wide task)) nothing gives = inl (nothing, gives)
+only_if_nothing f allowance (Err stop.Allowance) nothing gives = tt
+only_if_nothing f allowance (Err stop.Memory) nothing gives = tt
+
+pub refused_enough : (f : SourceDef) (allowance : ℕ) (r : Result Settled SettleStop) → RefusesSo r f allowance
+    → IfOk r (λ s. HasEnough f s)
+refused_enough f allowance (Ok (settled.Schedulable certificate)) gives = absurd gives
+refused_enough f allowance (Ok (settled.Refused refusal)) gives = tt
+refused_enough f allowance (Err e) gives = tt
+
+-- What a refusal gives.
+pub refused_gives : (f : SourceDef) (allowance : ℕ) (s : Settled) → IsRefusedSo f s → GivesWide (Ok s) f allowance
+refused_gives f allowance (settled.Schedulable certificate) is = absurd is
+refused_gives f allowance (settled.Refused refusal) is = is
+
+pub refused_so : (f : SourceDef) (allowance : ℕ) (s : Settled) → IsRefusedSo f s → RefusesSo (Ok s) f allowance
+refused_so f allowance (settled.Schedulable certificate) is = absurd is
+refused_so f allowance (settled.Refused refusal) is = is
+
+pub refused_needs_none : (f : SourceDef) (s : Settled) → IsRefusedSo f s → HasEnough f s
+refused_needs_none f (settled.Schedulable certificate) is = absurd is
+refused_needs_none f (settled.Refused refusal) is = tt
 
 -- What the endings of an analysis and of a refutation say, for each variant of the answers.
 pub not_shown_of : (f : SourceDef) (allowance : ℕ) (r : Result Verdict Stop) (v : Verdict) (task : TaskId) (bound : ℕ)
@@ -160,48 +188,45 @@ sound_of f keeps interferes (Ok (settled.Schedulable certificate)) right law =
 sound_of f keeps interferes (Ok (settled.Refused refusal)) right law = tt
 sound_of f keeps interferes (Err e) right law = tt
 
--- If nothing fits, a wide stop has its cause. So it has in a walk with exact points, where it names a task that needs more bits.
-pub only_if_nothing : (f : SourceDef) (r : Result Settled SettleStop) → NothingFits f → IsWideOnlySo r f
-only_if_nothing f (Ok settled) nothing = tt
-only_if_nothing f (Err (stop.Wide task)) nothing = inl nothing
-only_if_nothing f (Err stop.Allowance) nothing = tt
-only_if_nothing f (Err stop.Memory) nothing = tt
+-- What the stops of walks say.
+abbrev pub NeedsMoreIfWide : SourceDef → ℕ → Type 0
+NeedsMoreIfWide f allowance = (i : ℕ) → EndsIn (walk Exact f) allowance (Wide i) → NeedsMoreBits f i
 
-pub only_if_open : (f : SourceDef) (e : SettleStop) → StopsOpen Exact f e → IsWideOnlySo (Err e) f
-only_if_open f (stop.Wide task) needs = inr (needs refl)
-only_if_open f stop.Allowance needs = tt
-only_if_open f stop.Memory needs = tt
+pub walk_gives : (f : SourceDef) (allowance : ℕ) (e : SettleStop) → StopsWalk Exact f allowance e → GivesWide (Err e) f allowance
+walk_gives f allowance (stop.Wide task) ends = tt
+walk_gives f allowance stop.Allowance ends = inl ends
+walk_gives f allowance stop.Memory ends = tt
 
--- Wide stops of a walk.
-pub open_at : (points : Points) (f : SourceDef) (v : List ℕ) (e : SettleStop) → (points ≡ Exact → IsOnWay f v)
-    → StopsAt points f v e → StopsOpen points f e
-open_at points f v (stop.Wide task) way (within, great) = λ exact.
-    let there = way exact in (there.rounds, v, there.after, within, inl (great exact))
-open_at points f v stop.Allowance way stops = tt
-open_at points f v stop.Memory way stops = tt
+pub walk_wide : (f : SourceDef) (allowance : ℕ) (e : SettleStop) → NeedsMoreIfWide f allowance → StopsWalk Exact f allowance e
+    → IsWideOnlySo (Err e) f allowance
+walk_wide f allowance (stop.Wide task) needs ends = inr (needs task.0 ends)
+walk_wide f allowance stop.Allowance needs ends = tt
+walk_wide f allowance stop.Memory needs ends = tt
 
-pub open_lost : (points : Points) (f : SourceDef) (v : List ℕ) (e : SettleStop) → (points ≡ Exact → IsOnWay f v)
-    → StopsLost points f v e → StopsOpen points f e
-open_lost points f v (stop.Wide task) way (within, lost) = λ exact.
-    let there = way exact in (there.rounds, v, there.after, within, inr (lost exact))
-open_lost points f v stop.Allowance way stops = tt
-open_lost points f v stop.Memory way stops = tt
+pub walk_refuses : (f : SourceDef) (allowance : ℕ) (e : SettleStop) → StopsWalk Rounded f allowance e → RefusesSo (Err e) f allowance
+walk_refuses f allowance (stop.Wide task) ends = inl (task.0, ends)
+walk_refuses f allowance stop.Allowance ends = ends
+walk_refuses f allowance stop.Memory ends = tt
 
-pub names_at : (points : Points) (f : SourceDef) (v : List ℕ) (e : SettleStop) → StopsAt points f v e → StopsWithin f.set e
-names_at points f v (stop.Wide task) stops = stops.0
-names_at points f v stop.Allowance stops = tt
-names_at points f v stop.Memory stops = tt
+pub names_walk : (points : Points) (f : SourceDef) (allowance : ℕ) (e : SettleStop) → StopsWalk points f allowance e → StopsWithin f.set e
+names_walk points f allowance (stop.Wide task) (r, left, found, here, comes, run) = here
+names_walk points f allowance stop.Allowance ends = tt
+names_walk points f allowance stop.Memory ends = tt
 
-pub names_lost : (points : Points) (f : SourceDef) (v : List ℕ) (e : SettleStop) → StopsLost points f v e → StopsWithin f.set e
-names_lost points f v (stop.Wide task) stops = stops.0
-names_lost points f v stop.Allowance stops = tt
-names_lost points f v stop.Memory stops = tt
+-- What is said if a certificate's dual loses the whole part of its optimum.
+pub lost_gives : (f : SourceDef) (allowance : ℕ) (v : List ℕ) (e : SettleStop) → StopsLost f v e → GivesWide (Err e) f allowance
+lost_gives f allowance v (stop.Wide task) stops = tt
+lost_gives f allowance v stop.Allowance stops = absurd stops
+lost_gives f allowance v stop.Memory stops = tt
 
--- What steps of a search give is no certificate. A walk with exact points that ends in one shows that no task needs more.
-pub refused_enough : (f : SourceDef) (r : Result Settled SettleStop) → RefusesSo r f → IfOk r (λ s. HasEnough f s)
-refused_enough f (Ok (settled.Schedulable certificate)) gives = absurd gives
-refused_enough f (Ok (settled.Refused refusal)) gives = tt
-refused_enough f (Err e) gives = tt
+pub lost_wide : (f : SourceDef) (allowance : ℕ) (v : List ℕ) (e : SettleStop)
+    → ((i : ℕ) → i < tasks_of f → AreLeastFitting f v → LosesWhole (f.program i v) → NeedsMoreBits f i) → StopsLost f v e
+    → IsWideOnlySo (Err e) f allowance
+lost_wide f allowance v (stop.Wide task) needs (within, least, loses) = inr (needs task.0 within least loses)
+lost_wide f allowance v stop.Allowance needs stops = absurd stops
+lost_wide f allowance v stop.Memory needs stops = tt
 
-pub shows_enough : (f : SourceDef) (end : Risen) (c : Certificate) → ShowsEnough f end → end ≡ risen.Least c → NoneNeedsMore f
-shows_enough f end c shows is = subst (λ (x : Risen). ShowsEnough f x) is shows
+pub names_lost : (f : SourceDef) (v : List ℕ) (e : SettleStop) → StopsLost f v e → StopsWithin f.set e
+names_lost f v (stop.Wide task) stops = stops.0
+names_lost f v stop.Allowance stops = tt
+names_lost f v stop.Memory stops = tt

@@ -3,7 +3,6 @@ use Rattle.std.proofs.Common.{◌≡◌, ◌∙◌, ℕ, zero, suc, ◌+◌, ◌
 use Rattle.std.proofs.Common.{pos, ◌<ℤ◌, unsigned_abs, sym, ap, subst, arith}
 use Rattle.std.proofs.Math.Nat.{div-le_self, dvd-mul_left, le_of_dvd}
 use Rattle.std.proofs.lemmas.Bool.{cases_lt}
-use Rattle.std.proofs.lemmas.Grind.{same_number_lists}
 use Rattle.std.proofs.lemmas.Int.{ints, unsigned_abs-mul}
 use Rattle.std.proofs.lemmas.List.Elements.{All-from_get_or}
 use Rattle.std.proofs.lemmas.Nat.Gcd.{IsGcd-swap}
@@ -27,13 +26,13 @@ use Rattle.exchange_runs.proofs.Once.{forms}
 use Rattle.free_search.specs.Ends.{IsRoundedUp, IsExactDual, IsFoundDual, HasGreatDual, IsEndAfter}
 use Rattle.program_sources.specs.Recurrence.{SourceDef}
 use Rattle.program_sources.specs.Fitting.{tasks_of}
-use Rattle.program_sources.proofs.RecurrenceLaws.{one_response}
 use Rattle.response_fixpoint.specs.Rounds.{Schedulable, Found, Passes, Reaches, EndsIn}
 use Rattle.response_fixpoint.specs.Runs.{rounds_of}
 use Rattle.response_fixpoint.proofs.OneEnd.{passed_round}
 use Rattle.response_fixpoint.proofs.RoundLaws.{passed_task, values_length}
 use Rattle.response_fixpoint.proofs.RunLaws.{round_value}
 use Rattle.settling.specs.Ways.{IsAfterRounds, AreResponses, EndsTooGreat, LosesWhole, NeedsMoreBits}
+use Rattle.settling.proofs.WayLaws.{rounds_once, stays_fixed}
 
 -- What is known of any two ends of a program's run over unbounded fractions. If a dual is found at one, no multiplier of the other is too
 -- great. If one has an exact dual, the dual that is found at the other keeps the whole part of the optimum. And the whole part of the value
@@ -154,32 +153,21 @@ loses_nothing p k t d one end loses =
     omega (arith, one_greatest p loses.blocking value loses.greatest kept, loses.above)
 
 -- What a round gives is the next vector of the recurrence.
-next_vector : (f : SourceDef) (q v : List ℕ) (left : ℕ) (found : Found) → Passes (rounds_of f) q left (tasks_of f) found
-    → AreResponses f q v → v ≡ found.values
-next_vector f q v left found passed are =
-    let size : length found.values ≡ tasks_of f = values_length (rounds_of f) q left (tasks_of f) found passed in
-    same_number_lists v found.values (are.one_each ∙ sym size) (λ i below.
-    let here : i < tasks_of f = omega (arith, below, are.one_each) in
-    one_response f q i (slice_index v i) (slice_index found.values i) (are.each i here) (round_value f q left found passed i here).0)
+round_responses : (f : SourceDef) (q : List ℕ) (left : ℕ) (found : Found) → Passes (rounds_of f) q left (tasks_of f) found
+    → AreResponses f q found.values
+round_responses f q left found passed = record {
+  one_each = values_length (rounds_of f) q left (tasks_of f) found passed;
+  each = λ i here. (round_value f q left found passed i here).0;
+}
 
 -- The vector of a round of the analysis is that of the recurrence.
-reaches_vector : (f : SourceDef) (a k spent : ℕ) (r v : List ℕ) → Reaches (rounds_of f) a k spent r → IsAfterRounds f k v → v ≡ r
-reaches_vector f a zero spent r v (nothing, first) after = after ∙ sym first
-reaches_vector f a (suc k) spent r v (before, q, found, reached, passed, is, differs, sum) (w, way, are) =
-    next_vector f q v (a - before) found passed
-    (subst (λ (x : List ℕ). AreResponses f x v) (reaches_vector f a k before q w reached way) are) ∙ sym is
-
--- Bounds that a round gives again stay.
-stays : (f : SourceDef) (a k spent n left : ℕ) (r v : List ℕ) (found : Found) → Reaches (rounds_of f) a k spent r
-    → Passes (rounds_of f) r left (tasks_of f) found → found.values ≡ r → IsAfterRounds f (n + k) v → v ≡ r
-stays f a k spent zero left r v found reached passed same after =
-    let first : 0 + k ≡ k = omega arith in
-    reaches_vector f a k spent r v reached (subst (λ (m : ℕ). IsAfterRounds f m v) first after)
-stays f a k spent (suc n) left r v found reached passed same after =
-    let sum : suc n + k ≡ suc (n + k) = omega arith in
-    let next : IsAfterRounds f (suc (n + k)) v = subst (λ (m : ℕ). IsAfterRounds f m v) sum after in
-    next_vector f r v left found passed
-    (subst (λ (x : List ℕ). AreResponses f x v) (stays f a k spent n left r next.0 found reached passed same next.1) next.2) ∙ same
+vector_reached : (f : SourceDef) (a k spent : ℕ) (r : List ℕ) → Reaches (rounds_of f) a k spent r → IsAfterRounds f k r
+vector_reached f a zero spent r (nothing, first) = first
+vector_reached f a (suc k) spent r (before, q, found, reached, passed, is, differs, sum) = (
+  q,
+  vector_reached f a k before q reached,
+  subst (λ (x : List ℕ). AreResponses f q x) (sym is) (round_responses f q (a - before) found passed),
+)
 
 -- Do all tasks pass in some round at the vector v?
 record IsPassed (f : SourceDef) (v : List ℕ) : Type 0 where
@@ -193,13 +181,16 @@ passes_each : (f : SourceDef) (a : ℕ) (bounds : List ℕ) (duals : List DualDe
 passes_each f a bounds duals j v (left, found, comes, same, rest) after = elim (cases_lt j comes.rounds) [
   | inl earlier ↦
       let round = passed_round (rounds_of f) a comes.rounds comes.spent bounds comes.reached j earlier in
-      let vector : v ≡ round.vector = reaches_vector f a j round.spent round.vector v round.reached after in
+      let vector : v ≡ round.vector = rounds_once f j v round.vector after (vector_reached f a j round.spent round.vector round.reached) in
       let here : IsPassed f round.vector = record { left = a - round.spent; found = round.found; passed = round.passed } in
       subst (IsPassed f) (sym vector) here
   | inr later ↦
       let sum : j ≡ j - comes.rounds + comes.rounds = omega (arith, later) in
-      let vector : v ≡ bounds = stays f a comes.rounds comes.spent (j - comes.rounds) (a - comes.spent) bounds v found comes.reached
-      comes.passed same (subst (λ (n : ℕ). IsAfterRounds f n v) sum after) in
+      let fixed : AreResponses f bounds bounds =
+      subst (λ (x : List ℕ). AreResponses f bounds x) same (round_responses f bounds (a - comes.spent) found comes.passed) in
+      let vector : v ≡ bounds = stays_fixed f comes.rounds (j - comes.rounds) bounds v
+      (vector_reached f a comes.rounds comes.spent bounds comes.reached) fixed
+      (subst (λ (n : ℕ). IsAfterRounds f n v) sum after) in
       let here : IsPassed f bounds = record { left = a - comes.spent; found = found; passed = comes.passed } in
       subst (IsPassed f) (sym vector) here
 ]

@@ -9,3 +9,4 @@ pub mod SmallSteps
 pub mod EnoughBits
 pub mod TrailLaws
 pub mod TurnLaws
+pub mod OneWalk

@@ -1,6 +1,6 @@
 -- How the steps of a walk lead on, and make a refusal.
-use Rattle.std.proofs.Common.{◌≡◌, ◌∙◌, inl, inr, ℕ, suc, ◌+◌, ◌<◌, ◌≤◌, List, [], ◌∷◌, ◌++◌, length, map, sym, ap, subst, arith, rules}
-use Rattle.std.proofs.Common.{length-append, IsTrue}
+use Rattle.std.proofs.Common.{◌≡◌, ◌∙◌, inl, inr, ℕ, suc, ◌+◌, ◌<◌, ◌≤◌, List, [], ◌∷◌, ◌++◌, length, refl, sym, ap, subst, arith}
+use Rattle.std.proofs.Common.{length-append, IsTrue, true, false}
 use Rattle.std.specs.Prelude.{slice_index, max, Some, None, IfSome}
 use Rattle.std.specs.declared.option.Option.{Option}
 use Rattle.std.proofs.lemmas.Bool.{cases_lt}
@@ -11,14 +11,17 @@ use Rattle.program_form.specs.declared.certificate.Dual.{Dual}
 use Rattle.program_sources.specs.Recurrence.{SourceDef, response_with}
 use Rattle.program_sources.specs.Fitting.{tasks_of, latest_of}
 use Rattle.program_sources.proofs.RecurrenceLaws.{LimitsRise}
-use Rattle.refusal_laws.specs.Steps.{StepDef, no_step, step_at, IsStep}
+use Rattle.refusal_laws.specs.Steps.{StepDef, no_step, step_at, costs_of, IsStep}
 use Rattle.response_fixpoint.specs.Answers.{IsSmallDual}
 use Rattle.response_fixpoint.specs.Rounds.{Found, with_task}
 use Rattle.refusal_cert.specs.Leading.{after_all, IsLed}
 use Rattle.refusal_cert.specs.Steps.{step_of}
 use Rattle.refusal_cert.proofs.Led.{after_all_length, own, step_of_point, led_step, led_same, last_holds}
 use Rattle.settling.specs.Rising.{IsPointFor, seen_point}
-use Rattle.settling.specs.Trails.{HasSmallPoints, AddsStep, AddsRise, LeadsTo, LeadsWithin, IsRefusal, IsTrail, IsTrailWithin, EndsTrail, seen}
+use Rattle.settling.specs.Trails.{HasSmallPoints, IsEmpty, AddsStep, AddsRise, LeadsTo, LeadsWithin, IsRefusal, IsTrail, IsTrailWithin, EndsTrail, seen}
+use Rattle.settling.specs.Turns.{AreWrittenIfRounded}
+use Rattle.settling.specs.declared.finding.Points.{Points}
+use Rattle.settling.specs.declared.finding.Points.TheVariants.{Rounded}
 use Rattle.settling.specs.declared.steps.Steps.{Steps}
 
 -- One more small point.
@@ -58,7 +61,7 @@ trail_adds f rise r i used value ticks dual found (Some point) before now here c
     subst (λ (s : List StepDef). LeadsWithin f r (with_task found used value dual) (suc i) s) (sym list)
     (record { led = led; small = small_more (seen before) i value (dual_seen point) lead.small shows.small })
 trail_adds f rise r i used value ticks dual found None before now here count is low shows flag past trail written =
-    absurd (rw flag at written)
+    absurd (let no : false ≡ true = rw flag at written in cc)
 
 pub trail_goes_on : (f : SourceDef) → LimitsRise f → (r : List ℕ) (i used value ticks : ℕ) (dual : DualDef) (found : Found)
     (point : Option Dual) (before now : Steps) → i < tasks_of f → length found.values ≡ i
@@ -92,7 +95,8 @@ late_adds f rise r i value ticks found (Some point) before now here is late show
           (subst (λ (j : ℕ). latest_of f j < value) (sym (own i value (dual_seen point))) late);
       small = small_more (seen before) i value (dual_seen point) lead.small shows.small;
     })
-late_adds f rise r i value ticks found None before now here is late shows flag past trail written = absurd (rw flag at written)
+late_adds f rise r i value ticks found None before now here is late shows flag past trail written =
+    absurd (let no : false ≡ true = rw flag at written in cc)
 
 pub trail_ends : (f : SourceDef) → LimitsRise f → (r : List ℕ) (i value ticks : ℕ) (found : Found) (point : Option Dual)
     (before now : Steps) → i < tasks_of f → value ≡ max (response_with f r i ticks) (slice_index r i)
@@ -101,6 +105,15 @@ pub trail_ends : (f : SourceDef) → LimitsRise f → (r : List ℕ) (i value ti
 trail_ends f rise r i value ticks found point before now here is within late shows adds trail =
     let past : slice_index r i < value = omega (arith, within, late) in
     late_adds f rise r i value ticks found point before now here is late shows (adds.rises past) past trail
+
+-- A walk begins with no step, at the costs.
+pub trail_starts : (f : SourceDef) (v : List ℕ) (steps : Steps) → v ≡ costs_of f.set → IsEmpty steps → IsTrail f v steps
+trail_starts f v steps first empty written =
+    subst (λ (s : List StepDef). LeadsTo f v s) (sym empty.none) (record {
+      leads = record { each = λ k l. absurd (omega (arith, l)); calm = λ k l. absurd (omega (arith, l)) };
+      vector = sym first;
+      small = λ k l. absurd (omega (arith, l));
+    })
 
 -- A round begins at r, and ends at what it has found.
 pub trail_begins : (f : SourceDef) (r : List ℕ) (found : Found) (steps : Steps) → IsTrail f r steps → IsTrailWithin f r found 0 steps
@@ -127,3 +140,17 @@ trail_whole f r found steps count trail written =
           (λ i l. lead.led.done i (omega (arith, l, after_all_length f (seen steps))));
       small = lead.small;
     }
+
+-- With rounded points each step's point is written.
+pub written_goes_on : (points : Points) (before now : Steps) (i bound value : ℕ) (point : Option Dual)
+    → (points ≡ Rounded → seen_point point ≡ None → ⊥) → AddsRise before now i bound value point → AreWrittenIfRounded points before
+    → AreWrittenIfRounded points now
+written_goes_on points before now i bound value point written adds are rounded = elim (cases_lt bound value) [
+  | inl past ↦ written_adds before now i value point (written rounded) (adds.rises past) (are rounded)
+  | inr most ↦ subst (λ (s : Steps). IsTrue s.are_written) (sym (adds.stays most)) (are rounded)
+]
+  where
+    written_adds : (before now : Steps) (i value : ℕ) (point : Option Dual) → (seen_point point ≡ None → ⊥)
+        → AddsStep before now i value point → IsTrue before.are_written → IsTrue now.are_written
+    written_adds before now i value (Some point) some (list, flag) was = rw flag was
+    written_adds before now i value None some flag was = absurd (some refl)

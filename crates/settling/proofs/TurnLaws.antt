@@ -1,22 +1,30 @@
 -- What a round of a walk has found, one task more at a time, and how the rounds end.
-use Rattle.std.proofs.Common.{◌≡◌, ◌∙◌, inl, inr, ℕ, suc, ◌+◌, ◌-◌, ◌<◌, ◌≤◌, List, [], ◌∷◌, ◌++◌, length, refl, sym, ap, subst, arith, Err}
-use Rattle.std.specs.Prelude.{slice_index, max}
+use Rattle.std.proofs.Common.{◌≡◌, ◌≢◌, ◌∙◌, ℕ, suc, ◌+◌, ◌-◌, ◌<◌, ◌≤◌, List, [], ◌∷◌, ◌++◌, length, refl, sym, ap, subst, arith, Err}
+use Rattle.std.proofs.Common.{true, false}
+use Rattle.std.specs.Prelude.{slice_index, max, Some, None, IfSome}
+use Rattle.std.specs.declared.option.Option.{Option}
 use Rattle.std.proofs.lemmas.List.{length_push}
 use Rattle.program_form.specs.Certificate.{DualDef, dual_seen}
+use Rattle.program_sources.specs.Bounds.{IsInRange}
 use Rattle.program_sources.specs.Recurrence.{SourceDef, response_with}
-use Rattle.program_sources.specs.Fitting.{tasks_of, latest_of}
+use Rattle.program_sources.specs.Fitting.{AreBelowAllFitting, tasks_of, latest_of}
+use Rattle.refusal_laws.specs.Steps.{StepDef}
+use Rattle.refusal_laws.specs.Seen.{steps_seen}
+use Rattle.refusal_laws.specs.declared.refusal.Refusal.{Refusal}
 use Rattle.response_fixpoint.specs.Answers.{Halts}
-use Rattle.response_fixpoint.specs.Rounds.{RunEnd, TooWide, OutOfUnits, Found, with_task, nothing_found, RoundsOf, Passes, Reaches, ComesTo}
-use Rattle.settling.specs.Rising.{IsFoundOf, StopsAt, StopsWalk, IsNextBound}
-use Rattle.settling.specs.Turns.{found_of, IsPart, IsLate, GivesTurn}
+use Rattle.response_fixpoint.specs.Rounds.{RunEnd, Valued, TooWide, OutOfUnits, Found, with_task, nothing_found, RoundsOf, Passes, Reaches, ComesTo}
+use Rattle.settling.specs.Rising.{IsFoundOf, StopsAt, StopsWalk, IsNextBound, AreNextBounds, IsFixed, ShowsNothingFits}
+use Rattle.settling.specs.Trails.{IsRefusal, EndsTrail, Refuses}
+use Rattle.settling.specs.Turns.{found_of, IsPart, IsLate, GivesTurn, AreWrittenIfRounded}
 use Rattle.settling.specs.Walks.{IsWalked, walk}
 use Rattle.settling.specs.declared.answer.SettleStop.{SettleStop}
 use Rattle.settling.specs.declared.answer.SettleStop.TheVariants as stop
 use Rattle.settling.specs.declared.finding.Points.{Points}
+use Rattle.settling.specs.declared.finding.Points.TheVariants.{Rounded}
 use Rattle.settling.specs.declared.reached.Reached.{Reached}
 use Rattle.settling.specs.declared.rounds.Round.{Round}
 use Rattle.settling.specs.declared.steps.Steps.{Steps}
-use Rattle.settling.proofs.RiseLaws.{none_found, one_more_found, no_bounds, one_more_bound}
+use Rattle.settling.proofs.RiseLaws.{RespondsBelow, none_found, one_more_found, no_bounds, one_more_bound, late_fits_nothing}
 
 -- What a search found makes a run of the walk.
 walked_of : (points : Points) (f : SourceDef) (r : List ℕ) (i left bound : ℕ) (found : Reached) → IsFoundOf points (f.program i r) found
@@ -118,3 +126,50 @@ walk_stops points f allowance k spent r (stop.Wide task) steps way h =
 walk_stops points f allowance k spent r stop.Allowance steps way (i, h) =
     (r, i, allowance - spent - h.found.used, h.found, h.below, comes_at (walk points f) allowance k spent r i OutOfUnits h way, h.run)
 walk_stops points f allowance k spent r stop.Memory steps way h = tt
+
+-- A value that is late shows that nothing fits, and the steps that are written refuse the set.
+refusal_shown : (points : Points) (f : SourceDef) (steps : Steps) (refusal : Option Refusal) → EndsTrail f steps → Refuses steps refusal
+    → IfSome refusal (λ r. IsRefusal f (steps_seen r))
+refusal_shown points f steps (Some refusal) trail (written, same) = subst (λ (s : List StepDef). IsRefusal f s) (sym same) (trail written)
+refusal_shown points f steps None trail none = tt
+
+refusal_written : (points : Points) (steps : Steps) (refusal : Option Refusal) → AreWrittenIfRounded points steps → Refuses steps refusal
+    → points ≡ Rounded → refusal ≡ None → ⊥
+refusal_written points steps (Some refusal) are refuses rounded none = cc
+refusal_written points steps None are none rounded same =
+    let no : false ≡ true = rw none at (are rounded) in cc
+
+pub late_shows : (points : Points) (f : SourceDef) (allowance k spent : ℕ) (r : List ℕ) (refusal : Option Refusal) (steps : Steps)
+    → RespondsBelow f → AreBelowAllFitting f r → Reaches (walk points f) allowance k spent r → IsLate points f r (allowance - spent)
+    → EndsTrail f steps → AreWrittenIfRounded points steps → Refuses steps refusal → ShowsNothingFits points f allowance refusal
+late_shows points f allowance k spent r refusal steps responds below way late trail are refuses =
+    let o : RoundsOf = walk points f in
+    let h = late.halts in
+    record {
+      none = late_fits_nothing f r late.task late.ticks responds below h.below late.reached late.response;
+      task = late.task;
+      value = late.value;
+      ends = (r, allowance - spent - h.found.used, h.found, late.used, late.dual, h.below,
+          comes_at o allowance k spent r late.task (Valued late.used late.value late.dual) h way, h.run, late.late);
+      holds = refusal_shown points f steps refusal trail refuses;
+      written = refusal_written points steps refusal are refuses;
+    }
+
+-- A round that gives the bounds that it began with ends the walk. Else the rounds go on.
+pub fixed_of : (points : Points) (f : SourceDef) (allowance k spent : ℕ) (r : List ℕ) (round : Round) → IsInRange f.set r
+    → AreBelowAllFitting f r → Reaches (walk points f) allowance k spent r
+    → IsPart points f r (allowance - spent) (tasks_of f) round → round.next.items ≡ r → IsFixed points f allowance r round.reached.items
+fixed_of points f allowance k spent r round range below way part same = record {
+  range = range;
+  below = below;
+  one_each = part.one_each;
+  found = part.reached;
+  fixed = subst (λ (x : List ℕ). AreNextBounds f r (tasks_of f) round.reached.items x) same part.next;
+  ends = (allowance - spent - round.used, found_of round,
+      record { rounds = k; spent = spent; reached = way; passed = part.passed; units = refl }, same, refl);
+}
+
+pub way_on : (points : Points) (f : SourceDef) (allowance k spent : ℕ) (r : List ℕ) (round : Round)
+    → Reaches (walk points f) allowance k spent r → IsPart points f r (allowance - spent) (tasks_of f) round → r ≢ round.next.items
+    → Reaches (walk points f) allowance (suc k) (spent + round.used) round.next.items
+way_on points f allowance k spent r round way part other = (spent, r, found_of round, way, part.passed, refl, other, refl)

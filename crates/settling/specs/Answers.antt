@@ -1,5 +1,5 @@
 -- What the answers of settling mean.
-use Rattle.std.specs.Prelude.{◌≡◌, ◌⊎◌, ℕ, ◌<◌, ◌≤◌, ◌^◌, Bool, List, All, length, map, Result, Ok, Err, IfOk}
+use Rattle.std.specs.Prelude.{◌≡◌, ◌⊎◌, ◌↔◌, ℕ, ◌<◌, ◌≤◌, ◌^◌, Bool, List, All, length, map, Result, Ok, Err, IfOk}
 use Rattle.program_form.specs.Certificate.{dual_seen, certificate_seen}
 use Rattle.sporadic_model.specs.SetDef.{SetDef}
 use Rattle.schedule_model.specs.RowDef.{Trace}
@@ -160,6 +160,23 @@ Keeps (Ok (settled.Refused refusal)) e = (IsUnshown e) ⊎ IsWide e
 Keeps (Err (stop.Wide task)) e = (IsUnshown e) ⊎ IsWide e
 Keeps (Err stop.Allowance) e = (e ≡ Allowance) ⊎ (IsUnshown e) ⊎ IsWide e
 Keeps (Err stop.Memory) e = Unit {0}
+
+-- What settling answers with this allowance.
+pub record IsAnswerFor (f : SourceDef) (allowance : ℕ) (r : Result Settled SettleStop) : Type 0 where
+  -- Where each answer comes from: the analysis, or a refutation, unless these are wide. And what is kept of each ending of the analysis.
+  pub settles : Settles r f allowance
+  pub keeps : (e : Ending) → EndsIn (rounds_of f) allowance e → Keeps r e
+  -- Schedulable: the least fitting bounds, with a valid certificate. Refused: the refusal holds, and nothing fits. So an answer is
+  -- schedulable if some bounds fit, and only then.
+  pub right : IfOk r (λ s. IsRight s f)
+  pub exactly : IfOk r (λ s. IsSchedulable s ↔ ((bounds : List ℕ) × AreFitting f bounds))
+  -- A wide stop names a task whose program needs more than 63 bits. Or nothing fits, and the walk with rounded points passes no latest
+  -- bound. If the answer is schedulable, no task needs more.
+  pub wide : IsWideOnlySo r f allowance
+  pub enough : IfOk r (HasEnough f)
+  -- What is answered can be written.
+  pub names : NamesTask f.set r
+  pub small_steps : IfOk r (λ s. RefusesBySmallSteps s)
 
 -- Are the bounds of the certificate sound, with the values of its duals, under a protocol with these rules and this interference?
 abbrev pub IsSound : (Rule → Trace → ℕ → Type 0) → (Trace → ℕ → ℕ → Bool) → SourceDef → Settled → Type 0

@@ -1,11 +1,13 @@
-//! A law of analyses: the function does nothing, and its contract holds for every source of programs.
+//! Laws of analyses and of walks. Each function does nothing: its contract holds for every source of programs.
 
-ghost use Rattle.std.specs.Prelude.{ℕ, List};
+ghost use Rattle.std.specs.Prelude.{◌≡◌, ℕ, List};
 ghost use Rattle.program_form.specs.Certificate.{DualDef};
 ghost use Rattle.program_sources.specs.Recurrence.{SourceDef};
-ghost use Rattle.response_fixpoint.specs.Rounds.{Schedulable, EndsIn};
+ghost use Rattle.response_fixpoint.specs.Rounds.{Ending, Schedulable, EndsIn};
 ghost use Rattle.response_fixpoint.specs.Runs.{rounds_of};
+ghost use Rattle.settling.specs.Walks.{walk};
 ghost use Rattle.settling.specs.Ways.{NoneNeedsMore};
+ghost use Rattle.settling.specs.declared.finding.Points.TheVariants.{Exact};
 
 use free_search::{the_end_is_read_in_one_way, what_is_found_is_best};
 
@@ -13,6 +15,15 @@ use free_search::{the_end_is_read_in_one_way, what_is_found_is_best};
 pub fn certificates_of_analyses_need_no_more_bits()
     ensures { (f : SourceDef) (allowance : ℕ) (bounds : List ℕ) (duals : List DualDef)
         → EndsIn (rounds_of f) allowance (Schedulable bounds duals) → NoneNeedsMore f }
+{
+    what_is_found_is_best();
+    the_end_is_read_in_one_way();
+}
+
+/// A walk with exact points ends in one way.
+pub fn walks_have_one_ending()
+    ensures { (f : SourceDef) (allowance : ℕ) (e g : Ending)
+        → EndsIn (walk Exact f) allowance e → EndsIn (walk Exact f) allowance g → e ≡ g }
 {
     what_is_found_is_best();
     the_end_is_read_in_one_way();

@@ -17,5 +17,5 @@ mod shortening;
 mod steps;
 
 pub use answer::{SettleStop, Settled};
-pub use laws::certificates_of_analyses_need_no_more_bits;
+pub use laws::{certificates_of_analyses_need_no_more_bits, walks_have_one_ending};
 pub use settling::{settle_by, settle_with};

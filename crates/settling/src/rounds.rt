@@ -13,7 +13,7 @@ use crate::answer::SettleStop;
 use crate::finding::Points;
 use crate::reached::{Reached, reach_task};
 use crate::steps::Steps;
-use program_sources::{ProgramSource, recurrence_is_monotone, response};
+use program_sources::{ProgramSource, response};
 use sporadic_model::{TaskId, TaskSet};
 use std::alloc::{AllocError, Global};
 
@@ -75,7 +75,6 @@ pub(crate) fn take_round<P: ProgramSource>(
     requires written { AreWrittenIfRounded points steps.old }
     ensures { GivesTurn result points (source_at (P.source protocol.now) set.now) bounds.now left steps.new }
 {
-    recurrence_is_monotone::<P>();
     let mut round = Round {
         used: 0,
         next: Vec::new(alloc),

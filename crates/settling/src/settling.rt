@@ -1,11 +1,7 @@
-ghost use Rattle.std.specs.Prelude.{◌≡◌, ℕ, ◌<◌, ◌↔◌, List, IfOk, length};
+ghost use Rattle.std.specs.Prelude.{◌<◌, IfOk, length};
 ghost use Rattle.program_sources.specs.Recurrence.{source_at};
-ghost use Rattle.program_sources.specs.Fitting.{AreFitting};
-ghost use Rattle.response_fixpoint.specs.Rounds.{Ending, EndsIn};
-ghost use Rattle.response_fixpoint.specs.Runs.{rounds_of};
-ghost use Rattle.settling.specs.Answers.{AnswersSo, GivesRefusal, GivesWide};
-ghost use Rattle.settling.specs.Answers.{Settles, IsRight, IsSchedulable, IsSound, Keeps, NamesTask};
-ghost use Rattle.settling.specs.Answers.{RefusesBySmallSteps, RefusesIn64Bits, IsWideOnlySo, HasEnough};
+ghost use Rattle.settling.specs.Answers.{AnswersSo, GivesRefusal, GivesWide, IsAnswerFor, IsSound, NamesTask};
+ghost use Rattle.settling.specs.Answers.{RefusesIn64Bits, IsWideOnlySo, HasEnough};
 ghost use Rattle.settling.specs.Rising.{IsFixed};
 ghost use Rattle.settling.specs.Ways.{NothingFits};
 ghost use Rattle.settling.specs.declared.finding.Points.TheVariants.{Exact};
@@ -146,30 +142,7 @@ pub fn settle_by<R: Threads + Sync, P: ProgramSource + Sync>(
     allowance: u64,
 ) -> Result<Settled, SettleStop>
     requires serves { P.serves protocol.now set.now }
-
-    // Where each answer comes from: the analysis, or a refutation, unless these are wide.
-    ensures settles { Settles result (source_at (P.source protocol.now) set.now) allowance }
-
-    // What is kept of each ending of the analysis.
-    ensures keeps { (e : Ending)
-        → EndsIn (rounds_of (source_at (P.source protocol.now) set.now)) allowance e → Keeps result e }
-
-    // Schedulable: the least fitting bounds, with a valid certificate. Refused: the refusal holds, and nothing fits. So an answer is
-    // schedulable if some bounds fit, and only then.
-    ensures right { IfOk result (λ settled. IsRight settled (source_at (P.source protocol.now) set.now)) }
-    ensures exactly { IfOk result (λ settled. IsSchedulable settled
-        ↔ ((s : List ℕ) × AreFitting (source_at (P.source protocol.now) set.now) s)) }
-
-    // If some bounds fit, a wide stop names a task whose program needs more than 63 bits. At some vector of the recurrence's rounds its
-    // run's end is too great to be written. Or its dual at the least bounds, as it is written, loses the whole part of the optimum. If the
-    // answer is schedulable, there is no such task. If nothing fits, a wide stop comes only for this too, or if the walk with rounded points
-    // passes no latest bound.
-    ensures wide { IsWideOnlySo result (source_at (P.source protocol.now) set.now) allowance }
-    ensures enough { IfOk result (HasEnough (source_at (P.source protocol.now) set.now)) }
-
-    // What is answered can be written: a wide stop names a task of the set, and the numbers of a refusal's steps are small.
-    ensures names { NamesTask set.now result }
-    ensures small_steps { IfOk result (λ settled. RefusesBySmallSteps settled) }
+    ensures answers { IsAnswerFor (source_at (P.source protocol.now) set.now) allowance result }
 {
     set.keeps_the_model();
     the_rounds_have_one_ending();
@@ -195,16 +168,7 @@ pub fn settle_with<R: Threads + Sync, P: ChargedProtocol + Sync>(
     allowance: u64,
 ) -> Result<Settled, SettleStop>
     requires suits { P.suits protocol.now set.now }
-    ensures settles { Settles result (source_at (P.source protocol.now) set.now) allowance }
-    ensures keeps { (e : Ending)
-        → EndsIn (rounds_of (source_at (P.source protocol.now) set.now)) allowance e → Keeps result e }
-    ensures right { IfOk result (λ settled. IsRight settled (source_at (P.source protocol.now) set.now)) }
-    ensures exactly { IfOk result (λ settled. IsSchedulable settled
-        ↔ ((s : List ℕ) × AreFitting (source_at (P.source protocol.now) set.now) s)) }
-    ensures wide { IsWideOnlySo result (source_at (P.source protocol.now) set.now) allowance }
-    ensures enough { IfOk result (HasEnough (source_at (P.source protocol.now) set.now)) }
-    ensures names { NamesTask set.now result }
-    ensures small_steps { IfOk result (λ settled. RefusesBySmallSteps settled) }
+    ensures answers { IsAnswerFor (source_at (P.source protocol.now) set.now) allowance result }
 
     // The bounds of a certificate hold in every schedule of lawful jobs that keeps the protocol's rules.
     ensures sound { IfOk result (λ settled.

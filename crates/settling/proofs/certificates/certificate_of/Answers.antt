@@ -5,44 +5,39 @@ use Rattle.program_sources.specs.Recurrence.{SourceDef, source_at}
 use Rattle.program_sources.specs.Valid.{IsValid}
 use Rattle.dual_check.specs.Answers.{Judges, HasDenominators}
 use Rattle.settling.specs.Rising.{IsProvedLeast}
-use Rattle.settling.proofs.CertificateLaws.{IsMadeOf, certificate_with, has_denominators, passes_others, stops_lost, proved_least}
+use Rattle.settling.proofs.CertificateLaws.{certificate_with, has_denominators, passes_others, stops_lost, proved_least}
 use Rattle.settling.proofs.certificates.certificate_of.Goals as goal
 
 pub judge-requires-clause-denominators : goal.judge-requires-clause-denominators
 judge-requires-clause-denominators g c =
     let f : SourceDef = source_at (g.P.ProgramSource.source c.args.protocol.now) c.args.set.now in
-    let made : IsMadeOf c.args.points f c.args.bounds.items c.args.reached.items =
-    record { range = c.requires.range; size = c.requires.one_each; all = c.requires.found; fixed = c.requires.fixed } in
-    subst (λ (ds : List Dual). HasDenominators (record { bounds = c.args.bounds.items; duals = map dual_seen ds })) (sym c.in_ok-duals.ensures)
-    (has_denominators c.args.points f c.args.bounds.items c.args.reached.items c.what_is_found_is_best.ensures.covers made)
+    subst (λ (ds : List Dual). HasDenominators (record { bounds = c.args.bounds.items; duals = map dual_seen ds }))
+    (sym c.in_ok-duals.ensures)
+    (has_denominators f c.args.allowance c.args.bounds.items c.args.reached.items c.what_is_found_is_best.ensures.covers c.requires.fixed)
 
 pub stop_for-requires : goal.stop_for-requires
 stop_for-requires g c =
     let f : SourceDef = source_at (g.P.ProgramSource.source c.args.protocol.now) c.args.set.now in
-    let made : IsMadeOf c.args.points f c.args.bounds.items c.args.reached.items =
-    record { range = c.requires.range; size = c.requires.one_each; all = c.requires.found; fixed = c.requires.fixed } in
-    passes_others c.args.points f c.args.bounds.items c.args.reached.items c.in-Err.invalid c.what_is_found_is_best.ensures.covers made
+    passes_others f c.args.allowance c.args.bounds.items c.args.reached.items c.in-Err.invalid c.what_is_found_is_best.ensures.covers
+    c.requires.fixed
     (subst (λ (ds : List Dual). Judges (Err c.in-Err.invalid) f (record { bounds = c.args.bounds.items; duals = map dual_seen ds }))
     c.in_ok-duals.ensures c.in-Err.ensures.judges)
 
 pub returns-in-Err-clause-lost : goal.returns-in-Err-clause-lost
 returns-in-Err-clause-lost g c =
     let f : SourceDef = source_at (g.P.ProgramSource.source c.args.protocol.now) c.args.set.now in
-    let made : IsMadeOf c.args.points f c.args.bounds.items c.args.reached.items =
-    record { range = c.requires.range; size = c.requires.one_each; all = c.requires.found; fixed = c.requires.fixed } in
-    stops_lost c.args.points f c.args.bounds.items c.args.reached.items c.in-Err.invalid c.stop_for.result made c.requires.below
+    stops_lost f c.args.allowance c.args.bounds.items c.args.reached.items c.in-Err.invalid c.stop_for.result c.requires.fixed
     (subst (λ (ds : List Dual). Judges (Err c.in-Err.invalid) f (record { bounds = c.args.bounds.items; duals = map dual_seen ds }))
     c.in_ok-duals.ensures c.in-Err.ensures.judges) c.stop_for.ensures
 
 pub returns-in-Ok-clause-least : goal.returns-in-Ok-clause-least
 returns-in-Ok-clause-least g c =
     let f : SourceDef = source_at (g.P.ProgramSource.source c.args.protocol.now) c.args.set.now in
-    let made : IsMadeOf c.args.points f c.args.bounds.items c.args.reached.items =
-    record { range = c.requires.range; size = c.requires.one_each; all = c.requires.found; fixed = c.requires.fixed } in
     let valid : IsValid f (certificate_with c.args.bounds.items c.args.reached.items) =
     subst (λ (ds : List Dual). IsValid f (record { bounds = c.args.bounds.items; duals = map dual_seen ds })) c.in_ok-duals.ensures
     c.in-Ok.ensures.judges.0 in
-    subst (λ (ds : List Dual). IsProvedLeast f (record { bounds = c.args.bounds.items; duals = map dual_seen ds })) (sym c.in_ok-duals.ensures)
-    (proved_least c.args.points f c.args.bounds.items c.args.reached.items c.what_is_found_is_best.ensures.covers made
+    subst (λ (ds : List Dual). IsProvedLeast f (record { bounds = c.args.bounds.items; duals = map dual_seen ds }))
+    (sym c.in_ok-duals.ensures)
+    (proved_least f c.args.allowance c.args.bounds.items c.args.reached.items c.what_is_found_is_best.ensures.covers c.requires.fixed
     (c.a_certificate_below_all_fitting_is_least.ensures f (certificate_with c.args.bounds.items c.args.reached.items) valid
-    c.requires.below) valid)
+    c.requires.fixed.below) valid)

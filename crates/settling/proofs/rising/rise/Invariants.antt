@@ -11,8 +11,8 @@ use Rattle.settling.proofs.rising.rise.Given as goal
 
 -- the rounds of the walk have come to these bounds, with the units that are spent, and the steps lead there; the bounds are at most every
 -- fitting vector; what was found before is of other bounds
-abbrev pub invariant-loop-turn : goal.invariant-loop-turn
-invariant-loop-turn g l = record {
+abbrev pub invariant-loop-round : goal.invariant-loop-round
+invariant-loop-round g l = record {
   way : (k : ℕ) × Reaches (walk l.points (source_at (g.P.ProgramSource.source l.protocol) l.set)) l.allowance k l.spent l.bounds.items;
   within : l.spent ≤ l.allowance;
   range : IsInRange l.set l.bounds.items;
@@ -22,5 +22,5 @@ invariant-loop-turn g l = record {
   written : AreWrittenIfRounded l.points l.steps;
 }
 
-abbrev pub decreases-loop-turn : goal.decreases-loop-turn
-decreases-loop-turn g l = l.allowance - l.spent
+abbrev pub decreases-loop-round : goal.decreases-loop-round
+decreases-loop-round g l = l.allowance - l.spent
