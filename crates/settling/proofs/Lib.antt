@@ -1,5 +1,6 @@
 pub mod RiseLaws
 pub mod WayLaws
+pub mod RoundedLaws
 pub mod FindingLaws
 pub mod CertificateLaws
 pub mod BitLaws

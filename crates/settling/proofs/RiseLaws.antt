@@ -1,6 +1,6 @@
 -- How the bounds of a walk stay in their range, rise, and stay at most every fitting vector.
 use Rattle.std.proofs.Common.{◌≡◌, ◌∙◌, ℕ, ◌+◌, ◌<◌, ◌≤◌, ◌^◌, List, [], ◌∷◌, ◌++◌, length, get_or, refl, sym, ap, subst, arith, inl, inr}
-use Rattle.std.specs.Prelude.{slice_index, slice_get, Some, None}
+use Rattle.std.specs.Prelude.{slice_index, slice_get, Some, None, IfSome}
 use Rattle.std.specs.declared.option.Option.{Option}
 use Rattle.std.proofs.lemmas.Bool.{cases_lt}
 use Rattle.std.proofs.lemmas.List.{get_or_append_left, get_or_push, length_push}
@@ -13,7 +13,9 @@ use Rattle.program_sources.specs.Recurrence.{SourceDef, response_with}
 use Rattle.program_sources.specs.Fitting.{AreFitting, AreBelowAllFitting, tasks_of, latest_of}
 use Rattle.response_fixpoint.proofs.PlaceLaws.{each_more, each_none}
 use Rattle.response_fixpoint.proofs.SolutionLaws.{Rises, renewed_program}
-use Rattle.settling.specs.Rising.{IsFoundOf, AreFoundAt, HaveSmallTicks, IsSame, IsNextBound, AreNextBounds}
+use Rattle.free_search.specs.Ends.{IsFoundDual}
+use Rattle.settling.specs.Rising.{IsFoundOf, AreFoundAt, HaveSmallTicks, IsSame, IsNextBound, AreNextBounds, IsPointFor, seen_point}
+use Rattle.settling.specs.Walks.{Reads}
 use Rattle.settling.specs.Ways.{NothingFits}
 use Rattle.settling.specs.declared.finding.Points.{Points}
 use Rattle.settling.specs.declared.reached.Reached.{Reached}
@@ -55,18 +57,33 @@ same_found : (points : Points) (p : ProgramDef) (before now : Reached) → IsSam
     → IsFoundOf points p now
 same_found points p before now same found = record {
   limits = same.limits ∙ found.limits;
+  exchanges = found.exchanges;
+  table = found.table;
+  end = found.end;
+  units = same.used ∙ found.units;
+  dual = subst (λ (d : DualDef). IsFoundDual p found.table d) (sym same.dual) found.dual;
+  reads = subst (λ (n : ℕ). Reads points p found.table n) (sym same.ticks) found.reads;
   is_reached = record { reached = rw same.ticks found.is_reached.reached; small = rw same.ticks found.is_reached.small };
-  dual = subst (λ (d : DualDef). IsEndDual p d) (sym same.dual) found.dual;
+  point = subst (λ (o : Option DualDef). IfSome o (IsPointFor p now.ticks)) (sym same.point)
+      (subst (λ (n : ℕ). IfSome (seen_point before.point) (IsPointFor p n)) (sym same.ticks) found.point);
+  written = λ rounded none. found.written rounded (sym same.point ∙ none);
   greatest = λ exact. subst (λ (n : ℕ). IsGreatestReached p n) (sym same.ticks) (found.greatest exact);
 }
+
+-- What was found of a task's program at other bounds, where it has the same limits.
+pub found_before : (points : Points) (f : SourceDef) (u v : List ℕ) (i : ℕ) (found : List Reached) (before : Reached) (limits : List ℕ)
+    → Rises f i → AreFoundAt points f u found → slice_get found i ≡ Some before → before.limits.items ≡ limits
+    → limits ≡ (f.program i v).limits → IsFoundOf points (f.program i v) before
+found_before points f u v i found before limits rises are here stay own =
+    let old = found_at points f u found i before are here in
+    let program : f.program i u ≡ f.program i v = same_program f u v i rises (sym old.limits ∙ (stay ∙ own)) in
+    subst (λ (p : ProgramDef). IsFoundOf points p before) program old
 
 pub taken_over : (points : Points) (f : SourceDef) (u v : List ℕ) (i : ℕ) (found : List Reached) (before now : Reached) (limits : List ℕ)
     → Rises f i → AreFoundAt points f u found → slice_get found i ≡ Some before → before.limits.items ≡ limits
     → limits ≡ (f.program i v).limits → IsSame before now → IsFoundOf points (f.program i v) now
 taken_over points f u v i found before now limits rises are here stay own same =
-    let old = found_at points f u found i before are here in
-    let program : f.program i u ≡ f.program i v = same_program f u v i rises (sym old.limits ∙ (stay ∙ own)) in
-    same_found points (f.program i v) before now same (subst (λ (p : ProgramDef). IsFoundOf points p before) program old)
+    same_found points (f.program i v) before now same (found_before points f u v i found before limits rises are here stay own)
 
 -- The same with one more task, and with none.
 pub one_more_found : (points : Points) (f : SourceDef) (v : List ℕ) (found : List Reached) (i : ℕ) (r : Reached) → length found ≡ i
