@@ -9,14 +9,12 @@ use Rattle.std.proofs.lemmas.Grind.{same_number_lists}
 use Rattle.std.proofs.lemmas.Int.{ints, unsigned_abs-mul}
 use Rattle.number_laws.specs.WholeSums.{only_at}
 use Rattle.number_laws.proofs.TotalLaws.{total_below-agree}
-use Rattle.fraction128.specs.Fraction.{IsFloor}
 use Rattle.fraction128.proofs.Unique.{size_positive}
 use Rattle.program_form.specs.Certificate.{DualDef}
 use Rattle.program_form.specs.Program.{ProgramDef, columns, height}
 use Rattle.program_form.proofs.Duality.{one_greatest}
 use Rattle.program_sources.specs.Recurrence.{SourceDef, response_with}
 use Rattle.exchange_runs.specs.Exchange.{IsEntering}
-use Rattle.exchange_runs.specs.Readings.{value_of}
 use Rattle.exchange_runs.specs.Table.{Table, variables, objective}
 use Rattle.exchange_runs.specs.Unbounded.{FreelyReached}
 use Rattle.exchange_runs.proofs.Best.{scale_of, value_z, point_of, scaled_shown, column_shows}
@@ -426,20 +424,6 @@ no_great_point : (points : Points) (p : ProgramDef) (k j : ℕ) (t u : Table) (t
 no_great_point Exact p k j t u ticks end too reads great = great
 no_great_point Rounded p k j t u ticks end too (v, point, is) great = point_fits p k j t u v end too point great
 
--- Has the whole part of the value no more than 64 bits wherever a run is walked?
-abbrev pub AreCounted : Points → SourceDef → Type 0
-AreCounted points f = (r : List ℕ) (i left used value : ℕ) (dual : DualDef) (k : ℕ) (t : Table) (n : ℕ)
-    → IsWalked points f r i left used value dual → IsEndAfter (f.program i r) k t → IsFloor (value_of (f.program i r) t) (pos n)
-    → n < 2 ^ 64
-
--- With exact points it has.
-exact_are_counted : (f : SourceDef) → EndsAtGreatest → AreCounted Exact f
-exact_are_counted f at r i left used value dual k t n walked end floor =
-    let p : ProgramDef = f.program i r in
-    let same : n ≡ walked.ticks = one_greatest p n walked.ticks (at p k t n end floor)
-    (at p walked.exchanges walked.table walked.ticks walked.end walked.reads) in
-    omega (arith, same, walked.small)
-
 -- What is walked is one.
 walked_once : (points : Points) (f : SourceDef) (r : List ℕ) (i left used value later last : ℕ) (dual other : DualDef) → EndsOnce
     → EndsAtGreatest → IsWalked points f r i left used value dual → IsWalked points f r i left later last other
@@ -458,14 +442,17 @@ walked_once points f r i left used value later last dual other once at one two =
     ∙ (ap (λ (n : ℕ). Valued later n dual) values ∙ ap (λ (d : DualDef). Valued later last d) duals)
 
 walked_not_wide : (points : Points) (f : SourceDef) (r : List ℕ) (i left used value : ℕ) (dual : DualDef) → EndsFit → EndsAtGreatest
-    → AreCounted points f → IsWalked points f r i left used value dual → WalkRuns points f r i left TooWide → ⊥
-walked_not_wide points f r i left used value dual fit at counted walked (k, t, within, end, inl (inl great)) =
+    → IsWalked points f r i left used value dual → WalkRuns points f r i left TooWide → ⊥
+walked_not_wide points f r i left used value dual fit at walked (k, t, within, end, inl (inl great)) =
     fit (f.program i r) walked.exchanges k walked.table t dual walked.end end walked.dual_is great
-walked_not_wide points f r i left used value dual fit at counted walked (k, t, within, end, inl (inr (n, floor, great))) =
-    omega (arith, great, counted r i left used value dual k t n walked end floor)
-walked_not_wide points f r i left used value dual fit at counted walked (k, t, within, end, inr (inl great)) =
+walked_not_wide points f r i left used value dual fit at walked (k, t, within, end, inl (inr (n, floor, great))) =
+    let p : ProgramDef = f.program i r in
+    let same : n ≡ walked.whole =
+    one_greatest p n walked.whole (at p k t n end floor) (at p walked.exchanges walked.table walked.whole walked.end walked.floor) in
+    omega (arith, same, great, walked.counted)
+walked_not_wide points f r i left used value dual fit at walked (k, t, within, end, inr (inl great)) =
     no_great_point points (f.program i r) walked.exchanges k walked.table t walked.ticks walked.end end walked.reads great
-walked_not_wide points f r i left used value dual fit at counted walked (k, t, within, end, inr (inr (ticks, reads, great))) =
+walked_not_wide points f r i left used value dual fit at walked (k, t, within, end, inr (inr (ticks, reads, great))) =
     let same : walked.ticks ≡ ticks =
     one_reading points (f.program i r) walked.exchanges k walked.table t walked.ticks ticks at walked.end end walked.reads reads in
     omega (arith, same, great, walked.small)
@@ -480,23 +467,19 @@ wide_not_more : (points : Points) (f : SourceDef) (r : List ℕ) (i left : ℕ) 
 wide_not_more points f r i left (k, t, within, end, past) more = needs_no_more_units (f.program i r) k left t end within more
 
 -- So each run of the walk has one end.
-runs_once : (points : Points) (f : SourceDef) → EndsFit → EndsOnce → EndsAtGreatest → AreCounted points f → HaveOneEnd (walk points f)
-runs_once points f fit once at counted r i left (Valued u v d) (Valued x y e) p q = walked_once points f r i left u v x y d e once at p q
-runs_once points f fit once at counted r i left (Valued u v d) TooWide p q =
-    absurd (walked_not_wide points f r i left u v d fit at counted p q)
-runs_once points f fit once at counted r i left (Valued u v d) OutOfUnits p q = absurd (walked_not_more points f r i left u v d p q)
-runs_once points f fit once at counted r i left TooWide (Valued u v d) p q =
-    absurd (walked_not_wide points f r i left u v d fit at counted q p)
-runs_once points f fit once at counted r i left TooWide TooWide p q = refl
-runs_once points f fit once at counted r i left TooWide OutOfUnits p q = absurd (wide_not_more points f r i left p q)
-runs_once points f fit once at counted r i left OutOfUnits (Valued u v d) p q = absurd (walked_not_more points f r i left u v d q p)
-runs_once points f fit once at counted r i left OutOfUnits TooWide p q = absurd (wide_not_more points f r i left q p)
-runs_once points f fit once at counted r i left OutOfUnits OutOfUnits p q = refl
+runs_once : (points : Points) (f : SourceDef) → EndsFit → EndsOnce → EndsAtGreatest → HaveOneEnd (walk points f)
+runs_once points f fit once at r i left (Valued u v d) (Valued x y e) p q = walked_once points f r i left u v x y d e once at p q
+runs_once points f fit once at r i left (Valued u v d) TooWide p q =
+    absurd (walked_not_wide points f r i left u v d fit at p q)
+runs_once points f fit once at r i left (Valued u v d) OutOfUnits p q = absurd (walked_not_more points f r i left u v d p q)
+runs_once points f fit once at r i left TooWide (Valued u v d) p q =
+    absurd (walked_not_wide points f r i left u v d fit at q p)
+runs_once points f fit once at r i left TooWide TooWide p q = refl
+runs_once points f fit once at r i left TooWide OutOfUnits p q = absurd (wide_not_more points f r i left p q)
+runs_once points f fit once at r i left OutOfUnits (Valued u v d) p q = absurd (walked_not_more points f r i left u v d q p)
+runs_once points f fit once at r i left OutOfUnits TooWide p q = absurd (wide_not_more points f r i left q p)
+runs_once points f fit once at r i left OutOfUnits OutOfUnits p q = refl
 
-pub exact_once : (f : SourceDef) → EndsFit → EndsOnce → EndsAtGreatest → (allowance : ℕ) (e g : Ending) → EndsIn (walk Exact f) allowance e
-    → EndsIn (walk Exact f) allowance g → e ≡ g
-exact_once f fit once at = one_end (walk Exact f) (runs_once Exact f fit once at (exact_are_counted f at))
-
-pub rounded_once : (f : SourceDef) → EndsFit → EndsOnce → EndsAtGreatest → AreCounted Rounded f → (allowance : ℕ) (e g : Ending)
-    → EndsIn (walk Rounded f) allowance e → EndsIn (walk Rounded f) allowance g → e ≡ g
-rounded_once f fit once at counted = one_end (walk Rounded f) (runs_once Rounded f fit once at counted)
+pub walk_once : (points : Points) (f : SourceDef) → EndsFit → EndsOnce → EndsAtGreatest → (allowance : ℕ) (e g : Ending)
+    → EndsIn (walk points f) allowance e → EndsIn (walk points f) allowance g → e ≡ g
+walk_once points f fit once at = one_end (walk points f) (runs_once points f fit once at)

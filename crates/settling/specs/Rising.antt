@@ -1,6 +1,8 @@
 -- Bounds that rise by what programs were shown to reach.
 use Rattle.std.specs.Prelude.{◌≡◌, ◌⊎◌, ℕ, ◌+◌, ◌<◌, ◌≤◌, ◌^◌, List, map, max, length, slice_index, slice_get, Some, None, Result, Ok, Err, IfSome}
+use Rattle.std.specs.Prelude.{pos}
 use Rattle.std.specs.declared.option.Option.{Option}
+use Rattle.fraction128.specs.Fraction.{IsFloor}
 use Rattle.program_form.specs.Certificate.{DualDef, CertificateDef, dual_seen}
 use Rattle.program_form.specs.Points.{IsScaledPoint, Reaches, IsGreatestReached}
 use Rattle.program_form.specs.Program.{ProgramDef, columns}
@@ -9,6 +11,7 @@ use Rattle.program_sources.specs.Bounds.{IsInRange}
 use Rattle.program_sources.specs.Recurrence.{SourceDef, response_with}
 use Rattle.program_sources.specs.Fitting.{AreBelowAllFitting, AreLeastFitting, tasks_of, latest_of}
 use Rattle.program_sources.specs.Valid.{IsValid, dual_at}
+use Rattle.exchange_runs.specs.Readings.{value_of}
 use Rattle.exchange_runs.specs.Table.{Table}
 use Rattle.point_tests.specs.Worth.{IsWorth}
 use Rattle.refusal_laws.specs.Steps.{whole_worth}
@@ -70,6 +73,9 @@ pub record IsFoundOf (points : Points) (p : ProgramDef) (found : Reached) : Type
   pub end : IsEndAfter p exchanges table
   pub units : found.used ≡ exchanges + 1
   pub dual : IsFoundDual p table (dual_seen found.dual)
+  pub whole : ℕ
+  pub floor : IsFloor (value_of p table) (pos whole)
+  pub counted : whole < 2 ^ 64
   pub reads : Reads points p table found.ticks
   pub is_reached : IsReached p found.ticks
   pub point : IfSome (seen_point found.point) (IsPointFor p found.ticks)
@@ -127,6 +133,9 @@ pub record IsFoundBy (points : Points) (p : ProgramDef) (units : ℕ) (found : F
   pub used : found.used ≡ exchanges + 1
   pub within : found.used ≤ units
   pub dual : IsFoundDual p table (dual_seen found.dual)
+  pub whole : ℕ
+  pub floor : IsFloor (value_of p table) (pos whole)
+  pub counted : whole < 2 ^ 64
   pub reads : Reads points p table found.ticks
   pub one_each : length found.num.items ≡ columns p
   pub small : points ≡ Rounded → AreGreat found.den found.num.items → ⊥

@@ -36,8 +36,8 @@ abbrev pub IsPastReading : Points → ProgramDef → Table → Type 0
 IsPastReading points p t = (IsTooGreat p t) ⊎ ((HasGreatPoint points p t) ⊎ ((ticks : ℕ) × (Reads points p t ticks) × (2 ^ 63 ≤ ticks)))
 
 -- Does the run of task i's program at the bounds r end within the units that are left, with this dual? Is `used` the number of units that it
--- takes: one, and one more for each exchange? And is the value the response time with the ticks that are read, or the task's bound if that
--- is greater?
+-- takes: one, and one more for each exchange? Is the optimum's whole part below 2^64? And is the value the response time with the ticks
+-- that are read, or the task's bound if that is greater?
 pub record IsWalked (points : Points) (f : SourceDef) (r : List ℕ) (i left used value : ℕ) (dual : DualDef) : Type 0 where
   pub exchanges : ℕ
   pub table : Table
@@ -45,6 +45,9 @@ pub record IsWalked (points : Points) (f : SourceDef) (r : List ℕ) (i left use
   pub units : used ≡ exchanges + 1
   pub within : used ≤ left
   pub dual_is : IsFoundDual (f.program i r) table dual
+  pub whole : ℕ
+  pub floor : IsFloor (value_of (f.program i r) table) (pos whole)
+  pub counted : whole < 2 ^ 64
   pub ticks : ℕ
   pub reads : Reads points (f.program i r) table ticks
   pub small : ticks < 2 ^ 63

@@ -7,7 +7,7 @@ ghost use Rattle.response_fixpoint.specs.Rounds.{Ending, Schedulable, EndsIn};
 ghost use Rattle.response_fixpoint.specs.Runs.{rounds_of};
 ghost use Rattle.settling.specs.Walks.{walk};
 ghost use Rattle.settling.specs.Ways.{NoneNeedsMore};
-ghost use Rattle.settling.specs.declared.finding.Points.TheVariants.{Exact};
+ghost use Rattle.settling.specs.declared.finding.Points.TheVariants.{Exact, Rounded};
 
 use free_search::{the_end_is_read_in_one_way, what_is_found_is_best};
 
@@ -20,10 +20,12 @@ pub fn certificates_of_analyses_need_no_more_bits()
     the_end_is_read_in_one_way();
 }
 
-/// A walk with exact points ends in one way.
+/// A walk ends in one way, with exact points and with rounded ones.
 pub fn walks_have_one_ending()
-    ensures { (f : SourceDef) (allowance : ℕ) (e g : Ending)
+    ensures exact { (f : SourceDef) (allowance : ℕ) (e g : Ending)
         → EndsIn (walk Exact f) allowance e → EndsIn (walk Exact f) allowance g → e ≡ g }
+    ensures rounded { (f : SourceDef) (allowance : ℕ) (e g : Ending)
+        → EndsIn (walk Rounded f) allowance e → EndsIn (walk Rounded f) allowance g → e ≡ g }
 {
     what_is_found_is_best();
     the_end_is_read_in_one_way();
