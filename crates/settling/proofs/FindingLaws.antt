@@ -33,8 +33,9 @@ abbrev pub EndsAtGreatest : Type 0
 EndsAtGreatest = (p : ProgramDef) (k : ℕ) (t : Table) (n : ℕ) → IsEndAfter p k t → IsFloor (value_of p t) (pos n) → IsGreatestReached p n
 
 -- What a search answers, with its point as it is.
-found_exact : (p : ProgramDef) (units : ℕ) (found : Found) → EndsAtPoint → Searches (Ok found) p units → IsFoundBy Exact p units found
-found_exact p units found law (at, used) =
+found_exact : (p : ProgramDef) (units : ℕ) (found : Found) → EndsAtPoint → found.ticks < 2 ^ 64 → Searches (Ok found) p units
+    → IsFoundBy Exact p units found
+found_exact p units found law counted (at, used) =
     let point = law p at.exchanges at.table found.den found.num.items found.ticks at.end at.read.point at.read.ticks in record {
       exchanges = at.exchanges;
       table = at.table;
@@ -42,6 +43,9 @@ found_exact p units found law (at, used) =
       used = at.read.used;
       within = used;
       dual = at.read.dual;
+      whole = found.ticks;
+      floor = at.read.ticks;
+      counted = counted;
       reads = at.read.ticks;
       one_each = at.read.point.value_each;
       small = λ rounded. cc rounded;
@@ -49,9 +53,9 @@ found_exact p units found law (at, used) =
     }
 
 pub found_by_search : (points : Points) (p : ProgramDef) (units : ℕ) (found : Found) → points ≡ Exact → EndsAtPoint
-    → Searches (Ok found) p units → IsFoundBy points p units found
-found_by_search points p units found exact law is =
-    subst (λ (x : Points). IsFoundBy x p units found) (sym exact) (found_exact p units found law is)
+    → found.ticks < 2 ^ 64 → Searches (Ok found) p units → IsFoundBy points p units found
+found_by_search points p units found exact law counted is =
+    subst (λ (x : Points). IsFoundBy x p units found) (sym exact) (found_exact p units found law counted is)
 
 -- The same with its point rounded.
 worth_rounded : (p : ProgramDef) (found rounded : Found) → HasRounded p found rounded → length found.num.items ≡ columns p
@@ -65,9 +69,9 @@ worth_rounded p found rounded is size point =
 small_rounded : (p : ProgramDef) (found rounded : Found) → HasRounded p found rounded → AreGreat rounded.den rounded.num.items → ⊥
 small_rounded p found rounded is = rw (is.den, is.num) (rounded_is_not_great found.den found.num.items is.point is.written)
 
-rounded_by_search : (p : ProgramDef) (units : ℕ) (found rounded : Found) → EndsAtPoint → Searches (Ok found) p units
-    → HasRounded p found rounded → IsFoundBy Rounded p units rounded
-rounded_by_search p units found rounded law (at, used) is =
+rounded_by_search : (p : ProgramDef) (units : ℕ) (found rounded : Found) → EndsAtPoint → found.ticks < 2 ^ 64
+    → Searches (Ok found) p units → HasRounded p found rounded → IsFoundBy Rounded p units rounded
+rounded_by_search p units found rounded law counted (at, used) is =
     let point = law p at.exchanges at.table found.den found.num.items found.ticks at.end at.read.point at.read.ticks in
     let size : length found.num.items ≡ columns p = at.read.point.value_each in
     let low = rounded_is_no_greater found.den found.num.items is.point is.written in record {
@@ -77,6 +81,9 @@ rounded_by_search p units found rounded law (at, used) is =
       used = omega (arith, is.used, at.read.used);
       within = omega (arith, is.used, used);
       dual = rw is.dual at.read.dual;
+      whole = found.ticks;
+      floor = at.read.ticks;
+      counted = counted;
       reads = (is.point, (found.den, found.num.items, at.read.point, is.written), is.ticks);
       one_each = rw is.num (omega (arith, low.as_many, size));
       small = λ same. small_rounded p found rounded is;
@@ -84,10 +91,10 @@ rounded_by_search p units found rounded law (at, used) is =
     }
 
 pub found_rounded : (points : Points) (p : ProgramDef) (units : ℕ) (found : Found) (r : Result Found SearchStop) → points ≡ Rounded
-    → EndsAtPoint → Searches (Ok found) p units → IsRoundedFrom p found r → IfOk r (IsFoundBy points p units)
-found_rounded points p units found (Ok rounded) is law searches has =
-    subst (λ (x : Points). IsFoundBy x p units rounded) (sym is) (rounded_by_search p units found rounded law searches has)
-found_rounded points p units found (Err e) is law searches has = tt
+    → EndsAtPoint → found.ticks < 2 ^ 64 → Searches (Ok found) p units → IsRoundedFrom p found r → IfOk r (IsFoundBy points p units)
+found_rounded points p units found (Ok rounded) is law counted searches has =
+    subst (λ (x : Points). IsFoundBy x p units rounded) (sym is) (rounded_by_search p units found rounded law counted searches has)
+found_rounded points p units found (Err e) is law counted searches has = tt
 
 -- Why the rounding stops.
 rounding_stops : (p : ProgramDef) (units : ℕ) (found : Found) (e : SearchStop) → Searches (Ok found) p units → IsRoundedFrom p found (Err e)
@@ -144,6 +151,9 @@ found_of points p units found reached law is small point ticks dual used limits 
   end = is.end;
   units = omega (arith, used, is.used);
   dual = rw dual is.dual;
+  whole = is.whole;
+  floor = is.floor;
+  counted = is.counted;
   reads = rw ticks is.reads;
   is_reached = rw ticks (record {
     reached = record { scale = found.den; point = slice_index found.num.items; is_point = is.worth.point; reached = is.worth.enough };

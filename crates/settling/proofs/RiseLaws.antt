@@ -62,6 +62,9 @@ same_found points p before now same found = record {
   end = found.end;
   units = same.used ∙ found.units;
   dual = subst (λ (d : DualDef). IsFoundDual p found.table d) (sym same.dual) found.dual;
+  whole = found.whole;
+  floor = found.floor;
+  counted = found.counted;
   reads = subst (λ (n : ℕ). Reads points p found.table n) (sym same.ticks) found.reads;
   is_reached = record { reached = rw same.ticks found.is_reached.reached; small = rw same.ticks found.is_reached.small };
   point = subst (λ (o : Option DualDef). IfSome o (IsPointFor p now.ticks)) (sym same.point)

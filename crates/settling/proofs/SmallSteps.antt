@@ -21,7 +21,8 @@ use Rattle.refusal_cert.specs.Refuting.{IsWritten, PointRuns, refuting}
 use Rattle.refusal_cert.specs.Steps.{step_of, steps_over, round_steps, way_steps, refusal_of}
 use Rattle.refusal_cert.proofs.RoundSteps.{step_above, no_step_below}
 use Rattle.refusal_cert.proofs.Led.{point_value}
-use Rattle.settling.specs.Answers.{Settles, IsRight, IsSmallStep, HasSmallSteps, HasSmallPoints, Has64Bits, RefusesIn64Bits, RefusesBySmallSteps}
+use Rattle.settling.specs.Answers.{Settles, IsRight, IsSmallStep, HasSmallSteps, Has64Bits, RefusesIn64Bits, RefusesBySmallSteps}
+use Rattle.settling.specs.Trails.{HasSmallPoints}
 use Rattle.settling.specs.declared.answer.Settled.{Settled}
 use Rattle.settling.specs.declared.answer.SettleStop.{SettleStop}
 use Rattle.settling.specs.declared.answer.Settled.TheVariants as settled

@@ -69,6 +69,14 @@ fn round_found(alloc: Global, program: &SparseProgram, found: Found) -> Result<F
     })
 }
 
+/// The ticks that were found. They have 64 bits.
+fn ticks_of(found: &Found) -> u64
+    ensures is { result ≡ found.now.ticks }
+    ensures bits { found.now.ticks < 2 ^ 64 }
+{
+    found.ticks
+}
+
 /// What a search with so many units finds of the program, with its point written in this way.
 pub(crate) fn find(
     alloc: Global,
@@ -84,6 +92,7 @@ pub(crate) fn find(
         Ok(found) => found,
         Err(stop) => return Err(stop),
     };
+    let _ticks = ticks_of(&found);
     match points {
         Points::Exact => Ok(found),
         Points::Rounded => round_found(alloc, program, found),

@@ -43,8 +43,10 @@ fn settle_fixed<P: ProgramSource>(
     recurrence_is_monotone::<P>();
     what_is_found_is_best();
     the_end_is_read_in_one_way();
-    let certificate = certificate_of(alloc, set, protocol, bounds, reached, allowance)?;
-    Ok(Settled::Schedulable(certificate))
+    match certificate_of(alloc, set, protocol, bounds, reached, allowance) {
+        Ok(certificate) => Ok(Settled::Schedulable(certificate)),
+        Err(stop) => Err(stop),
+    }
 }
 
 /// Settles a set whose analysis is wide at this task.
@@ -143,7 +145,7 @@ pub fn settle_by<R: Threads + Sync, P: ProgramSource + Sync>(
     allowance: u64,
 ) -> Result<Settled, SettleStop>
     requires serves { P.serves protocol.now set.now }
-    ensures answers { IsAnswerFor (source_at (P.source protocol.now) set.now) allowance result }
+    ensures { IsAnswerFor (source_at (P.source protocol.now) set.now) allowance result }
 {
     set.keeps_the_model();
     the_rounds_have_one_ending();

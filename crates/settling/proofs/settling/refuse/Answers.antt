@@ -3,7 +3,7 @@ use Rattle.refusal_laws.specs.declared.refusal.Refusal.{Refusal}
 use Rattle.program_sources.specs.Recurrence.{SourceDef, source_at}
 use Rattle.settling.specs.Answers.{GivesRefusal}
 use Rattle.settling.specs.declared.answer.Settled.TheVariants as settled
-use Rattle.settling.proofs.AnswerLaws.{refused_of, refusal_of_steps, wide_refutation_of, wide_refutation_within}
+use Rattle.settling.proofs.AnswerLaws.{refused_of, refusal_of_steps, only_if_nothing, refused_enough, wide_refutation_of, wide_refutation_within}
 use Rattle.settling.proofs.settling.refuse.Goals as goal
 
 pub returns-in-Ok-Refused-clause-gives : goal.returns-in-Ok-Refused-clause-gives
@@ -18,7 +18,17 @@ returns-in-Err-Wide-clause-gives g c =
     let f : SourceDef = source_at (g.P.ProgramSource.source c.args.protocol.now) c.args.set.now in
     let wide = wide_refutation_of f c.args.allowance c.refute.result c.in-Err-Wide.field-0 _ c.refute.ensures.rounds
     c.in-Err-Wide.is c.in-Err-Wide.field-0-is in
-    refusal_of_steps f c.args.allowance _ c.refuse_by_rounded_points.result wide c.refuse_by_rounded_points.ensures.refuses
+    refusal_of_steps f c.args.allowance _ c.refuse_by_rounded_points.result wide c.requires.none c.refuse_by_rounded_points.ensures.refuses
+
+pub returns-in-Err-Wide-clause-wide : goal.returns-in-Err-Wide-clause-wide
+returns-in-Err-Wide-clause-wide g c =
+    let f : SourceDef = source_at (g.P.ProgramSource.source c.args.protocol.now) c.args.set.now in
+    only_if_nothing f c.args.allowance c.refuse_by_rounded_points.result c.requires.none c.refuse_by_rounded_points.ensures.refuses
+
+pub returns-in-Err-Wide-clause-enough : goal.returns-in-Err-Wide-clause-enough
+returns-in-Err-Wide-clause-enough g c =
+    let f : SourceDef = source_at (g.P.ProgramSource.source c.args.protocol.now) c.args.set.now in
+    refused_enough f c.args.allowance c.refuse_by_rounded_points.result c.refuse_by_rounded_points.ensures.refuses
 
 pub refuse_by_rounded_points-requires-clause-task : goal.refuse_by_rounded_points-requires-clause-task
 refuse_by_rounded_points-requires-clause-task g c =
