@@ -1,9 +1,4 @@
-ghost use Rattle.std.specs.Prelude.{◌≡◌, ℕ, ◌↔◌, List, IfOk};
-ghost use Rattle.program_sources.specs.Fitting.{AreFitting};
-ghost use Rattle.response_fixpoint.specs.Rounds.{Ending, EndsIn};
-ghost use Rattle.response_fixpoint.specs.Runs.{rounds_of};
-ghost use Rattle.settling.specs.Answers.{Settles, Keeps, IsRight, IsSchedulable, IsWideOnlySo, NamesTask};
-ghost use Rattle.settling.specs.Answers.{HasEnough, RefusesBySmallSteps};
+ghost use Rattle.settling.specs.Answers.{IsAnswerFor};
 ghost use Rattle.named_laws.specs.Named.{HasHomes, source_of};
 
 use closer_distributed::{CLOSER_DFLP, CLOSER_DPCP};
@@ -30,14 +25,7 @@ pub fn settle<R: Threads + Sync>(
     allowance: u64,
 ) -> Result<Settled, SettleStop>
     requires suits { HasHomes protocol set.now }
-    ensures settles { Settles result (source_of protocol set.now) allowance }
-    ensures keeps { (e : Ending) → EndsIn (rounds_of (source_of protocol set.now)) allowance e → Keeps result e }
-    ensures right { IfOk result (λ settled. IsRight settled (source_of protocol set.now)) }
-    ensures exactly { IfOk result (λ settled. IsSchedulable settled ↔ ((s : List ℕ) × AreFitting (source_of protocol set.now) s)) }
-    ensures wide { IsWideOnlySo result (source_of protocol set.now) }
-    ensures enough { IfOk result (HasEnough (source_of protocol set.now)) }
-    ensures names { NamesTask set.now result }
-    ensures small_steps { IfOk result (λ settled. RefusesBySmallSteps settled) }
+    ensures { IsAnswerFor (source_of protocol set.now) allowance result }
 {
     match protocol {
         ProtocolName::Base(base) => settle_by(rt, alloc, set, &Written(base), allowance),

@@ -9,16 +9,18 @@ use Rattle.program_form.specs.Certificate.{CertificateDef}
 use Rattle.program_sources.specs.Fitting.{AreFitting, AreLeastFitting}
 use Rattle.program_sources.specs.Valid.{IsValid}
 use Rattle.soundness_laws.specs.Analyses.{AreValues}
+use Rattle.settling.specs.Walks.{IsUnrefuted}
 use Rattle.settling.specs.Ways.{NothingFits, NeedsMoreBits, NoneNeedsMore}
 use Rattle.sporadic_model.specs.SetDef.{SetDef, task_at}
 use Rattle.protocol_names.specs.Names.{word_of}
 use Rattle.protocol_names.specs.declared.ProtocolName.{ProtocolName}
 use Rattle.named_laws.specs.Named.{SoundUnder, source_of}
 use Rattle.cert_json.specs.Text.{certificate_text}
-use Rattle.reply_texts.specs.Texts.{wide_text}
+use Rattle.reply_texts.specs.Texts.{wide_text, allowance_text}
 use Rattle.command_words.specs.Spelled.{settle_words, allowance_of}
 use Rattle.run_plans.specs.Headline.{Call, Asks, HasInputs, RanOut, ReadsSome}
 use Rattle.run_plans.specs.Refused.{IsProvedRefutation}
+use Rattle.run_plans.specs.Settling.{MayWantMore}
 
 -- The call writes the text of a valid certificate for the set of this digest. Its bounds are the least within all deadlines that satisfy
 -- the recurrence. They are sound with the values of its duals: every lawful schedule keeps them.
@@ -61,16 +63,28 @@ SettlesExactly call protocol digest set = (Rose call.shelf_before.faults call.sh
     → (Rose call.sink_before.faults call.sink_now.faults → ⊥) → (RanOut call → ⊥) → call.status ≢ 5 → call.status ≢ 6
     → WritesLeast call protocol digest set ↔ ((s : List ℕ) × AreFitting (source_of protocol set) s)
 
--- What status 5 says. The call names a task of the set that the shelf gave. Either no bounds within all deadlines satisfy the recurrence,
--- or the task's program needs more than 63 bits: at some vector of the recurrence's rounds its run's end is too great to be written, or its
--- dual at the least bounds, as it is written, loses the whole part of the optimum.
-pub record IsLeftWide (call : Call) (protocol : ProtocolName) (name : List ℕ) : Type 0 where
+-- What status 5 says. The call names a task of the set that the shelf gave. Either the task's program needs more than 63 bits: at some
+-- vector of the recurrence's rounds its run's end is too great to be written, or its dual at the least bounds, as it is written, loses the
+-- whole part of the optimum. Or no bounds within all deadlines satisfy the recurrence, and the walk with rounded points passes no deadline.
+pub record IsLeftWide (call : Call) (protocol : ProtocolName) (name : List ℕ) (more : List (List ℕ)) : Type 0 where
   pub set : SetDef
   pub read : ReadsSome call protocol name set
+  pub allowance : ℕ
+  pub allows : allowance_of more ≡ Some allowance
   pub task : ℕ
   pub within : task < length set.tasks
   pub text : Appends call.sink_before.written call.sink_now.written (wide_text (task_at set task).name)
-  pub cause : (NothingFits (source_of protocol set)) ⊎ NeedsMoreBits (source_of protocol set) task
+  pub cause : ((NothingFits (source_of protocol set)) × IsUnrefuted (source_of protocol set) allowance)
+      ⊎ NeedsMoreBits (source_of protocol set) task
+
+-- What status 6 says. The analysis wants more units than the allowance of the words, or the rounds of refusals do, or a walk.
+pub record IsLeftShort (call : Call) (protocol : ProtocolName) (name : List ℕ) (more : List (List ℕ)) : Type 0 where
+  pub set : SetDef
+  pub read : ReadsSome call protocol name set
+  pub allowance : ℕ
+  pub allows : allowance_of more ≡ Some allowance
+  pub text : Appends call.sink_before.written call.sink_now.written allowance_text
+  pub cause : MayWantMore (source_of protocol set) allowance
 
 -- What is true of every call whose words are those of `settle`.
 pub record IsSettling (call : Call) : Type 0 where
@@ -80,6 +94,8 @@ pub record IsSettling (call : Call) : Type 0 where
   pub refused : (protocol : ProtocolName) (name : List ℕ) (more : List (List ℕ)) → call.words ≡ settle_words protocol name more
       → call.status ≡ 1 → IsProvedRefutation call protocol name
   pub wide : (protocol : ProtocolName) (name : List ℕ) (more : List (List ℕ)) → call.words ≡ settle_words protocol name more
-      → call.status ≡ 5 → IsLeftWide call protocol name
+      → call.status ≡ 5 → IsLeftWide call protocol name more
+  pub short : (protocol : ProtocolName) (name : List ℕ) (more : List (List ℕ)) → call.words ≡ settle_words protocol name more
+      → call.status ≡ 6 → IsLeftShort call protocol name more
   pub exactly : (protocol : ProtocolName) (set : SetDef) → (settles : Settles call protocol set)
       → SettlesExactly call protocol (sha256 settles.read.bytes) set

@@ -12,6 +12,7 @@ use Rattle.refusal_cert.specs.Refuting.{refuting}
 use Rattle.refusal_cert.specs.Steps.{refusal_of}
 use Rattle.settling.specs.Rising.{IsProvedLeast}
 use Rattle.settling.specs.Answers.{IsNotShown, IsLeftOpen}
+use Rattle.settling.specs.Walks.{WantsMore, IsUnrefuted}
 use Rattle.settling.specs.Ways.{NothingFits, NeedsMoreBits, NoneNeedsMore}
 use Rattle.cert_json.specs.Text.{certificate_text}
 use Rattle.refusal_json.specs.Ranges.{IsWritable}
@@ -40,16 +41,17 @@ pub record IsRefusedBy (f : SourceDef) (allowance : ℕ) (steps : List StepDef) 
   pub writable : IsWritable steps
   pub from : ((IsNotShown f allowance) × AreStepsOfRounds f allowance steps) ⊎ IsLeftOpen f allowance
 
--- May the set be left unsettled at task i? The rounds leave it open. And nothing fits, or the task's program needs more than 63 bits.
+-- May the set be left unsettled at task i? The rounds leave it open. And the task's program needs more than 63 bits. Or nothing fits, and
+-- the walk with rounded points passes no latest bound.
 pub record MayBeWide (f : SourceDef) (allowance i : ℕ) : Type 0 where
   pub left : IsLeftOpen f allowance
-  pub cause : (NothingFits f) ⊎ NeedsMoreBits f i
+  pub cause : ((NothingFits f) × IsUnrefuted f allowance) ⊎ NeedsMoreBits f i
 
 -- May so many units be too few? The analysis wants more, or the rounds of refusals do, for a set that it doesn't show. Or the rounds leave
--- the set open, and the search wants more.
+-- the set open, and a walk wants more.
 abbrev pub MayWantMore : SourceDef → ℕ → Type 0
 MayWantMore f allowance = (EndsIn (rounds_of f) allowance Allowance)
-    ⊎ ((IsLeftOpen f allowance) ⊎ ((IsNotShown f allowance) × EndsIn (refuting f) allowance Allowance))
+    ⊎ (((IsLeftOpen f allowance) × WantsMore f allowance) ⊎ ((IsNotShown f allowance) × EndsIn (refuting f) allowance Allowance))
 
 -- What goes out with a certificate, and with a refusal, of a set whose bytes have this digest.
 abbrev pub settled_answer : ProtocolName → List ℕ → CertificateDef → Answer
