@@ -14,4 +14,4 @@ mod Denominators
 pub mod Ends
 mod Answering
 mod BestEnds
-mod OneEnd
+pub mod OneEnd

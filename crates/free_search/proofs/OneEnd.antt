@@ -34,12 +34,12 @@ use Rattle.free_search.specs.Ends.{IsEndAfter, IsRoundedUp, IsRoundedDual, IsExa
 use Rattle.free_search.specs.Ends.{IsFinestDual, IsFoundDual}
 
 -- Are the denominators, numbers and bases the same?
-record IsSameState (p : ProgramDef) (s u : State) : Type 0 where
-  d : s.d ≡ u.d
-  z : (i v : ℕ) → s.z i v ≡ u.z i v
-  basic : (i : ℕ) → i < height p → s.basic i ≡ u.basic i
+pub record IsSameState (p : ProgramDef) (s u : State) : Type 0 where
+  pub d : s.d ≡ u.d
+  pub z : (i v : ℕ) → s.z i v ≡ u.z i v
+  pub basic : (i : ℕ) → i < height p → s.basic i ≡ u.basic i
 
-not_both : (x y : ℤ) → x ≡ y → pos 0 <ℤ x → y ≤ℤ pos 0 → ⊥
+pub not_both : (x y : ℤ) → x ≡ y → pos 0 <ℤ x → y ≤ℤ pos 0 → ⊥
 not_both x y e h k = omega (arith, ints)
 
 same_entering : (p : ProgramDef) (s u : State) (e f : ℕ) → IsSameState p s u → Enters p s e → Enters p u f → e ≡ f
@@ -100,7 +100,7 @@ same_next p s u a b e f r q good same h k =
     same_after p s u a b e r same h (subst (λ (v : ℕ). IsStep p u e v b) one_leaves enters_so)
 
 -- Two runs agree as far as both go.
-same_tables : (p : ProgramDef) (k j i : ℕ) (t u : Table) (h : FreeTrace p k t) (g : FreeTrace p j u) → i ≤ k → i ≤ j
+pub same_tables : (p : ProgramDef) (k j i : ℕ) (t u : Table) (h : FreeTrace p k t) (g : FreeTrace p j u) → i ≤ k → i ≤ j
     → IsSameState p (h.states i) (g.states i)
 same_tables p k j zero t u h g to_k to_j = record {
   d = h.start_d ∙ sym g.start_d;

@@ -1,4 +1,4 @@
-//! What follows from what a search reads off the end of the run. The function is a law: it does nothing, and what it ensures holds for all
+//! What follows from what a search reads off the end of the run. Each function is a law: it does nothing, and what it ensures holds for all
 //! programs.
 
 ghost use Rattle.std.specs.Prelude.{◌≡◌, ℕ, ◌*◌, ◌≤◌, List, slice_index, pos};

@@ -200,7 +200,7 @@ led_task f rise r left i before used value point steps rises here count run with
           subst (λ (xs : List StepDef). IsLed f r (with_task before used value point) (suc i) (steps ++ xs))
           (sym (step_above (slice_index r i) i value point past))
           (led_step f r i before used value point point steps here count
-            (step_there f rise r left i before used value point steps here run led past) within led past)
+          (step_there f rise r left i before used value point steps here run led past) within led past)
       | inr most ↦
           let least : slice_index r i ≤ value = rises i value here run.1.ends.response in
           let same : slice_index r i ≡ value = omega (arith, least, most) in

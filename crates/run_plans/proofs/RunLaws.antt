@@ -41,8 +41,9 @@ use Rattle.run_plans.proofs.OnClocks.{analysis_on_clocks, settlement_on_clocks, 
 use Rattle.run_plans.proofs.KeptLaws.{proved_audit}
 use Rattle.run_plans.proofs.RefusedLaws.{proved_refutation, proved_confirmation}
 use Rattle.run_plans.specs.Refused.{IsProvedRefutation, IsProvedConfirmation}
-use Rattle.run_plans.specs.Settled.{SettlesExactly, IsSettling, IsProvedSettlement, IsLeftWide}
-use Rattle.run_plans.proofs.SettledLaws.{proved_settlement, bounded_settlement, proved_settled_refusal, left_wide, outcome_exactly}
+use Rattle.run_plans.specs.Settled.{SettlesExactly, IsSettling, IsProvedSettlement, IsLeftWide, IsLeftShort}
+use Rattle.run_plans.proofs.SettledLaws.{proved_settlement, bounded_settlement, proved_settled_refusal, left_wide, left_short, settle_allows}
+use Rattle.run_plans.proofs.SettledLaws.{outcome_exactly}
 use Rattle.run_plans.proofs.UpgradedLaws.{proved_upgrade}
 use Rattle.run_plans.proofs.SetTextLaws.{told_reads}
 
@@ -57,7 +58,7 @@ pub record Replied (shelf : Shown) (o : Option Form) (a : Answer) : Type 0 where
   pub long : (form : Form) → o ≡ Some form → (IsWorking (plan_of form) → ⊥) → GREATEST_INPUT_BYTES < shelf.given
       → (word : List ℕ) × (a ≡ refused word (codes "toolong"))
   pub shows : (form : Form) → o ≡ Some form → (a.status ≡ 0) ⊎ (a.status ≡ 1) → IsOutcomeOf (shown_by shelf) (plan_of form) a
-  pub wide_shows : (form : Form) → o ≡ Some form → a.status ≡ 5 → IsOutcomeOf (shown_by shelf) (plan_of form) a
+  pub stop_shows : (form : Form) → o ≡ Some form → (a.status ≡ 5) ⊎ (a.status ≡ 6) → IsOutcomeOf (shown_by shelf) (plan_of form) a
   pub asks : (readings : List Asked) × (shown_by shelf).asked readings × MatchOption o (readings ≡ [])
       (λ form. AsksAll (plan_of form) readings ⊎ (AsksPart (plan_of form) readings × ((a.status ≡ 3) ⊎ (a.status ≡ 4))))
   pub outcome : (inputs : Inputs) → AreInputs shelf inputs
@@ -77,7 +78,7 @@ replied shelf None a (is, none) =
       most = omega (arith, two);
       long = λ form some more long. absurd (none-some form some);
       shows = λ form some verdict. absurd (none-some form some);
-      wide_shows = λ form some e. absurd (none-some form some);
+      stop_shows = λ form some e. absurd (none-some form some);
       asks = ([], none, refl);
       outcome = λ inputs tells. inl is;
     }
@@ -92,7 +93,7 @@ replied shelf (Some form) a (inl (rose, small, fault)) =
       most = omega (arith, four);
       long = λ other some more long. absurd (omega (arith, small, long));
       shows = λ other some verdict. absurd (omega (arith, four, at_most_one a verdict));
-      wide_shows = λ other some e. absurd (omega (arith, four, e));
+      stop_shows = λ other some e. elim e [ inl five ↦ absurd (omega (arith, four, five)) | inr six ↦ absurd (omega (arith, four, six)) ];
       asks = (
           let asks = fault_asks (shown_by shelf) (plan_of form) a fault in
           (asks.readings, asks.asked, elim asks.are [ inl all ↦ inl all | inr (part, why) ↦ inr (part, inr four) ]));
@@ -111,7 +112,7 @@ replied shelf (Some form) a (inr out) =
           let same : form ≡ other = same_Some form other some in
           plan_longer shelf (plan_of form) (λ w. more (subst (λ (x : Form). IsWorking (plan_of x)) same w)) a out long);
       shows = λ other some verdict. subst (λ (x : Form). IsOutcomeOf (shown_by shelf) (plan_of x) a) (same_Some form other some) out;
-      wide_shows = λ other some e. subst (λ (x : Form). IsOutcomeOf (shown_by shelf) (plan_of x) a) (same_Some form other some) out;
+      stop_shows = λ other some e. subst (λ (x : Form). IsOutcomeOf (shown_by shelf) (plan_of x) a) (same_Some form other some) out;
       asks = (
           let asks = outcome_asks (shown_by shelf) (plan_of form) a out in
           (asks.readings, asks.asked, elim asks.are [ inl all ↦ inl all | inr (part, three) ↦ inr (part, inl three) ]));
@@ -317,6 +318,7 @@ gave_run call replies r gives =
         least = least;
         refused = refused;
         wide = left_open;
+        short = short;
         exactly = λ protocol set settles. elim (r.outcome settles.inputs settles.has) [
           | inl mine ↦ λ shelf sink ran. outcome_exactly call protocol set settles a mine gives
           | inr fault ↦ caused call protocol (sha256 settles.read.bytes) set (inl fault.0)
@@ -353,13 +355,25 @@ gave_run call replies r gives =
           proved_settled_refusal call protocol name form.0 replies.reply
           (r.shows (Settle protocol name form.0) form.1 (inr (sym gives.0 ∙ one))) gives one
 
+      -- The words of a call with such a status have a form.
+      stop_form : (status : ℕ) → 2 < status → call.status ≡ status → form_of call.words ≡ None → ⊥
+      stop_form status above is none = let two : call.status ≡ 2 = gives.0 ∙ ap (λ x. x.status) (r.none none) in absurd (omega (arith, two, is, above))
+
       left_open : (protocol : ProtocolName) (name : List ℕ) (more : List (List ℕ)) → call.words ≡ settle_words protocol name more
-          → call.status ≡ 5 → IsLeftWide call protocol name
+          → call.status ≡ 5 → IsLeftWide call protocol name more
       left_open protocol name more words five =
-          let form = settle_has_form call.words protocol name more words
-          (λ none. (let two : call.status ≡ 2 = gives.0 ∙ ap (λ x. x.status) (r.none none) in absurd (omega (arith, two, five)))) in
-          left_wide call protocol name form.0 replies.reply
-          (r.wide_shows (Settle protocol name form.0) form.1 (sym gives.0 ∙ five)) gives five
+          let allows = settle_allows call.words protocol name more words (stop_form 5 (omega arith) five) in
+          let form = settle_is_form call.words protocol name more allows.0 words allows.1 in
+          left_wide call protocol name more allows.0 replies.reply allows.1
+          (r.stop_shows (Settle protocol name allows.0) form (inl (sym gives.0 ∙ five))) gives five
+
+      short : (protocol : ProtocolName) (name : List ℕ) (more : List (List ℕ)) → call.words ≡ settle_words protocol name more
+          → call.status ≡ 6 → IsLeftShort call protocol name more
+      short protocol name more words six =
+          let allows = settle_allows call.words protocol name more words (stop_form 6 (omega arith) six) in
+          let form = settle_is_form call.words protocol name more allows.0 words allows.1 in
+          left_short call protocol name more allows.0 replies.reply allows.1
+          (r.stop_shows (Settle protocol name allows.0) form (inr (sym gives.0 ∙ six))) gives six
 
       analysed : (protocol : ProtocolName) (name : List ℕ) (more : List (List ℕ)) → call.words ≡ analyse_words protocol name more
           → call.status ≡ 0 → IsProvedAnalysis call protocol name

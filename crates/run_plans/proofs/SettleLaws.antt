@@ -15,7 +15,7 @@ use Rattle.refusal_cert.proofs.OneEnding.{refuting_once}
 use Rattle.settling.specs.Answers.{IsNotShown, IsLeftOpen}
 use Rattle.named_laws.specs.Named.{source_of}
 use Rattle.command_inputs.specs.Known.{Answer}
-use Rattle.run_plans.specs.Settling.{AreStepsOfRounds, MayWantMore, settled_answer, refused_answer, short_answer}
+use Rattle.run_plans.specs.Settling.{AreStepsOfRounds, MayBeWide, MayWantMore, settled_answer, refused_answer, short_answer}
 use Rattle.run_plans.specs.Settling.{IsSettlement, settlement_of, SettlingEnds}
 use Rattle.run_plans.specs.Commands.{ending_answer}
 use Rattle.run_plans.specs.Run.{IsWideEnding, IsAllowanceEnding}
@@ -30,12 +30,12 @@ plain_settlement p digest set n a (inr (inl (steps, refused, is))) = plain_of_st
 plain_settlement p digest set n a (inr (inr (inl (i, here, left, is)))) = plain_is a 5 (ap (λ x. x.status) is) refl
 plain_settlement p digest set n a (inr (inr (inr (short, is)))) = plain_is a 6 (ap (λ x. x.status) is) refl
 
-well_settlement : (p : ProtocolName) (digest : List ℕ) (set : SetDef) (n : ℕ) (a : Answer) → (MayWantMore (source_of p set) n → ⊥)
-    → IsSettlement p digest set n a → (a.status ≡ 0) ⊎ (a.status ≡ 1)
+well_settlement : (p : ProtocolName) (digest : List ℕ) (set : SetDef) (n : ℕ) (a : Answer)
+    → (MayWantMore (source_of p set) n → ⊥) × ((i : ℕ) → MayBeWide (source_of p set) n i → ⊥) → IsSettlement p digest set n a → (a.status ≡ 0) ⊎ (a.status ≡ 1)
 well_settlement p digest set n a enough (inl (c, settled, is)) = inl (ap (λ x. x.status) is)
 well_settlement p digest set n a enough (inr (inl (steps, refused, is))) = inr (ap (λ x. x.status) is)
-well_settlement p digest set n a enough (inr (inr (inl (i, here, left, is)))) = absurd (enough (inr (inl left.left)))
-well_settlement p digest set n a enough (inr (inr (inr (short, is)))) = absurd (enough short)
+well_settlement p digest set n a enough (inr (inr (inl (i, here, left, is)))) = absurd (enough.1 i left)
+well_settlement p digest set n a enough (inr (inr (inr (short, is)))) = absurd (enough.0 short)
 
 -- Rounds that leave the set open end wide.
 open_ends : (f : SourceDef) (n : ℕ) → IsLeftOpen f n → (e : Ending) × (SettlingEnds f n e) × IsWideEnding e
@@ -44,7 +44,7 @@ open_ends f n (inr (late, (i, ends))) = (Wide i, inr (late, ends), (i, refl))
 
 short_ends : (f : SourceDef) (n : ℕ) → MayWantMore f n → (e : Ending) × (SettlingEnds f n e) × ((IsAllowanceEnding e) ⊎ IsWideEnding e)
 short_ends f n (inl ends) = (Allowance, inl ends, inl refl)
-short_ends f n (inr (inl left)) = let w = open_ends f n left in (w.0, w.1, inr w.2)
+short_ends f n (inr (inl (left, more))) = let w = open_ends f n left in (w.0, w.1, inr w.2)
 short_ends f n (inr (inr (late, ends))) = (Allowance, inr (late, ends), inl refl)
 
 pub wide_settlement : (p : ProtocolName) (digest : List ℕ) (set : SetDef) (n : ℕ) (a : Answer) → IsSettlement p digest set n a
@@ -110,7 +110,7 @@ close p digest set n a closed (inl (c, settled, is)) = close_certified p digest 
 close p digest set n a closed (inr (inl (steps, refused, is))) = close_refused p digest set n steps a closed is refused.from
 close p digest set n a closed (inr (inr (inl (i, here, left, is)))) = absurd (closed left.left)
 close p digest set n a closed (inr (inr (inr (inl ends, is)))) = inl (Allowance, ends, tt, is)
-close p digest set n a closed (inr (inr (inr (inr (inl left), is)))) = absurd (closed left)
+close p digest set n a closed (inr (inr (inr (inr (inl (left, more)), is)))) = absurd (closed left)
 close p digest set n a closed (inr (inr (inr (inr (inr (late, ends)), is)))) = inr (late, (Allowance, ends, is))
 
 one_closed : (p : ProtocolName) (digest : List ℕ) (set : SetDef) (n : ℕ) (a b : Answer) → IsClosed p digest set n a

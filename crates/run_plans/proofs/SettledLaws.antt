@@ -1,5 +1,8 @@
 -- What the statuses 0, 1 and 5 of `settle` say, whatever is known of the inputs.
-use Rattle.std.proofs.Common.{◌≡◌, ◌≢◌, ◌⊎◌, ℕ, ◌<◌, ◌↔◌, List, length, ◌∙◌, ap, subst, arith, inl, inr}
+use Rattle.std.proofs.Common.{◌≡◌, ◌≢◌, ◌⊎◌, ℕ, ◌<◌, ◌↔◌, List, length, refl, ◌∙◌, ap, subst, arith, inl, inr}
+use Rattle.std.specs.Prelude.{Some, None}
+use Rattle.std.specs.Option.{option_map}
+use Rattle.std.specs.declared.option.Option.{Option}
 use Rattle.std.specs.Io.KnownBytes.{Appends}
 use Rattle.sha2.specs.Sha256.{sha256}
 use Rattle.program_form.specs.Certificate.{CertificateDef}
@@ -14,20 +17,22 @@ use Rattle.protocol_names.specs.declared.ProtocolName.{ProtocolName}
 use Rattle.named_laws.specs.Named.{source_of}
 use Rattle.named_laws.proofs.EachName.{named_sound}
 use Rattle.named_laws.proofs.Refusals.{named_none_fits}
-use Rattle.reply_texts.specs.Texts.{wide_text}
+use Rattle.reply_texts.specs.Texts.{wide_text, allowance_text}
 use Rattle.settling.specs.Rising.{IsProvedLeast}
+use Rattle.settling.specs.Walks.{IsUnrefuted}
 use Rattle.settling.specs.Ways.{NothingFits, NeedsMoreBits, NoneNeedsMore}
 use Rattle.command_words.specs.Words.{Settle}
-use Rattle.command_words.proofs.SpelledLaws.{settle_is_form}
+use Rattle.command_words.specs.Spelled.{settle_words, allowance_of}
+use Rattle.command_words.proofs.SpelledLaws.{settle_is_form, form_of_settle}
 use Rattle.command_inputs.specs.Known.{Answer, Known, shown_by}
 use Rattle.command_inputs.specs.Inputs.{set_input}
 use Rattle.run_plans.specs.Plans.{Working, IsOutcomeOf}
 use Rattle.run_plans.specs.Commands.{plan_of}
 use Rattle.run_plans.specs.Outcome.{IsOutcome}
-use Rattle.run_plans.specs.Settling.{IsRefusedBy, IsSettlement, settlement_of}
+use Rattle.run_plans.specs.Settling.{IsRefusedBy, MayWantMore, IsSettlement, settlement_of}
 use Rattle.run_plans.specs.Headline.{Call}
 use Rattle.run_plans.specs.Refused.{IsProvedRefutation}
-use Rattle.run_plans.specs.Settled.{WritesLeast, IsProvedSettlement, IsLeftWide, Settles}
+use Rattle.run_plans.specs.Settled.{WritesLeast, IsProvedSettlement, IsLeftWide, IsLeftShort, Settles}
 use Rattle.run_plans.specs.Run.{shelf_of, Gives}
 use Rattle.run_plans.proofs.PlanLaws.{stopped_status, rest_of}
 use Rattle.run_plans.proofs.InputLaws.{set_reads_once}
@@ -74,14 +79,14 @@ refused_at_one p digest set n a (inr (inr (inr (short, is)))) one =
     (let s : a.status ≡ 6 = ap (λ x. x.status) is in absurd (omega (arith, s, one)))
 
 -- With status 5 it names a task, with the cause.
-pub record WideWith (p : ProtocolName) (set : SetDef) (a : Answer) : Type 0 where
+pub record WideWith (p : ProtocolName) (set : SetDef) (n : ℕ) (a : Answer) : Type 0 where
   pub task : ℕ
   pub within : task < length set.tasks
   pub text : a.text ≡ wide_text (task_at set task).name
-  pub cause : (NothingFits (source_of p set)) ⊎ NeedsMoreBits (source_of p set) task
+  pub cause : ((NothingFits (source_of p set)) × IsUnrefuted (source_of p set) n) ⊎ NeedsMoreBits (source_of p set) task
 
 wide_at_five : (p : ProtocolName) (digest : List ℕ) (set : SetDef) (n : ℕ) (a : Answer) → IsSettlement p digest set n a → a.status ≡ 5
-    → WideWith p set a
+    → WideWith p set n a
 wide_at_five p digest set n a (inl (c, settled, is)) five =
     (let s : a.status ≡ 0 = ap (λ x. x.status) is in absurd (omega (arith, s, five)))
 wide_at_five p digest set n a (inr (inl (steps, refused, is))) five =
@@ -90,6 +95,21 @@ wide_at_five p digest set n a (inr (inr (inl (i, here, left, is)))) five =
     record { task = i; within = here; text = ap (λ x. x.text) is; cause = left.cause }
 wide_at_five p digest set n a (inr (inr (inr (short, is)))) five =
     (let s : a.status ≡ 6 = ap (λ x. x.status) is in absurd (omega (arith, s, five)))
+
+-- With status 6 units may be too few.
+pub record ShortWith (p : ProtocolName) (set : SetDef) (n : ℕ) (a : Answer) : Type 0 where
+  pub cause : MayWantMore (source_of p set) n
+  pub text : a.text ≡ allowance_text
+
+short_at_six : (p : ProtocolName) (digest : List ℕ) (set : SetDef) (n : ℕ) (a : Answer) → IsSettlement p digest set n a → a.status ≡ 6
+    → ShortWith p set n a
+short_at_six p digest set n a (inl (c, settled, is)) six =
+    (let s : a.status ≡ 0 = ap (λ x. x.status) is in absurd (omega (arith, s, six)))
+short_at_six p digest set n a (inr (inl (steps, refused, is))) six =
+    (let s : a.status ≡ 1 = ap (λ x. x.status) is in absurd (omega (arith, s, six)))
+short_at_six p digest set n a (inr (inr (inl (i, here, left, is)))) six =
+    (let s : a.status ≡ 5 = ap (λ x. x.status) is in absurd (omega (arith, s, six)))
+short_at_six p digest set n a (inr (inr (inr (short, is)))) six = record { cause = short; text = ap (λ x. x.text) is }
 
 -- The outcomes of `settle` with status 0, and with status 1.
 abbrev pub WroteSettled : Known → ProtocolName → List ℕ → Answer → Type 0
@@ -118,21 +138,50 @@ wrote_refused known p name n a out one =
     wrote known p name n a (λ bytes set. RefusedWith p (sha256 bytes) set n a) out (λ three. absurd (omega (arith, one, three)))
     (λ bytes set is. refused_at_one p (sha256 bytes) set n a is one)
 
--- What status 5 says.
-pub left_wide : (call : Call) (p : ProtocolName) (name : List ℕ) (n : ℕ) (a : Answer)
-    → IsOutcomeOf (shown_by (shelf_of call)) (plan_of (Settle p name n)) a → Gives call a → call.status ≡ 5 → IsLeftWide call p name
-left_wide call p name n a out gives five =
+-- What status 5 says, and status 6.
+pub left_wide : (call : Call) (p : ProtocolName) (name : List ℕ) (more : List (List ℕ)) (n : ℕ) (a : Answer) → allowance_of more ≡ Some n
+    → IsOutcomeOf (shown_by (shelf_of call)) (plan_of (Settle p name n)) a → Gives call a → call.status ≡ 5
+    → IsLeftWide call p name more
+left_wide call p name more n a allows out gives five =
     let at : a.status ≡ 5 = omega (arith, gives.0, five) in
-    let w = wrote (shown_by (shelf_of call)) p name n a (λ bytes set. WideWith p set a) out (λ three. absurd (omega (arith, at, three)))
+    let w = wrote (shown_by (shelf_of call)) p name n a (λ bytes set. WideWith p set n a) out (λ three. absurd (omega (arith, at, three)))
     (λ bytes set is. wide_at_five p (sha256 bytes) set n a is at) in
     record {
       set = w.set;
       read = some_read call p name w.bytes w.set w.read;
+      allowance = n;
+      allows = allows;
       task = w.so.task;
       within = w.so.within;
       text = subst (λ (t : List ℕ). Appends call.sink_before.written call.sink_now.written t) w.so.text gives.1;
       cause = w.so.cause;
     }
+
+pub left_short : (call : Call) (p : ProtocolName) (name : List ℕ) (more : List (List ℕ)) (n : ℕ) (a : Answer) → allowance_of more ≡ Some n
+    → IsOutcomeOf (shown_by (shelf_of call)) (plan_of (Settle p name n)) a → Gives call a → call.status ≡ 6
+    → IsLeftShort call p name more
+left_short call p name more n a allows out gives six =
+    let at : a.status ≡ 6 = omega (arith, gives.0, six) in
+    let w = wrote (shown_by (shelf_of call)) p name n a (λ bytes set. ShortWith p set n a) out (λ three. absurd (omega (arith, at, three)))
+    (λ bytes set is. short_at_six p (sha256 bytes) set n a is at) in
+    record {
+      set = w.set;
+      read = some_read call p name w.bytes w.set w.read;
+      allowance = n;
+      allows = allows;
+      text = subst (λ (t : List ℕ). Appends call.sink_before.written call.sink_now.written t) w.so.text gives.1;
+      cause = w.so.cause;
+    }
+
+-- Words of `settle` that have a form have an allowance.
+pub settle_allows : (words : List (List ℕ)) (p : ProtocolName) (set : List ℕ) (more : List (List ℕ)) → words ≡ settle_words p set more
+    → (form_of words ≡ None → ⊥) → (n : ℕ) × (allowance_of more ≡ Some n)
+settle_allows words p set more is some = allowed (allowance_of more) refl
+  where
+    allowed : (o : Option ℕ) → allowance_of more ≡ o → (n : ℕ) × (allowance_of more ≡ Some n)
+    allowed (Some n) same = (n, same)
+    allowed None same =
+        absurd (some (ap form_of is ∙ (form_of_settle p set more ∙ ap (option_map (λ n. Settle p set n)) same)))
 
 -- ---- what a call says
 

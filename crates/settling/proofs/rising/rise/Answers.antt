@@ -1,10 +1,9 @@
-use Rattle.std.proofs.Common.{◌≡◌, ◌≢◌, ℕ, zero, suc, ◌+◌, ◌-◌, ◌<◌, ◌≤◌, List, [], length, refl, sym, subst, arith, Ok, Err, map}
+use Rattle.std.proofs.Common.{ℕ, zero, suc, ◌-◌, List, refl, sym, subst, arith, Ok, Err}
 use Rattle.std.specs.Prelude.{Some, None}
 use Rattle.program_sources.specs.Recurrence.{SourceDef, source_at}
 use Rattle.program_sources.specs.Fitting.{AreBelowAllFitting, tasks_of}
 use Rattle.response_fixpoint.specs.Rounds.{Reaches}
 use Rattle.response_fixpoint.proofs.VectorLaws.{same_vectors, other_vectors}
-use Rattle.settling.specs.Rising.{AreFoundAt}
 use Rattle.settling.specs.Turns.{GivesTurn, IsPart}
 use Rattle.settling.specs.Walks.{walk}
 use Rattle.settling.specs.declared.rounds.Round.{Round}

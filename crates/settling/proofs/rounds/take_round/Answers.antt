@@ -1,4 +1,4 @@
-use Rattle.std.proofs.Common.{◌≡◌, ℕ, ◌+◌, ◌<◌, ◌≤◌, List, length, max, ap, sym, subst, arith}
+use Rattle.std.proofs.Common.{◌≡◌, ℕ, ◌+◌, ◌<◌, ◌≤◌, List, length, max, sym, subst, arith}
 use Rattle.std.specs.Prelude.{slice_index}
 use Rattle.program_form.specs.Certificate.{dual_seen}
 use Rattle.program_sources.specs.Recurrence.{SourceDef, source_at, response_with}
