@@ -15,3 +15,4 @@ pub mod Ends
 mod Answering
 mod BestEnds
 pub mod OneEnd
+mod RoundedTotals

@@ -113,9 +113,9 @@ same_tables p k j (suc i) t u h g to_k to_j =
     (g.trace.step i (omega arith))
 
 -- Are these the duals of the rows: x r over d for row r?
-record AreDualNumbers (p : ProgramDef) (t : Table) (d : ℕ) (x : ℕ → ℕ) : Type 0 where
-  positive : 0 < d
-  shows : (r : ℕ) → r < height p → Shows (pos d) (pos (x r)) (dual_at p t r)
+pub record AreDualNumbers (p : ProgramDef) (t : Table) (d : ℕ) (x : ℕ → ℕ) : Type 0 where
+  pub positive : 0 < d
+  pub shows : (r : ℕ) → r < height p → Shows (pos d) (pos (x r)) (dual_at p t r)
 
 numbers_behind : (p : ProgramDef) (t : Table) (d : ℤ) (z : ℕ → ℕ → ℤ) → IsShadow p t d z → IsLast p t
     → AreDualNumbers p t (scale_of d) (dual_num p z)
@@ -131,13 +131,13 @@ numbers_behind p t d z h last = record {
 }
 
 -- Have two tables the same duals?
-record ShareDuals (p : ProgramDef) (t u : Table) : Type 0 where
-  d : ℕ
-  x : ℕ → ℕ
-  one : AreDualNumbers p t d x
-  other : AreDualNumbers p u d x
+pub record ShareDuals (p : ProgramDef) (t u : Table) : Type 0 where
+  pub d : ℕ
+  pub x : ℕ → ℕ
+  pub one : AreDualNumbers p t d x
+  pub other : AreDualNumbers p u d x
 
-the_other_way : (p : ProgramDef) (t u : Table) → ShareDuals p t u → ShareDuals p u t
+pub the_other_way : (p : ProgramDef) (t u : Table) → ShareDuals p t u → ShareDuals p u t
 the_other_way p t u h = record { d = h.d; x = h.x; one = h.other; other = h.one }
 
 numbers_agree : (p : ProgramDef) (u : Table) (d e : ℕ) (x y : ℕ → ℕ) → e ≡ d → ((r : ℕ) → y r ≡ x r) → AreDualNumbers p u e y
@@ -165,7 +165,7 @@ share_at p k t u end other =
     }
 
 -- All ends have the same duals.
-share_duals : (p : ProgramDef) (k j : ℕ) (t u : Table) → IsEndAfter p k t → IsEndAfter p j u → ShareDuals p t u
+pub share_duals : (p : ProgramDef) (k j : ℕ) (t u : Table) → IsEndAfter p k t → IsEndAfter p j u → ShareDuals p t u
 share_duals p k j t u end other =
     let back : j ≤ k = no_later_end p k j t u end.reached end.last other.reached in
     let up : k ≤ j = no_later_end p j k u t other.reached other.last end.reached in
@@ -188,7 +188,7 @@ up_same f g m k some above same h =
           (rw (products, sums) (times_lt (pos k *ℤ f.den) ((f.num *ℤ pos m) +ℤ f.den) g.den above h.least));
     }
 
-up_shown : (d x m k : ℕ) (f : Fraction) → 0 < d → Shows (pos d) (pos x) f → IsRoundedUp f m k → IsUp x d m k
+pub up_shown : (d x m k : ℕ) (f : Fraction) → 0 < d → Shows (pos d) (pos x) f → IsRoundedUp f m k → IsUp x d m k
 up_shown d x m k f some shown h =
     let up : IsRoundedUp (over (pos x) (pos d)) m k
     = up_same f (over (pos x) (pos d)) m k shown.positive (above_zero d some) (record { same = sym shown.same }) h in
@@ -212,7 +212,7 @@ scaled_moves p t u r m k h l scaled =
     shown_scaled (pos h.d) (pos (h.x r)) (dual_at p u r) m k (above_zero h.d h.one.positive) (h.other.shows r l)
     (scaled_shown (pos h.d) (pos (h.x r)) (dual_at p t r) m k (h.one.shows r l) scaled)
 
-rounded_moves : (p : ProgramDef) (t u : Table) (w : DualDef) → ShareDuals p t u → IsRoundedDual p t w → IsRoundedDual p u w
+pub rounded_moves : (p : ProgramDef) (t u : Table) (w : DualDef) → ShareDuals p t u → IsRoundedDual p t w → IsRoundedDual p u w
 rounded_moves p t u w h is = record {
   number_each = is.number_each;
   positive = is.positive;
@@ -308,21 +308,21 @@ rounded_once p t u d e h dens is other =
     omega (arith, up, back)))
 
 -- No rounded dual is over a greater power of two than the finest.
-finest_most : (p : ProgramDef) (t u : Table) (d e : DualDef) → ShareDuals p t u → (is : IsFinestDual p t d) → (other : IsFinestDual p t e)
-    → other.power ≤ is.power
-finest_most p t u d e h is other = elim (cases_lt is.power other.power) [
+pub power_most : (p : ProgramDef) (t u : Table) (d e : DualDef) (m : ℕ) → ShareDuals p t u → (is : IsFinestDual p t d) → IsRoundedDual p t e
+    → e.den ≡ 2 ^ m → m ≤ is.power
+power_most p t u d e m h is other den = elim (cases_lt is.power m) [
   | inr most ↦ most
   | inl later ↦
-      let small : 2 ^ other.power < 2 ^ 63 = rw (← other.den) other.rounded.small_den in
-      let least : other.power < 63 = elim (cases_lt other.power 63) [
+      let small : 2 ^ m < 2 ^ 63 = rw (← den) other.small_den in
+      let least : m < 63 = elim (cases_lt m 63) [
         | inl few ↦ few
-        | inr many ↦ absurd (clash (2 ^ other.power) (2 ^ 63) small (pow_mono many))
+        | inr many ↦ absurd (clash (2 ^ m) (2 ^ 63) small (pow_mono many))
       ] in
       elim is.greatest [
         | inl most ↦ absurd (omega (arith, most, least, later))
         | inr great ↦
-            let up : 2 ^ (is.power + 1) ≤ e.den = rw other.den (pow_mono (omega (arith, later))) in
-            absurd (not_great_below p t u (2 ^ (is.power + 1)) e h other.rounded up great)
+            let up : 2 ^ (is.power + 1) ≤ e.den = rw den (pow_mono (omega (arith, later))) in
+            absurd (not_great_below p t u (2 ^ (is.power + 1)) e h other up great)
       ]
 ]
   where
@@ -337,8 +337,8 @@ found_once p t u d e h (inl one) (inl other) =
 found_once p t u d e h (inl one) (inr none) = absurd (none.0 d one.exact)
 found_once p t u d e h (inr none) (inl one) = absurd (none.0 e one.exact)
 found_once p t u d e h (inr one) (inr other) =
-    let up : other.1.power ≤ one.1.power = finest_most p t u d e h one.1 other.1 in
-    let back : one.1.power ≤ other.1.power = finest_most p t u e d h other.1 one.1 in
+    let up : other.1.power ≤ one.1.power = power_most p t u d e other.1.power h one.1 other.1.rounded other.1.den in
+    let back : one.1.power ≤ other.1.power = power_most p t u e d one.1.power h other.1 one.1.rounded one.1.den in
     let powers : one.1.power ≡ other.1.power = omega (arith, up, back) in
     rounded_once p t u d e h (one.1.den ∙ (ap (λ (n : ℕ). 2 ^ n) powers ∙ sym other.1.den)) one.1.rounded other.1.rounded
 

@@ -1,7 +1,7 @@
 //! What follows from what a search reads off the end of the run. Each function is a law: it does nothing, and what it ensures holds for all
 //! programs.
 
-ghost use Rattle.std.specs.Prelude.{◌≡◌, ℕ, ◌*◌, ◌≤◌, List, slice_index, pos};
+ghost use Rattle.std.specs.Prelude.{◌≡◌, ℕ, ◌*◌, ◌≤◌, ◌^◌, List, slice_index, pos};
 ghost use Rattle.fraction128.specs.Fraction.{IsFloor};
 ghost use Rattle.program_form.specs.Program.{ProgramDef};
 ghost use Rattle.program_form.specs.Certificate.{DualDef};
@@ -37,4 +37,12 @@ pub fn the_end_is_read_in_one_way()
         → IsFoundDual p t d → HasGreatDual p u 1 → ⊥ }
     ensures keeps { (p : ProgramDef) (k j : ℕ) (t u : Table) (w d : DualDef) → IsEndAfter p k t → IsEndAfter p j u
         → IsExactDual p t w → IsFoundDual p u d → IsGreatestReached p (dual_value p d.den (λ r. slice_index d.num r)) }
+{}
+
+/// Let the multipliers at the end of a run be rounded up over some power of two, with 63 bits each. Then the dual that a search writes is
+/// worth no more: its total over its denominator has no greater whole part.
+pub fn no_rounded_dual_is_worth_less()
+    ensures { (p : ProgramDef) (k j : ℕ) (t u : Table) (w d : DualDef) (m : ℕ) → IsEndAfter p k t → IsEndAfter p j u
+        → IsRoundedDual p t w → w.den ≡ 2 ^ m → IsFoundDual p u d
+        → dual_value p d.den (λ r. slice_index d.num r) ≤ dual_value p w.den (λ r. slice_index w.num r) }
 {}

@@ -22,7 +22,7 @@ mod tableau;
 
 use choice::entering;
 pub use found::{Found, SearchStop};
-pub use laws::{the_end_is_read_in_one_way, what_is_found_is_best};
+pub use laws::{no_rounded_dual_is_worth_less, the_end_is_read_in_one_way, what_is_found_is_best};
 use program_form::SparseProgram;
 pub use rounding::round_down;
 use start::first_tableau;
