@@ -17,5 +17,8 @@ mod shortening;
 mod steps;
 
 pub use answer::{SettleStop, Settled};
-pub use laws::{certificates_of_analyses_need_no_more_bits, walks_have_one_ending};
+pub use laws::{
+    certificates_of_analyses_need_no_more_bits, no_rounded_dual_keeps_the_whole_part,
+    walks_have_one_ending,
+};
 pub use settling::{settle_by, settle_with};
