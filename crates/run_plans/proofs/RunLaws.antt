@@ -23,7 +23,7 @@ use Rattle.run_plans.specs.Plans.{Working, IsWorking, HasOneAnswer, IsOutcomeOf,
 use Rattle.command_words.specs.Words.{Form, Analyse, Refute, Settle, Check, Confirm, Upgrade, Audit, form_of}
 use Rattle.command_words.specs.Spelled.{analyse_words, refute_words, settle_words, check_words, confirm_words}
 use Rattle.command_words.proofs.SpelledLaws.{analyse_has_form, analyse_is_form, refute_has_form, check_is_form, confirm_is_form}
-use Rattle.command_words.proofs.SpelledLaws.{settle_has_form, upgrade_is_form, audit_is_form}
+use Rattle.command_words.proofs.SpelledLaws.{settle_has_form, settle_is_form, upgrade_is_form, audit_is_form}
 use Rattle.command_inputs.specs.Inputs.{set_input}
 use Rattle.run_plans.specs.Commands.{ending_answer, IsAnalysis, analysis_of, plan_of}
 use Rattle.run_plans.specs.Outcome.{refused_words, IsOutcome, HasOneOutcome, IsReplyOf, IsReply}
@@ -203,6 +203,11 @@ never_five protocol digest set n a e nothing five =
     rounds_never_wide (source_of protocol set) n wide.0 (named_no_columns protocol set nothing)
     (subst (λ (x : Ending). EndsIn (rounds_of (source_of protocol set)) n x) wide.1 e.ends)
 
+-- A call that ends with a fault or without memory has no other status.
+apart : (call : Call) (n : ℕ) → ((call.status ≡ 4) ⊎ RanOut call) → n ≢ 4 → n ≢ 7 → call.status ≡ n → ⊥
+apart call n (inl f) four seven is = four (sym is ∙ f)
+apart call n (inr ran) four seven is = seven (sym is ∙ ran.status)
+
 -- The headline for a call that ends with a fault or without memory, from its cause.
 other_headline : (call : Call) (protocol : ProtocolName) (digest : List ℕ) (set : SetDef) → ((call.status ≡ 4) ⊎ RanOut call)
     → (Rose call.shelf_before.faults call.shelf_now.faults ⊎ (Rose call.sink_before.faults call.sink_now.faults ⊎ RanOut call))
@@ -214,10 +219,7 @@ other_headline call protocol digest set status cause = record {
   ];
   least = λ zero. absurd (apart call 0 status (λ e. absurd (omega (arith, e))) (λ e. absurd (omega (arith, e))) zero);
   none = λ one. absurd (apart call 1 status (λ e. absurd (omega (arith, e))) (λ e. absurd (omega (arith, e))) one);
-} where
-  apart : (call : Call) (n : ℕ) → ((call.status ≡ 4) ⊎ RanOut call) → (n ≡ 4 → ⊥) → (n ≡ 7 → ⊥) → call.status ≡ n → ⊥
-  apart call n (inl f) four seven is = four (sym is ∙ f)
-  apart call n (inr ran) four seven is = seven (sym is ∙ ran.status)
+}
 
 -- If a count of faults rose or memory ran out, `SettlesExactly` holds, since one of its premises fails.
 caused : (call : Call) (protocol : ProtocolName) (digest : List ℕ) (set : SetDef)
@@ -228,13 +230,18 @@ caused call protocol digest set (inr (inl sink)) no_shelf no_sink no_want no_wid
 caused call protocol digest set (inr (inr ran)) no_shelf no_sink no_want no_wide no_allowance = absurd (no_want ran)
 
 -- The same for a call that settles a set.
-other_settling : (call : Call) (n : ℕ) → call.status ≡ n → 4 ≤ n → n ≢ 5
+other_settling : (call : Call) → ((call.status ≡ 4) ⊎ RanOut call)
     → (Rose call.shelf_before.faults call.shelf_now.faults ⊎ (Rose call.sink_before.faults call.sink_now.faults ⊎ RanOut call))
     → IsSettling call
-other_settling call n is most other cause = record {
-  least = λ protocol name more words zero. absurd (omega (arith, is, most, zero));
-  refused = λ protocol name more words one. absurd (omega (arith, is, most, one));
-  wide = λ protocol name more words five. absurd (other (sym is ∙ five));
+other_settling call status cause = record {
+  least = λ protocol name more words zero.
+      absurd (apart call 0 status (λ e. absurd (omega (arith, e))) (λ e. absurd (omega (arith, e))) zero);
+  refused = λ protocol name more words one.
+      absurd (apart call 1 status (λ e. absurd (omega (arith, e))) (λ e. absurd (omega (arith, e))) one);
+  wide = λ protocol name more words five.
+      absurd (apart call 5 status (λ e. absurd (omega (arith, e))) (λ e. absurd (omega (arith, e))) five);
+  short = λ protocol name more words six.
+      absurd (apart call 6 status (λ e. absurd (omega (arith, e))) (λ e. absurd (omega (arith, e))) six);
   exactly = λ protocol set settles. caused call protocol (sha256 settles.read.bytes) set cause;
 }
 
@@ -435,7 +442,7 @@ cut_run call replies r fails =
       audited = λ protocol name cert jobs rows words zero. absurd (omega (arith, four, zero));
       refuted = λ protocol name more words zero. absurd (omega (arith, four, zero));
       confirmed = λ protocol name cert words zero. absurd (omega (arith, four, zero));
-      settled = other_settling call 4 four (omega arith) (λ e. absurd (omega (arith, e))) (inr (inl fails.rose));
+      settled = other_settling call (inl four) (inr (inl fails.rose));
       upgraded = λ protocol name cert words zero. absurd (omega (arith, four, zero));
     } where
       asked_cut : (readings : List Asked) × Asks call readings × MatchOption (form_of call.words) (readings ≡ [])
@@ -473,7 +480,7 @@ run_ran_out call ran =
       audited = λ protocol name cert jobs rows words zero. absurd (omega (arith, seven, zero));
       refuted = λ protocol name more words zero. absurd (omega (arith, seven, zero));
       confirmed = λ protocol name cert words zero. absurd (omega (arith, seven, zero));
-      settled = other_settling call 7 seven (omega arith) (λ e. absurd (omega (arith, e))) (inr (inr ran));
+      settled = other_settling call (inr ran) (inr (inr ran));
       upgraded = λ protocol name cert words zero. absurd (omega (arith, seven, zero));
     }
 

@@ -21,7 +21,7 @@ use Rattle.reply_texts.specs.Texts.{wide_text, allowance_text}
 use Rattle.settling.specs.Rising.{IsProvedLeast}
 use Rattle.settling.specs.Walks.{IsUnrefuted}
 use Rattle.settling.specs.Ways.{NothingFits, NeedsMoreBits, NoneNeedsMore}
-use Rattle.command_words.specs.Words.{Settle}
+use Rattle.command_words.specs.Words.{Settle, form_of}
 use Rattle.command_words.specs.Spelled.{settle_words, allowance_of}
 use Rattle.command_words.proofs.SpelledLaws.{settle_is_form, form_of_settle}
 use Rattle.command_inputs.specs.Known.{Answer, Known, shown_by}
@@ -149,6 +149,8 @@ left_wide call p name more n a allows out gives five =
     record {
       set = w.set;
       read = some_read call p name w.bytes w.set w.read;
+      asked = w.asked;
+      given = w.last;
       allowance = n;
       allows = allows;
       task = w.so.task;
@@ -167,6 +169,8 @@ left_short call p name more n a allows out gives six =
     record {
       set = w.set;
       read = some_read call p name w.bytes w.set w.read;
+      asked = w.asked;
+      given = w.last;
       allowance = n;
       allows = allows;
       text = subst (λ (t : List ℕ). Appends call.sink_before.written call.sink_now.written t) w.so.text gives.1;

@@ -69,6 +69,8 @@ SettlesExactly call protocol digest set = (Rose call.shelf_before.faults call.sh
 pub record IsLeftWide (call : Call) (protocol : ProtocolName) (name : List ℕ) (more : List (List ℕ)) : Type 0 where
   pub set : SetDef
   pub read : ReadsSome call protocol name set
+  pub asked : Asks call (wholly name read.bytes ∷ [])
+  pub given : length read.bytes ≡ call.shelf_now.given
   pub allowance : ℕ
   pub allows : allowance_of more ≡ Some allowance
   pub task : ℕ
@@ -81,6 +83,8 @@ pub record IsLeftWide (call : Call) (protocol : ProtocolName) (name : List ℕ) 
 pub record IsLeftShort (call : Call) (protocol : ProtocolName) (name : List ℕ) (more : List (List ℕ)) : Type 0 where
   pub set : SetDef
   pub read : ReadsSome call protocol name set
+  pub asked : Asks call (wholly name read.bytes ∷ [])
+  pub given : length read.bytes ≡ call.shelf_now.given
   pub allowance : ℕ
   pub allows : allowance_of more ≡ Some allowance
   pub text : Appends call.sink_before.written call.sink_now.written allowance_text

@@ -1,5 +1,5 @@
 -- What answers of settling mean, from where they come.
-use Rattle.std.proofs.Common.{◌≡◌, ℕ, ◌<◌, List, map, Ok, Err, IfOk, inl, inr, refl, subst}
+use Rattle.std.proofs.Common.{◌≡◌, ℕ, ◌<◌, List, map, Ok, Err, IfOk, inl, inr, subst}
 use Rattle.std.specs.Prelude.{◌↔◌, Bool, Result}
 use Rattle.program_form.specs.Certificate.{CertificateDef, dual_seen, certificate_seen}
 use Rattle.program_sources.specs.Recurrence.{SourceDef}

@@ -1,12 +1,12 @@
 -- A program's run ends in one way, and so does a walk.
-use Rattle.std.proofs.Common.{◌≡◌, ◌∙◌, ◌⊎◌, inl, inr, ℕ, zero, suc, ◌+◌, ◌*◌, ◌^◌, ◌<◌, ◌≤◌, List, length, refl, sym, ap, subst, arith}
-use Rattle.std.proofs.Common.{ap₂, ℤ, pos, ◌-ℤ◌, ◌*ℤ◌, ◌≤ℤ◌, ◌<ℤ◌, unsigned_abs}
+use Rattle.std.proofs.Common.{◌≡◌, ◌∙◌, ◌⊎◌, inl, inr, ℕ, ◌+◌, ◌*◌, ◌^◌, ◌<◌, ◌≤◌, List, length, refl, sym, ap, subst, arith}
+use Rattle.std.proofs.Common.{ap₂, ℤ, pos, ◌*ℤ◌, ◌≤ℤ◌, ◌<ℤ◌, unsigned_abs}
 use Rattle.std.specs.Prelude.{slice_index, max}
 use Rattle.std.proofs.Math.Nat.{mul-le-mul_left, mul-le-mul_right, le_of_mul-le-mul_right, lt_of_mul-lt-mul_right}
 use Rattle.std.proofs.Math.Pow.{pow_mono}
-use Rattle.std.proofs.lemmas.Bool.{cases_eq, cases_lt}
+use Rattle.std.proofs.lemmas.Bool.{cases_lt}
 use Rattle.std.proofs.lemmas.Grind.{same_number_lists}
-use Rattle.std.proofs.lemmas.Int.{ints, unsigned_abs-mul}
+use Rattle.std.proofs.lemmas.Int.{unsigned_abs-mul}
 use Rattle.number_laws.specs.WholeSums.{only_at}
 use Rattle.number_laws.proofs.TotalLaws.{total_below-agree}
 use Rattle.fraction128.proofs.Unique.{size_positive}
@@ -20,8 +20,7 @@ use Rattle.exchange_runs.specs.Unbounded.{FreelyReached}
 use Rattle.exchange_runs.proofs.Best.{scale_of, value_z, point_of, scaled_shown, column_shows}
 use Rattle.exchange_runs.proofs.Ends.{at_variable}
 use Rattle.exchange_runs.proofs.FreeRuns.{FreeTrace, trace_of, state_at}
-use Rattle.exchange_runs.proofs.FreeStates.{State, IsGood, Enters, Leaves, IsStep, apart, above_same}
-use Rattle.exchange_runs.proofs.Invariants.{exchanged, exchanged-here, exchanged-away}
+use Rattle.exchange_runs.proofs.FreeStates.{State}
 use Rattle.exchange_runs.proofs.OneEnd.{no_later_end}
 use Rattle.exchange_runs.proofs.Shadows.{IsShadow}
 use Rattle.exchange_runs.proofs.Shown.{shows_above, shows_at_most_zero}

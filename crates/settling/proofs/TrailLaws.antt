@@ -14,7 +14,7 @@ use Rattle.program_sources.proofs.RecurrenceLaws.{LimitsRise}
 use Rattle.refusal_laws.specs.Steps.{StepDef, no_step, step_at, costs_of, IsStep}
 use Rattle.response_fixpoint.specs.Answers.{IsSmallDual}
 use Rattle.response_fixpoint.specs.Rounds.{Found, with_task}
-use Rattle.refusal_cert.specs.Leading.{after_all, IsLed}
+use Rattle.refusal_cert.specs.Leading.{after_all}
 use Rattle.refusal_cert.specs.Steps.{step_of}
 use Rattle.refusal_cert.proofs.Led.{after_all_length, own, step_of_point, led_step, led_same, last_holds}
 use Rattle.settling.specs.Rising.{IsPointFor, seen_point}

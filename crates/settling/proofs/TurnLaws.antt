@@ -1,10 +1,10 @@
 -- What a round of a walk has found, one task more at a time, and how the rounds end.
-use Rattle.std.proofs.Common.{◌≡◌, ◌≢◌, ◌∙◌, ℕ, suc, ◌+◌, ◌-◌, ◌<◌, ◌≤◌, List, [], ◌∷◌, ◌++◌, length, refl, sym, ap, subst, arith, Err}
+use Rattle.std.proofs.Common.{◌≡◌, ◌≢◌, ℕ, suc, ◌+◌, ◌-◌, ◌<◌, ◌≤◌, List, [], ◌∷◌, ◌++◌, length, refl, sym, ap, subst, arith, Err}
 use Rattle.std.proofs.Common.{true, false}
 use Rattle.std.specs.Prelude.{slice_index, max, Some, None, IfSome}
 use Rattle.std.specs.declared.option.Option.{Option}
 use Rattle.std.proofs.lemmas.List.{length_push}
-use Rattle.program_form.specs.Certificate.{DualDef, dual_seen}
+use Rattle.program_form.specs.Certificate.{dual_seen}
 use Rattle.program_sources.specs.Bounds.{IsInRange}
 use Rattle.program_sources.specs.Recurrence.{SourceDef, response_with}
 use Rattle.program_sources.specs.Fitting.{AreBelowAllFitting, tasks_of, latest_of}
@@ -152,8 +152,17 @@ late_shows points f allowance k spent r refusal steps responds below way late tr
       none = late_fits_nothing f r late.task late.ticks responds below h.below late.reached late.response;
       task = late.task;
       value = late.value;
-      ends = (r, allowance - spent - h.found.used, h.found, late.used, late.dual, h.below,
-          comes_at o allowance k spent r late.task (Valued late.used late.value late.dual) h way, h.run, late.late);
+      ends = (
+        r,
+        allowance - spent - h.found.used,
+        h.found,
+        late.used,
+        late.dual,
+        h.below,
+        comes_at o allowance k spent r late.task (Valued late.used late.value late.dual) h way,
+        h.run,
+        late.late,
+      );
       holds = refusal_shown points f steps refusal trail refuses;
       written = refusal_written points steps refusal are refuses;
     }
@@ -168,8 +177,13 @@ fixed_of points f allowance k spent r round range below way part same = record {
   one_each = part.one_each;
   found = part.reached;
   fixed = subst (λ (x : List ℕ). AreNextBounds f r (tasks_of f) round.reached.items x) same part.next;
-  ends = (allowance - spent - round.used, found_of round,
-      record { rounds = k; spent = spent; reached = way; passed = part.passed; units = refl }, same, refl);
+  ends = (
+    allowance - spent - round.used,
+    found_of round,
+    record { rounds = k; spent = spent; reached = way; passed = part.passed; units = refl },
+    same,
+    refl,
+  );
 }
 
 pub way_on : (points : Points) (f : SourceDef) (allowance k spent : ℕ) (r : List ℕ) (round : Round)

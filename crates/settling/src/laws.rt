@@ -14,7 +14,9 @@ ghost use Rattle.settling.specs.Walks.{walk};
 ghost use Rattle.settling.specs.Ways.{LosesWhole, NoneNeedsMore};
 ghost use Rattle.settling.specs.declared.finding.Points.TheVariants.{Exact, Rounded};
 
-use free_search::{no_rounded_dual_is_worth_less, the_end_is_read_in_one_way, what_is_found_is_best};
+use free_search::{
+    no_rounded_dual_is_worth_less, the_end_is_read_in_one_way, what_is_found_is_best,
+};
 
 /// If an analysis ends with a certificate, no task needs more than 63 bits.
 pub fn certificates_of_analyses_need_no_more_bits()

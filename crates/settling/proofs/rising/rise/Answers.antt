@@ -77,8 +77,11 @@ loop-round-preserved g c =
     c.reached_responses_are_below_all_fitting.ensures c.args.protocol.now c.args.set.now r s i blocking c.requires.serves below fits within by in
     let k : ℕ = c.loop-round.invariant.way.0 in
     record {
-      way = (suc k, way_on c.args.points f c.args.allowance k c.loop-round.spent v round c.loop-round.invariant.way.1 part
-          (other_vectors round.next.items v c.if-eq.ensures));
+      way = (
+        suc k,
+        way_on c.args.points f c.args.allowance k c.loop-round.spent v round c.loop-round.invariant.way.1 part
+            (other_vectors round.next.items v c.if-eq.ensures),
+      );
       within = omega (arith, part.within, c.loop-round.invariant.within);
       range = next_in_range f v round.next.items round.reached.items part.next part.one_each c.loop-round.invariant.range;
       below = next_below c.args.points f v round.next.items round.reached.items responds part.next part.one_each part.reached
