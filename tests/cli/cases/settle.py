@@ -2,7 +2,7 @@
 import re
 
 from setting import FULL, TOP, Case, Folder, Room, Saved
-from sets import FIVE, HOME, HOMELESS, PAIR, PAIR_CERTIFICATE, SHORT, SHORT_REFUSAL, SIX, WIDE, digest_of, pair, resource, task, task_set
+from sets import FIVE, HOME, HOMELESS, PAIR, PAIR_CERTIFICATE, SHORT, SHORT_REFUSAL, SIX, WIDE, digest_of, pair, refusal, resource, step, task, task_set
 
 WORDS = ("mpcp", "fmlp+", "dpcp", "dflp", "dpcp-w", "spin", "mpcp-c", "fmlp+-c", "dpcp-c", "dflp-c", "spin-c")
 SHIPPED = (TOP / "examples" / "wide.json").read_text()
@@ -73,6 +73,9 @@ MIXED = task_set(
     task("t8", 2, 1000000, 1064, ("q1", 991), ("q2", 409)),
 )
 
+# t7 needs no bound above a cost: its point keeps the rows at the costs too. Before it six tasks give steps.
+MIXED_REFUSAL = refusal("fmlp+", MIXED, step(7, 11057, 81138647, 49886957, 133032976, 0, 162277294, 81138647, 14481959, den=81138647))
+
 
 def same(shows, command, protocol, text):
     """The bytes that another command writes."""
@@ -132,6 +135,7 @@ WIDE_AND_NOT_SHOWN = [
     *refused("one tick below a bound that is nearly one more", "mpcp", nearly_whole(600001023)),
     *refused("a point too wide", "fmlp+", MIXED, "not shown t7 11057 9136\n"),
     *refused("a point too wide, under MPCP", "mpcp", MIXED, "not shown t7 11280 9136\n"),
+    ended("without steps that the last one doesn't need", "fmlp+ set", MIXED_REFUSAL, 1, MIXED),
 ]
 
 NOT_SETTLED = [
@@ -148,7 +152,9 @@ ALLOWANCES = [
     Case("as many as show that it is wide", "analyse mpcp set 18", "wide t1\n", 5, {"set": halves()}),
     ended("are too few for the search", "mpcp set 18", "allowance\n", 6, halves()),
     Case("as many as show that it isn't shown", "analyse fmlp+ set 104", "not shown t7 11057 9136\n", 1, {"set": MIXED}),
-    ended("are too few for the search of a refusal", "fmlp+ set 104", "allowance\n", 6, MIXED),
+    ended("are enough for the walk to a refusal", "fmlp+ set 104", MIXED_REFUSAL, 1, MIXED),
+    ended("too few for the walk with rounded points", "mpcp set 149", "allowance\n", 6, halves(78743917)),
+    ended("as many as it takes", "mpcp set 150", "wide t1\n", 5, halves(78743917)),
 ]
 
 INPUTS = [
