@@ -73,7 +73,7 @@ MIXED = task_set(
     task("t8", 2, 1000000, 1064, ("q1", 991), ("q2", 409)),
 )
 
-# t7 needs no bound above a cost: its point keeps the rows at the costs too. Before it six tasks give steps.
+# The walk ends in its first round, at t7. So t7 needs no other step. Six tasks give steps before it. The point is t7's best one, in fractions.
 MIXED_REFUSAL = refusal("fmlp+", MIXED, step(7, 11057, 81138647, 49886957, 133032976, 0, 162277294, 81138647, 14481959, den=81138647))
 
 
@@ -99,6 +99,12 @@ def refused(shows, protocol, text, analysed="wide t1\n"):
         Case(f"{shows}, to be refuted", f"refute {protocol} set", "wide t1\n", 5, {"set": text}),
         Case(f"{shows}, confirmed", f"confirm {protocol} set cert", "confirmed\n", 0, {"set": text}, before=((f"settle {protocol} set", "cert", 1),)),
     ]
+
+
+def steps_alone(protocol, text, *steps):
+    """A refusal whose steps have these tasks and values, with any points."""
+    each = ",".join(rf'\{{"point":\{{"den":\d+,"num":\[[\d,]*\]\}},"task":{number},"value":{value}\}}' for number, value in steps)
+    return re.compile(rf'\{{"protocol":"{re.escape(protocol)}","set":"{digest_of(text)}","steps":\[{each}\],"verdict":"notshown","version":1\}}\n')
 
 
 def ended(shows, words, says, status, text, **more):
@@ -128,14 +134,15 @@ WIDE_AND_SHOWN = [
 ]
 
 # With two ticks less than its bound the first task is refused by a point that is rounded down. With one less only the one best point will do, which
-# has no form.
+# has no form. The walk of WIDE gives six steps: t1 900001012, t2, t3, t4 and t5, and in the next round t1 1168435466.
 WIDE_AND_NOT_SHOWN = [
     *refused("a program too wide", "mpcp", WIDE),
     *refused("two ticks below the bound", "mpcp", halves(78743916)),
     *refused("one tick below a bound that is nearly one more", "mpcp", nearly_whole(600001023)),
     *refused("a point too wide", "fmlp+", MIXED, "not shown t7 11057 9136\n"),
     *refused("a point too wide, under MPCP", "mpcp", MIXED, "not shown t7 11280 9136\n"),
-    ended("without steps that the last one doesn't need", "fmlp+ set", MIXED_REFUSAL, 1, MIXED),
+    ended("without six steps that the last one doesn't need", "fmlp+ set", MIXED_REFUSAL, 1, MIXED),
+    ended("with one step of six that the last one needs", "mpcp set", steps_alone("mpcp", WIDE, (1, 900001012), (1, 1168435466)), 1, WIDE),
 ]
 
 NOT_SETTLED = [
