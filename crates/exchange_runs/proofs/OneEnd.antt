@@ -12,15 +12,15 @@ use Rattle.exchange_runs.proofs.FreeStates.{State, IsGood, Enters, Leaves, IsSte
 use Rattle.exchange_runs.proofs.FreeRuns.{FreeTrace, trace_of}
 
 -- Are the denominators, numbers and bases the same?
-record IsSame (p : ProgramDef) (s u : State) : Type 0 where
-  d : s.d ≡ u.d
-  z : (i v : ℕ) → s.z i v ≡ u.z i v
-  basic : (i : ℕ) → i < height p → s.basic i ≡ u.basic i
+pub record IsSameState (p : ProgramDef) (s u : State) : Type 0 where
+  pub d : s.d ≡ u.d
+  pub z : (i v : ℕ) → s.z i v ≡ u.z i v
+  pub basic : (i : ℕ) → i < height p → s.basic i ≡ u.basic i
 
-not_both : (x y : ℤ) → x ≡ y → pos 0 <ℤ x → y ≤ℤ pos 0 → ⊥
+pub not_both : (x y : ℤ) → x ≡ y → pos 0 <ℤ x → y ≤ℤ pos 0 → ⊥
 not_both x y e h k = omega (arith, ints)
 
-same_entering : (p : ProgramDef) (s u : State) (e f : ℕ) → IsSame p s u → Enters p s e → Enters p u f → e ≡ f
+same_entering : (p : ProgramDef) (s u : State) (e f : ℕ) → IsSameState p s u → Enters p s e → Enters p u f → e ≡ f
 same_entering p s u e f same h k = elim (cases_lt e f) [
   | inl earlier ↦ absurd (not_both _ _ (same.z (height p) e) h.above (k.least e earlier))
   | inr back ↦ elim (cases_lt f e) [
@@ -33,7 +33,7 @@ at_most_same : (a b c k x y u v : ℤ) → a ≡ x → b ≡ y → c ≡ u → k
 at_most_same a b c k x y u v e f g h l = rw (e, f, g, h) l
 
 -- Of two rows that leave, each ratio is no greater than the other; so both have the least basic variable.
-same_leaving : (p : ProgramDef) (s u : State) (e r q : ℕ) → IsGood p s → IsSame p s u → Leaves p s e r → Leaves p u e q → r ≡ q
+same_leaving : (p : ProgramDef) (s u : State) (e r q : ℕ) → IsGood p s → IsSameState p s u → Leaves p s e r → Leaves p u e q → r ≡ q
 same_leaving p s u e r q good same h k =
     let w : ℕ = variables p in
     let pivot_q : pos 0 <ℤ s.z q e = above_same _ _ (same.z q e) k.pivot in
@@ -49,7 +49,7 @@ same_leaving p s u e r q good same h k =
     both : (a b c k : ℕ) → a ≤ b → c ≤ k → a ≡ k → b ≡ c → a ≡ b
     both a b c k h l e f = omega arith
 
-same_exchanged : (p : ProgramDef) (s u : State) (e r i v : ℕ) → IsSame p s u → exchanged r e s.d s.z i v ≡ exchanged r e u.d u.z i v
+same_exchanged : (p : ProgramDef) (s u : State) (e r i v : ℕ) → IsSameState p s u → exchanged r e s.d s.z i v ≡ exchanged r e u.d u.z i v
 same_exchanged p s u e r i v same = elim (cases_eq i r) [
   | inl here ↦
       subst (λ (k : ℕ). exchanged r e s.d s.z k v ≡ exchanged r e u.d u.z k v) (sym here)
@@ -59,7 +59,7 @@ same_exchanged p s u e r i v same = elim (cases_eq i r) [
       ∙ (ap₂ ◌-ℤ◌ (ap₂ ◌*ℤ◌ (same.z r e) (same.z i v)) (ap₂ ◌*ℤ◌ (same.z i e) (same.z r v)) ∙ sym (exchanged-away r e u.d u.z i v away))
 ]
 
-same_after : (p : ProgramDef) (s u a b : State) (e r : ℕ) → IsSame p s u → IsStep p s e r a → IsStep p u e r b → IsSame p a b
+same_after : (p : ProgramDef) (s u a b : State) (e r : ℕ) → IsSameState p s u → IsStep p s e r a → IsStep p u e r b → IsSameState p a b
 same_after p s u a b e r same h k = record {
   d = h.denominator ∙ (ap₂ ◌*ℤ◌ same.d (same.z r e) ∙ sym k.denominator);
   z = λ i v. h.cells i v ∙ (same_exchanged p s u e r i v same ∙ sym (k.cells i v));
@@ -69,8 +69,8 @@ same_after p s u a b e r same h k = record {
   ];
 }
 
-same_next : (p : ProgramDef) (s u a b : State) (e f r q : ℕ) → IsGood p s → IsSame p s u → IsStep p s e r a → IsStep p u f q b
-    → IsSame p a b
+same_next : (p : ProgramDef) (s u a b : State) (e f r q : ℕ) → IsGood p s → IsSameState p s u → IsStep p s e r a → IsStep p u f q b
+    → IsSameState p a b
 same_next p s u a b e f r q good same h k =
     let one_enters : f ≡ e = sym (same_entering p s u e f same h.enters k.enters) in
     let enters_so : IsStep p u e q b = subst (λ (v : ℕ). IsStep p u v q b) one_enters k in
@@ -78,8 +78,8 @@ same_next p s u a b e f r q good same h k =
     same_after p s u a b e r same h (subst (λ (v : ℕ). IsStep p u e v b) one_leaves enters_so)
 
 -- Two runs agree as far as both go.
-same_tables : (p : ProgramDef) (k j i : ℕ) (t u : Table) (h : FreeTrace p k t) (g : FreeTrace p j u) → i ≤ k → i ≤ j
-    → IsSame p (h.states i) (g.states i)
+pub same_tables : (p : ProgramDef) (k j i : ℕ) (t u : Table) (h : FreeTrace p k t) (g : FreeTrace p j u) → i ≤ k → i ≤ j
+    → IsSameState p (h.states i) (g.states i)
 same_tables p k j zero t u h g to_k to_j = record {
   d = h.start_d ∙ sym g.start_d;
   z = λ i v. h.start_z i v ∙ sym (g.start_z i v);
@@ -97,7 +97,7 @@ no_later_end p k j t u reached last other = elim (cases_lt k j) [
   | inl later ↦
       let h : FreeTrace p k t = trace_of p k t reached in
       let g : FreeTrace p j u = trace_of p j u other in
-      let same : IsSame p (h.states k) (g.states k) = same_tables p k j k t u h g (omega arith) (omega arith) in
+      let same : IsSameState p (h.states k) (g.states k) = same_tables p k j k t u h g (omega arith) (omega arith) in
       let enters : Enters p (g.states k) (g.entering k) = (g.trace.step k later).enters in
       let e : ℕ = g.entering k in
       let none : h.z (height p) e ≤ℤ pos 0

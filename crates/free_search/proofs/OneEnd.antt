@@ -1,10 +1,10 @@
 -- A program's run ends in one way. So its end is written in one way: the duals of each end are the same numbers.
-use Rattle.std.proofs.Common.{◌≡◌, inl, inr, ℕ, zero, suc, ◌+◌, ◌*◌, ◌<◌, ◌≤◌, ◌^◌, List, slice_index, ℤ, pos, neg_ℤ, unsigned_abs}
-use Rattle.std.proofs.Common.{◌+ℤ◌, ◌-ℤ◌, ◌*ℤ◌, ◌≤ℤ◌, ◌<ℤ◌, ap, ap₂, ◌∙◌, sym, subst, arith}
+use Rattle.std.proofs.Common.{◌≡◌, inl, inr, ℕ, ◌+◌, ◌*◌, ◌<◌, ◌≤◌, ◌^◌, List, slice_index, ℤ, pos, neg_ℤ, unsigned_abs}
+use Rattle.std.proofs.Common.{◌+ℤ◌, ◌*ℤ◌, ◌≤ℤ◌, ◌<ℤ◌, ap, ap₂, ◌∙◌, sym, subst, arith}
 use Rattle.std.proofs.Math.Nat.{mul-le-mul_left, lt_of_mul-lt-mul_right}
 use Rattle.std.proofs.Math.Pow.{pow_mono}
 use Rattle.std.proofs.lemmas.Int.{ints}
-use Rattle.std.proofs.lemmas.Bool.{cases_eq, cases_lt}
+use Rattle.std.proofs.lemmas.Bool.{cases_lt}
 use Rattle.std.proofs.lemmas.Grind.{same_number_lists}
 use Rattle.number_laws.proofs.Ring.{mul-comm, mul-swap_last, mul-add_right}
 use Rattle.number_laws.proofs.Order.{weaker, above_zero, times_le, times_lt, cancel_le, cancel_lt}
@@ -17,100 +17,19 @@ use Rattle.program_form.specs.Points.{IsGreatestReached}
 use Rattle.program_form.specs.Duals.{dual_total, dual_value}
 use Rattle.program_form.specs.Optimum.{IsOptimum}
 use Rattle.program_form.proofs.Duality.{optimum_reached}
-use Rattle.exchange_runs.specs.Table.{Table, variables, slack, objective}
+use Rattle.exchange_runs.specs.Table.{Table, slack, objective}
 use Rattle.exchange_runs.specs.Exchange.{IsLast}
 use Rattle.exchange_runs.specs.Readings.{dual_at}
 use Rattle.exchange_runs.proofs.Signs.{turned, same_natural}
-use Rattle.exchange_runs.proofs.Invariants.{exchanged, exchanged-here, exchanged-away}
 use Rattle.exchange_runs.proofs.Shown.{Shows, shows_at, shows_minus, shows_at_most_zero}
 use Rattle.exchange_runs.proofs.Shadows.{IsShadow, shadow_over}
-use Rattle.exchange_runs.proofs.FreeStates.{State, IsGood, Enters, Leaves, IsStep, apart, above_same}
 use Rattle.exchange_runs.proofs.FreeRuns.{FreeTrace, trace_of, are_fractions}
 use Rattle.exchange_runs.specs.Unbounded.{IsFraction}
-use Rattle.exchange_runs.proofs.OneEnd.{no_later_end}
+use Rattle.exchange_runs.proofs.OneEnd.{IsSameState, same_tables, no_later_end}
 use Rattle.exchange_runs.proofs.Best.{scale_of, dual_num, size_is, scaled_shown, shown_scaled, scaled_total, optimum_at, optimum_of}
 use Rattle.free_search.specs.Rounding.{IsUp}
 use Rattle.free_search.specs.Ends.{IsEndAfter, IsRoundedUp, IsRoundedDual, IsExactDual, HasGreatDual}
 use Rattle.free_search.specs.Ends.{IsFinestDual, IsFoundDual}
-
--- Are the denominators, numbers and bases the same?
-pub record IsSameState (p : ProgramDef) (s u : State) : Type 0 where
-  pub d : s.d ≡ u.d
-  pub z : (i v : ℕ) → s.z i v ≡ u.z i v
-  pub basic : (i : ℕ) → i < height p → s.basic i ≡ u.basic i
-
-pub not_both : (x y : ℤ) → x ≡ y → pos 0 <ℤ x → y ≤ℤ pos 0 → ⊥
-not_both x y e h k = omega (arith, ints)
-
-same_entering : (p : ProgramDef) (s u : State) (e f : ℕ) → IsSameState p s u → Enters p s e → Enters p u f → e ≡ f
-same_entering p s u e f same h k = elim (cases_lt e f) [
-  | inl earlier ↦ absurd (not_both _ _ (same.z (height p) e) h.above (k.least e earlier))
-  | inr back ↦ elim (cases_lt f e) [
-    | inl later ↦ absurd (not_both _ _ (sym (same.z (height p) f)) k.above (h.least f later))
-    | inr forth ↦ omega arith
-  ]
-]
-
-at_most_same : (a b c k x y u v : ℤ) → a ≡ x → b ≡ y → c ≡ u → k ≡ v → (x *ℤ y) ≤ℤ (u *ℤ v) → (a *ℤ b) ≤ℤ (c *ℤ k)
-at_most_same a b c k x y u v e f g h l = rw (e, f, g, h) l
-
--- Of two rows that leave, each ratio is no greater than the other; so both have the least basic variable.
-same_leaving : (p : ProgramDef) (s u : State) (e r q : ℕ) → IsGood p s → IsSameState p s u → Leaves p s e r → Leaves p u e q → r ≡ q
-same_leaving p s u e r q good same h k =
-    let w : ℕ = variables p in
-    let pivot_q : pos 0 <ℤ s.z q e = above_same _ _ (same.z q e) k.pivot in
-    let pivot_r : pos 0 <ℤ u.z r e = above_same _ _ (sym (same.z r e)) h.pivot in
-    let first : s.basic r ≤ s.basic q
-    = h.tie q k.within pivot_q (at_most_same _ _ _ _ _ _ _ _ (same.z q w) (same.z r e) (same.z r w) (same.z q e)
-    (k.ratio r h.within pivot_r)) in
-    let second : u.basic q ≤ u.basic r
-    = k.tie r h.within pivot_r (at_most_same _ _ _ _ _ _ _ _ (sym (same.z r w)) (sym (same.z q e)) (sym (same.z q w)) (sym (same.z r e))
-    (h.ratio q k.within pivot_q)) in
-    apart p s r q good h.within k.within (both _ _ _ _ first second (same.basic r h.within) (same.basic q k.within))
-  where
-    both : (a b c k : ℕ) → a ≤ b → c ≤ k → a ≡ k → b ≡ c → a ≡ b
-    both a b c k h l e f = omega arith
-
-same_exchanged : (p : ProgramDef) (s u : State) (e r i v : ℕ) → IsSameState p s u → exchanged r e s.d s.z i v ≡ exchanged r e u.d u.z i v
-same_exchanged p s u e r i v same = elim (cases_eq i r) [
-  | inl here ↦
-      subst (λ (k : ℕ). exchanged r e s.d s.z k v ≡ exchanged r e u.d u.z k v) (sym here)
-      (exchanged-here r e s.d s.z v ∙ (ap₂ ◌*ℤ◌ same.d (same.z r v) ∙ sym (exchanged-here r e u.d u.z v)))
-  | inr away ↦
-      exchanged-away r e s.d s.z i v away
-      ∙ (ap₂ ◌-ℤ◌ (ap₂ ◌*ℤ◌ (same.z r e) (same.z i v)) (ap₂ ◌*ℤ◌ (same.z i e) (same.z r v)) ∙ sym (exchanged-away r e u.d u.z i v away))
-]
-
-same_after : (p : ProgramDef) (s u a b : State) (e r : ℕ) → IsSameState p s u → IsStep p s e r a → IsStep p u e r b → IsSameState p a b
-same_after p s u a b e r same h k = record {
-  d = h.denominator ∙ (ap₂ ◌*ℤ◌ same.d (same.z r e) ∙ sym k.denominator);
-  z = λ i v. h.cells i v ∙ (same_exchanged p s u e r i v same ∙ sym (k.cells i v));
-  basic = λ i l. elim (cases_eq i r) [
-    | inl here ↦ ap a.basic here ∙ (h.entered ∙ (sym k.entered ∙ ap b.basic (sym here)))
-    | inr away ↦ h.stayed i l away ∙ (same.basic i l ∙ sym (k.stayed i l away))
-  ];
-}
-
-same_next : (p : ProgramDef) (s u a b : State) (e f r q : ℕ) → IsGood p s → IsSameState p s u → IsStep p s e r a → IsStep p u f q b
-    → IsSameState p a b
-same_next p s u a b e f r q good same h k =
-    let one_enters : f ≡ e = sym (same_entering p s u e f same h.enters k.enters) in
-    let enters_so : IsStep p u e q b = subst (λ (v : ℕ). IsStep p u v q b) one_enters k in
-    let one_leaves : q ≡ r = sym (same_leaving p s u e r q good same h.leaves enters_so.leaves) in
-    same_after p s u a b e r same h (subst (λ (v : ℕ). IsStep p u e v b) one_leaves enters_so)
-
--- Two runs agree as far as both go.
-pub same_tables : (p : ProgramDef) (k j i : ℕ) (t u : Table) (h : FreeTrace p k t) (g : FreeTrace p j u) → i ≤ k → i ≤ j
-    → IsSameState p (h.states i) (g.states i)
-same_tables p k j zero t u h g to_k to_j = record {
-  d = h.start_d ∙ sym g.start_d;
-  z = λ i v. h.start_z i v ∙ sym (g.start_z i v);
-  basic = λ i l. h.start_basic i l ∙ sym (g.start_basic i l);
-}
-same_tables p k j (suc i) t u h g to_k to_j =
-    same_next p (h.states i) (g.states i) (h.states (suc i)) (g.states (suc i)) (h.entering i) (g.entering i) (h.leaving i) (g.leaving i)
-    (h.trace.good i (omega arith)) (same_tables p k j i t u h g (omega arith) (omega arith)) (h.trace.step i (omega arith))
-    (g.trace.step i (omega arith))
 
 -- Are these the duals of the rows: x r over d for row r?
 pub record AreDualNumbers (p : ProgramDef) (t : Table) (d : ℕ) (x : ℕ → ℕ) : Type 0 where

@@ -8,3 +8,4 @@ mod points;
 mod sums;
 
 pub use points::is_worth;
+pub use sums::worth_sum;

@@ -35,12 +35,8 @@ pub(crate) fn row_sum(
     Ok(sum)
 }
 
-/// What the columns are worth at these numbers.
-pub(crate) fn worth_sum(
-    alloc: Global,
-    program: &SparseProgram,
-    num: &[Whole],
-) -> Result<Whole, AllocError>
+/// What the columns are worth at these numbers. It refuses for want of memory alone.
+pub fn worth_sum(alloc: Global, program: &SparseProgram, num: &[Whole]) -> Result<Whole, AllocError>
     requires numbers { length num.now ≡ columns program.now }
     ensures { IfOk result (λ w. w ≡ worth program.now (slice_index num.now)) }
 {

@@ -104,6 +104,19 @@ forget_fit f a bounds points (left, found, comes, same, rest) =
     } in
     (h.other.duals, (left, h.other, there, h.values ∙ same, refl))
 
+-- Rounds of refusals want more units only if an analysis does.
+pub forget_allowance : (f : SourceDef) (a : ℕ) → EndsIn (refuting f) a Allowance → EndsIn (rounds_of f) a Allowance
+forget_allowance f a (r, i, left, found, below, comes, run) =
+    let h = forget_round f r (a - comes.spent) i found comes.passed in
+    let there : ComesTo (rounds_of f) a r i left h.other = record {
+      rounds = comes.rounds;
+      spent = comes.spent;
+      reached = forget_way f a comes.rounds comes.spent r comes.reached;
+      passed = h.passed;
+      units = comes.units ∙ ap (λ (n : ℕ). a - comes.spent - n) (sym h.used);
+    } in
+    (r, i, left, h.other, below, there, run)
+
 -- Where a run of the rounds of refusals ends in a value, the point of its step is written.
 run_written : (f : SourceDef) (r : List ℕ) (i left u v u' v' : ℕ) (x d' : DualDef) → PointRuns f r i left (Valued u v x)
     → (run : TaskRuns f r i left (Valued u' v' d')) → slice_index r i < v' → (point : DualDef) × IsWritten run.ends.best point

@@ -34,9 +34,9 @@ impl From<AllocError> for Fault {
     }
 }
 
-/// The test that a step fails. Rows are counted from 0.
+/// The test that a step fails: see [`Fault`]. Rows are counted from 0.
 #[derive(Clone, Copy, Debug)]
-pub(crate) enum Part {
+pub enum Part {
     After,
     Task,
     Rising,

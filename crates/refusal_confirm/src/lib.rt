@@ -12,5 +12,6 @@ mod sums;
 mod walk;
 
 pub use confirming::{confirm, has_denominators};
-pub use fault::Fault;
+pub use fault::{Fault, Part};
 pub use laws::faults_are_exact;
+pub use points::fault_of_point;

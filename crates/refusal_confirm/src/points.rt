@@ -47,8 +47,8 @@ fn reaches_value<P: ProgramSource>(
     is_worth(program, &step.point, step.value.saturating_sub(unblocked))
 }
 
-/// The first test of the step's point that fails at these bounds.
-pub(crate) fn fault_of_point<P: ProgramSource>(
+/// The first test of the step's point that fails at these bounds. It refuses for want of memory alone.
+pub fn fault_of_point<P: ProgramSource>(
     alloc: Global,
     set: &TaskSet,
     protocol: &P,

@@ -22,7 +22,9 @@ pub use laws::{
     a_least_fitting_vector_exists, fitting_is_by_the_values_of_the_recurrence,
     no_requests_no_columns, the_rounds_have_one_ending, three_tasks_take_four_rounds,
 };
+pub use places::{Placed, in_places};
 pub use plan::{Kept, Planned, next_plan};
 pub use rounds::{Round, RoundStop, round_stop, take_run};
+pub use sharing::{Share, first_threads, is_in};
 pub use task_run::{Solution, TaskRun, run_task};
 pub use verdict::{Stop, Verdict};

@@ -21,7 +21,6 @@ use Rattle.exchange_runs.proofs.Best.{scale_of, value_z, point_of, scaled_shown,
 use Rattle.exchange_runs.proofs.Ends.{at_variable}
 use Rattle.exchange_runs.proofs.FreeRuns.{FreeTrace, trace_of, state_at}
 use Rattle.exchange_runs.proofs.FreeStates.{State}
-use Rattle.exchange_runs.proofs.OneEnd.{no_later_end}
 use Rattle.exchange_runs.proofs.Shadows.{IsShadow}
 use Rattle.exchange_runs.proofs.Shown.{shows_above, shows_at_most_zero}
 use Rattle.free_search.specs.Ends.{IsEndAfter, IsPointOf, NeedsMoreThan}
@@ -32,7 +31,7 @@ use Rattle.response_fixpoint.proofs.OneEnd.{HaveOneEnd, one_end}
 use Rattle.settling.specs.Walks.{IsRoundedPoint, Reads, HasGreatPoint, IsWalked, WalkRuns, walk}
 use Rattle.settling.specs.declared.finding.Points.{Points}
 use Rattle.settling.specs.declared.finding.Points.TheVariants.{Exact, Rounded}
-use Rattle.free_search.proofs.OneEnd.{IsSameState, not_both, same_tables}
+use Rattle.exchange_runs.proofs.OneEnd.{IsSameState, not_both, same_tables, no_later_end}
 use Rattle.settling.proofs.BitLaws.{EndsFit, EndsOnce}
 use Rattle.settling.proofs.FindingLaws.{EndsAtGreatest}
 
