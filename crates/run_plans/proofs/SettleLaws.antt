@@ -12,10 +12,13 @@ use Rattle.refusal_laws.specs.Steps.{StepDef}
 use Rattle.refusal_cert.specs.Refuting.{refuting}
 use Rattle.refusal_cert.specs.Steps.{refusal_of}
 use Rattle.refusal_cert.proofs.OneEnding.{refuting_once}
-use Rattle.settling.specs.Answers.{IsNotShown, IsLeftOpen}
+use Rattle.settling.specs.Answers.{IsNotShown, IsWideToAnalyse, IsLeftOpen, IsToRefuse, MayBeWide, MayWantMore}
+use Rattle.settling.specs.Walks.{walk}
+use Rattle.settling.specs.declared.finding.Points.TheVariants.{Exact}
+use Rattle.settling.proofs.AnswerLaws.{open_of, open_if_wide}
 use Rattle.named_laws.specs.Named.{source_of}
 use Rattle.command_inputs.specs.Known.{Answer}
-use Rattle.run_plans.specs.Settling.{AreStepsOfRounds, MayBeWide, MayWantMore, settled_answer, refused_answer, short_answer}
+use Rattle.run_plans.specs.Settling.{AreStepsOfRounds, settled_answer, refused_answer, short_answer}
 use Rattle.run_plans.specs.Settling.{IsSettlement, settlement_of, SettlingEnds}
 use Rattle.run_plans.specs.Commands.{ending_answer}
 use Rattle.run_plans.specs.Run.{IsWideEnding, IsAllowanceEnding}
@@ -31,7 +34,8 @@ plain_settlement p digest set n a (inr (inr (inl (i, here, left, is)))) = plain_
 plain_settlement p digest set n a (inr (inr (inr (short, is)))) = plain_is a 6 (ap (λ x. x.status) is) refl
 
 well_settlement : (p : ProtocolName) (digest : List ℕ) (set : SetDef) (n : ℕ) (a : Answer)
-    → (MayWantMore (source_of p set) n → ⊥) × ((i : ℕ) → MayBeWide (source_of p set) n i → ⊥) → IsSettlement p digest set n a → (a.status ≡ 0) ⊎ (a.status ≡ 1)
+    → (MayWantMore (source_of p set) n → ⊥) × ((i : ℕ) → MayBeWide (source_of p set) n i → ⊥) → IsSettlement p digest set n a
+    → (a.status ≡ 0) ⊎ (a.status ≡ 1)
 well_settlement p digest set n a enough (inl (c, settled, is)) = inl (ap (λ x. x.status) is)
 well_settlement p digest set n a enough (inr (inl (steps, refused, is))) = inr (ap (λ x. x.status) is)
 well_settlement p digest set n a enough (inr (inr (inl (i, here, left, is)))) = absurd (enough.1 i left)
@@ -44,15 +48,16 @@ open_ends f n (inr (late, (i, ends))) = (Wide i, inr (late, ends), (i, refl))
 
 short_ends : (f : SourceDef) (n : ℕ) → MayWantMore f n → (e : Ending) × (SettlingEnds f n e) × ((IsAllowanceEnding e) ⊎ IsWideEnding e)
 short_ends f n (inl ends) = (Allowance, inl ends, inl refl)
-short_ends f n (inr (inl (left, more))) = let w = open_ends f n left in (w.0, w.1, inr w.2)
-short_ends f n (inr (inr (late, ends))) = (Allowance, inr (late, ends), inl refl)
+short_ends f n (inr (inl ((i, wide), ends))) = (Wide i, inl wide, inr (i, refl))
+short_ends f n (inr (inr (to, ends))) = let w = open_ends f n (open_of f n to) in (w.0, w.1, inr w.2)
 
 pub wide_settlement : (p : ProtocolName) (digest : List ℕ) (set : SetDef) (n : ℕ) (a : Answer) → IsSettlement p digest set n a
     → a.status ≡ 5 → (e : Ending) × (SettlingEnds (source_of p set) n e) × IsWideEnding e
 wide_settlement p digest set n a (inl (c, settled, is)) five = (let s : a.status ≡ 0 = ap (λ x. x.status) is in absurd (omega (arith, s, five)))
 wide_settlement p digest set n a (inr (inl (steps, refused, is))) five =
     (let s : a.status ≡ 1 = ap (λ x. x.status) is in absurd (omega (arith, s, five)))
-wide_settlement p digest set n a (inr (inr (inl (i, here, left, is)))) five = open_ends (source_of p set) n left.left
+wide_settlement p digest set n a (inr (inr (inl (i, here, left, is)))) five =
+    open_ends (source_of p set) n (open_if_wide (source_of p set) n i left)
 wide_settlement p digest set n a (inr (inr (inr (short, is)))) five =
     (let s : a.status ≡ 6 = ap (λ x. x.status) is in absurd (omega (arith, s, five)))
 
@@ -91,27 +96,28 @@ IsClosed p digest set n a =
 
 close_certified : (p : ProtocolName) (digest : List ℕ) (set : SetDef) (n : ℕ) (c : CertificateDef) (a : Answer)
     → (IsLeftOpen (source_of p set) n → ⊥) → a ≡ settled_answer p digest c
-    → (EndsIn (rounds_of (source_of p set)) n (Schedulable c.bounds c.duals)) ⊎ ((i : ℕ) × EndsIn (rounds_of (source_of p set)) n (Wide i))
-    → IsClosed p digest set n a
+    → (EndsIn (rounds_of (source_of p set)) n (Schedulable c.bounds c.duals)) ⊎ ((IsWideToAnalyse (source_of p set) n)
+    × EndsIn (walk Exact (source_of p set)) n (Schedulable c.bounds c.duals)) → IsClosed p digest set n a
 close_certified p digest set n c a closed is (inl ends) = inl (Schedulable c.bounds c.duals, ends, tt, is)
-close_certified p digest set n c a closed is (inr wide) = absurd (closed (inl wide))
+close_certified p digest set n c a closed is (inr (wide, ends)) = absurd (closed (inl wide))
 
 close_refused : (p : ProtocolName) (digest : List ℕ) (set : SetDef) (n : ℕ) (steps : List StepDef) (a : Answer)
     → (IsLeftOpen (source_of p set) n → ⊥) → a ≡ refused_answer p digest steps
-    → ((IsNotShown (source_of p set) n) × AreStepsOfRounds (source_of p set) n steps) ⊎ IsLeftOpen (source_of p set) n
+    → ((IsNotShown (source_of p set) n) × AreStepsOfRounds (source_of p set) n steps) ⊎ IsToRefuse (source_of p set) n
     → IsClosed p digest set n a
 close_refused p digest set n steps a closed is (inl (late, (i, v, ends, same))) =
     inr (late, (NotShown i v, ends, is ∙ ap (refused_answer p digest) same))
-close_refused p digest set n steps a closed is (inr left) = absurd (closed left)
+close_refused p digest set n steps a closed is (inr to) = absurd (closed (open_of (source_of p set) n to))
 
 close : (p : ProtocolName) (digest : List ℕ) (set : SetDef) (n : ℕ) (a : Answer) → (IsLeftOpen (source_of p set) n → ⊥)
     → IsSettlement p digest set n a → IsClosed p digest set n a
 close p digest set n a closed (inl (c, settled, is)) = close_certified p digest set n c a closed is settled.from
 close p digest set n a closed (inr (inl (steps, refused, is))) = close_refused p digest set n steps a closed is refused.from
-close p digest set n a closed (inr (inr (inl (i, here, left, is)))) = absurd (closed left.left)
+close p digest set n a closed (inr (inr (inl (i, here, left, is)))) =
+    absurd (closed (open_if_wide (source_of p set) n i left))
 close p digest set n a closed (inr (inr (inr (inl ends, is)))) = inl (Allowance, ends, tt, is)
-close p digest set n a closed (inr (inr (inr (inr (inl (left, more)), is)))) = absurd (closed left)
-close p digest set n a closed (inr (inr (inr (inr (inr (late, ends)), is)))) = inr (late, (Allowance, ends, is))
+close p digest set n a closed (inr (inr (inr (inr (inl (wide, ends)), is)))) = absurd (closed (inl wide))
+close p digest set n a closed (inr (inr (inr (inr (inr (to, ends)), is)))) = absurd (closed (open_of (source_of p set) n to))
 
 one_closed : (p : ProtocolName) (digest : List ℕ) (set : SetDef) (n : ℕ) (a b : Answer) → IsClosed p digest set n a
     → IsClosed p digest set n b → a ≡ b

@@ -1,4 +1,4 @@
--- What the statuses 0, 1 and 5 of `settle` say, whatever is known of the inputs.
+-- What the statuses 0, 1, 5 and 6 of `settle` say, whatever is known of the inputs.
 use Rattle.std.proofs.Common.{◌≡◌, ◌≢◌, ◌⊎◌, ℕ, ◌<◌, ◌↔◌, List, length, refl, ◌∙◌, ap, subst, arith, inl, inr}
 use Rattle.std.specs.Prelude.{Some, None}
 use Rattle.std.specs.Option.{option_map}
@@ -19,8 +19,8 @@ use Rattle.named_laws.proofs.EachName.{named_sound}
 use Rattle.named_laws.proofs.Refusals.{named_none_fits}
 use Rattle.reply_texts.specs.Texts.{wide_text, allowance_text}
 use Rattle.settling.specs.Rising.{IsProvedLeast}
-use Rattle.settling.specs.Walks.{IsUnrefuted}
-use Rattle.settling.specs.Ways.{NothingFits, NeedsMoreBits, NoneNeedsMore}
+use Rattle.settling.specs.Answers.{MayBeWide, MayWantMore}
+use Rattle.settling.specs.Ways.{NoneNeedsMore}
 use Rattle.command_words.specs.Words.{Settle, form_of}
 use Rattle.command_words.specs.Spelled.{settle_words, allowance_of}
 use Rattle.command_words.proofs.SpelledLaws.{settle_is_form, form_of_settle}
@@ -29,7 +29,7 @@ use Rattle.command_inputs.specs.Inputs.{set_input}
 use Rattle.run_plans.specs.Plans.{Working, IsOutcomeOf}
 use Rattle.run_plans.specs.Commands.{plan_of}
 use Rattle.run_plans.specs.Outcome.{IsOutcome}
-use Rattle.run_plans.specs.Settling.{IsRefusedBy, MayWantMore, IsSettlement, settlement_of}
+use Rattle.run_plans.specs.Settling.{IsRefusedBy, IsSettlement, settlement_of}
 use Rattle.run_plans.specs.Headline.{Call}
 use Rattle.run_plans.specs.Refused.{IsProvedRefutation}
 use Rattle.run_plans.specs.Settled.{WritesLeast, IsProvedSettlement, IsLeftWide, IsLeftShort, Settles}
@@ -83,7 +83,7 @@ pub record WideWith (p : ProtocolName) (set : SetDef) (n : ℕ) (a : Answer) : T
   pub task : ℕ
   pub within : task < length set.tasks
   pub text : a.text ≡ wide_text (task_at set task).name
-  pub cause : ((NothingFits (source_of p set)) × IsUnrefuted (source_of p set) n) ⊎ NeedsMoreBits (source_of p set) task
+  pub cause : MayBeWide (source_of p set) n task
 
 wide_at_five : (p : ProtocolName) (digest : List ℕ) (set : SetDef) (n : ℕ) (a : Answer) → IsSettlement p digest set n a → a.status ≡ 5
     → WideWith p set n a
@@ -92,7 +92,7 @@ wide_at_five p digest set n a (inl (c, settled, is)) five =
 wide_at_five p digest set n a (inr (inl (steps, refused, is))) five =
     (let s : a.status ≡ 1 = ap (λ x. x.status) is in absurd (omega (arith, s, five)))
 wide_at_five p digest set n a (inr (inr (inl (i, here, left, is)))) five =
-    record { task = i; within = here; text = ap (λ x. x.text) is; cause = left.cause }
+    record { task = i; within = here; text = ap (λ x. x.text) is; cause = left }
 wide_at_five p digest set n a (inr (inr (inr (short, is)))) five =
     (let s : a.status ≡ 6 = ap (λ x. x.status) is in absurd (omega (arith, s, five)))
 

@@ -11,7 +11,7 @@ use Rattle.refusal_cert.specs.Answers.{Refutes}
 use Rattle.refusal_cert.specs.declared.answer.Answer.TheVariants as refutation
 use Rattle.refusal_json.specs.Ranges.{IsWritableStep, IsWritable}
 use Rattle.named_laws.specs.Named.{source_of}
-use Rattle.settling.specs.Answers.{IsAnswerFor, IsNotShown, IsLeftOpen, IsSmallStep, HasSmallSteps}
+use Rattle.settling.specs.Answers.{IsAnswerFor, IsNotShown, IsToRefuse, IsSmallStep, HasSmallSteps}
 use Rattle.settling.specs.Trails.{HasSmallPoints}
 use Rattle.settling.specs.declared.answer.Settled.{Settled}
 use Rattle.settling.specs.declared.answer.Settled.TheVariants as settled
@@ -38,10 +38,10 @@ steps_writable steps small = λ k d here. step_writable (slice_index_or steps k 
 
 refused_from : (p : ProtocolName) (set : SetDef) (n : ℕ) (refusal : Refusal)
     → ((IsNotShown (source_of p set) n) × Refutes (Ok (refutation.Refused refusal)) (source_of p set) n)
-    ⊎ ((IsLeftOpen (source_of p set) n) × HasSmallPoints (steps_seen refusal))
-    → ((IsNotShown (source_of p set) n) × AreStepsOfRounds (source_of p set) n (steps_seen refusal)) ⊎ IsLeftOpen (source_of p set) n
+    ⊎ ((IsToRefuse (source_of p set) n) × HasSmallPoints (steps_seen refusal))
+    → ((IsNotShown (source_of p set) n) × AreStepsOfRounds (source_of p set) n (steps_seen refusal)) ⊎ IsToRefuse (source_of p set) n
 refused_from p set n refusal (inl (late, rounds)) = inl (late, rounds)
-refused_from p set n refusal (inr (left, small)) = inr left
+refused_from p set n refusal (inr (to, small)) = inr to
 
 pub settlement_of_answer : (p : ProtocolName) (digest : List ℕ) (set : SetDef) (n : ℕ) (r : Result Settled SettleStop) (a : Answer)
     → IsAnswerFor (source_of p set) n r → RepliesToSettling p digest set r a → IsSettlement p digest set n a
@@ -57,6 +57,6 @@ settlement_of_answer p digest set n (Ok (settled.Refused refusal)) a answers is 
   is,
 ))
 settlement_of_answer p digest set n (Err (stop.Wide task)) a answers is =
-    inr (inr (inl (task.0, answers.names, record { left = answers.settles; cause = answers.wide }, is)))
+    inr (inr (inl (task.0, answers.names, answers.settles, is)))
 settlement_of_answer p digest set n (Err stop.Allowance) a answers is = inr (inr (inr (answers.settles, is)))
 settlement_of_answer p digest set n (Err stop.Memory) a answers is = absurd is

@@ -9,8 +9,8 @@ use Rattle.program_form.specs.Certificate.{CertificateDef}
 use Rattle.program_sources.specs.Fitting.{AreFitting, AreLeastFitting}
 use Rattle.program_sources.specs.Valid.{IsValid}
 use Rattle.soundness_laws.specs.Analyses.{AreValues}
-use Rattle.settling.specs.Walks.{IsUnrefuted}
-use Rattle.settling.specs.Ways.{NothingFits, NeedsMoreBits, NoneNeedsMore}
+use Rattle.settling.specs.Answers.{MayBeWide, MayWantMore}
+use Rattle.settling.specs.Ways.{NoneNeedsMore}
 use Rattle.sporadic_model.specs.SetDef.{SetDef, task_at}
 use Rattle.protocol_names.specs.Names.{word_of}
 use Rattle.protocol_names.specs.declared.ProtocolName.{ProtocolName}
@@ -20,7 +20,6 @@ use Rattle.reply_texts.specs.Texts.{wide_text, allowance_text}
 use Rattle.command_words.specs.Spelled.{settle_words, allowance_of}
 use Rattle.run_plans.specs.Headline.{Call, Asks, HasInputs, RanOut, ReadsSome}
 use Rattle.run_plans.specs.Refused.{IsProvedRefutation}
-use Rattle.run_plans.specs.Settling.{MayWantMore}
 
 -- The call writes the text of a valid certificate for the set of this digest. Its bounds are the least within all deadlines that satisfy
 -- the recurrence. They are sound with the values of its duals: every lawful schedule keeps them.
@@ -63,9 +62,10 @@ SettlesExactly call protocol digest set = (Rose call.shelf_before.faults call.sh
     → (Rose call.sink_before.faults call.sink_now.faults → ⊥) → (RanOut call → ⊥) → call.status ≢ 5 → call.status ≢ 6
     → WritesLeast call protocol digest set ↔ ((s : List ℕ) × AreFitting (source_of protocol set) s)
 
--- What status 5 says. The call names a task of the set that the shelf gave. Either the task's program needs more than 63 bits: at some
--- vector of the recurrence's rounds its run's end is too great to be written, or its dual at the least bounds, as it is written, loses the
--- whole part of the optimum. Or no bounds within all deadlines satisfy the recurrence, and the walk with rounded points passes no deadline.
+-- What status 5 says. The call names a task of the set that the shelf gave. Either the analysis is wide, and the task's program needs more
+-- than 63 bits: at some vector of the recurrence's rounds its run's end is too great to be written, or its dual at the least bounds, as it is
+-- written, loses the whole part of the optimum. Or no bounds within all deadlines satisfy the recurrence, and the walk with rounded points
+-- passes no deadline.
 pub record IsLeftWide (call : Call) (protocol : ProtocolName) (name : List ℕ) (more : List (List ℕ)) : Type 0 where
   pub set : SetDef
   pub read : ReadsSome call protocol name set
@@ -76,10 +76,9 @@ pub record IsLeftWide (call : Call) (protocol : ProtocolName) (name : List ℕ) 
   pub task : ℕ
   pub within : task < length set.tasks
   pub text : Appends call.sink_before.written call.sink_now.written (wide_text (task_at set task).name)
-  pub cause : ((NothingFits (source_of protocol set)) × IsUnrefuted (source_of protocol set) allowance)
-      ⊎ NeedsMoreBits (source_of protocol set) task
+  pub cause : MayBeWide (source_of protocol set) allowance task
 
--- What status 6 says. The analysis wants more units than the allowance of the words, or the rounds of refusals do, or a walk.
+-- What status 6 says. The analysis, or a walk that is made behind it, wants more units than the allowance of the words.
 pub record IsLeftShort (call : Call) (protocol : ProtocolName) (name : List ℕ) (more : List (List ℕ)) : Type 0 where
   pub set : SetDef
   pub read : ReadsSome call protocol name set

@@ -5,15 +5,16 @@ use Rattle.program_sources.specs.Recurrence.{SourceDef}
 use Rattle.sporadic_model.specs.SetDef.{SetDef, task_at}
 use Rattle.protocol_names.specs.Names.{word_of}
 use Rattle.protocol_names.specs.declared.ProtocolName.{ProtocolName}
-use Rattle.response_fixpoint.specs.Rounds.{Ending, Schedulable, NotShown, Wide, Allowance, EndsIn}
+use Rattle.response_fixpoint.specs.Rounds.{Ending, Schedulable, NotShown, EndsIn}
 use Rattle.response_fixpoint.specs.Runs.{rounds_of}
 use Rattle.refusal_laws.specs.Steps.{StepDef, Holds}
 use Rattle.refusal_cert.specs.Refuting.{refuting}
 use Rattle.refusal_cert.specs.Steps.{refusal_of}
 use Rattle.settling.specs.Rising.{IsProvedLeast}
-use Rattle.settling.specs.Answers.{IsNotShown, IsLeftOpen}
-use Rattle.settling.specs.Walks.{WantsMore, IsUnrefuted}
-use Rattle.settling.specs.Ways.{NothingFits, NeedsMoreBits, NoneNeedsMore}
+use Rattle.settling.specs.Answers.{IsNotShown, IsWideToAnalyse, IsLeftOpen, IsToRefuse, MayBeWide, MayWantMore}
+use Rattle.settling.specs.Walks.{walk}
+use Rattle.settling.specs.Ways.{NoneNeedsMore}
+use Rattle.settling.specs.declared.finding.Points.TheVariants.{Exact}
 use Rattle.cert_json.specs.Text.{certificate_text}
 use Rattle.refusal_json.specs.Ranges.{IsWritable}
 use Rattle.refusal_json.specs.Text.{refusal_text}
@@ -23,11 +24,12 @@ use Rattle.command_inputs.specs.Known.{Answer}
 use Rattle.run_plans.specs.Plans.{Work}
 
 -- Does the certificate settle the set? Its bounds are the least that fit, and it is valid. No task needs more than 63 bits. It is that of
--- the analysis, unless the analysis is wide.
+-- the analysis, or, if the analysis is wide, of the walk with exact points.
 pub record IsSettledBy (f : SourceDef) (allowance : ℕ) (c : CertificateDef) : Type 0 where
   pub proved : IsProvedLeast f c
   pub enough : NoneNeedsMore f
-  pub from : EndsIn (rounds_of f) allowance (Schedulable c.bounds c.duals) ⊎ ((i : ℕ) × EndsIn (rounds_of f) allowance (Wide i))
+  pub from : EndsIn (rounds_of f) allowance (Schedulable c.bounds c.duals)
+      ⊎ ((IsWideToAnalyse f allowance) × EndsIn (walk Exact f) allowance (Schedulable c.bounds c.duals))
 
 -- Are these the steps of the rounds of refusals?
 abbrev pub AreStepsOfRounds : SourceDef → ℕ → List StepDef → Type 0
@@ -35,23 +37,11 @@ AreStepsOfRounds f allowance steps = (i : ℕ) × (value : ℕ) × (ends : EndsI
     × (steps ≡ refusal_of (refuting f) allowance (NotShown i value) ends)
 
 -- Does the refusal settle the set? It holds, and can be written. Its steps are those of the rounds of refusals, and the analysis doesn't
--- show the set. Or the rounds leave the set open.
+-- show the set. Or it is left to a walk to refuse it.
 pub record IsRefusedBy (f : SourceDef) (allowance : ℕ) (steps : List StepDef) : Type 0 where
   pub holds : Holds f steps
   pub writable : IsWritable steps
-  pub from : ((IsNotShown f allowance) × AreStepsOfRounds f allowance steps) ⊎ IsLeftOpen f allowance
-
--- May the set be left unsettled at task i? The rounds leave it open. And the task's program needs more than 63 bits. Or nothing fits, and
--- the walk with rounded points passes no latest bound.
-pub record MayBeWide (f : SourceDef) (allowance i : ℕ) : Type 0 where
-  pub left : IsLeftOpen f allowance
-  pub cause : ((NothingFits f) × IsUnrefuted f allowance) ⊎ NeedsMoreBits f i
-
--- May so many units be too few? The analysis wants more, or the rounds of refusals do, for a set that it doesn't show. Or the rounds leave
--- the set open, and a walk wants more.
-abbrev pub MayWantMore : SourceDef → ℕ → Type 0
-MayWantMore f allowance = (EndsIn (rounds_of f) allowance Allowance)
-    ⊎ (((IsLeftOpen f allowance) × WantsMore f allowance) ⊎ ((IsNotShown f allowance) × EndsIn (refuting f) allowance Allowance))
+  pub from : ((IsNotShown f allowance) × AreStepsOfRounds f allowance steps) ⊎ IsToRefuse f allowance
 
 -- What goes out with a certificate, and with a refusal, of a set whose bytes have this digest.
 abbrev pub settled_answer : ProtocolName → List ℕ → CertificateDef → Answer

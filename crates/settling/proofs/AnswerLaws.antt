@@ -4,15 +4,17 @@ use Rattle.std.specs.Prelude.{◌↔◌, Bool, Result}
 use Rattle.program_form.specs.Certificate.{CertificateDef, dual_seen, certificate_seen}
 use Rattle.program_sources.specs.Recurrence.{SourceDef}
 use Rattle.program_sources.specs.Fitting.{AreFitting, AreLeastFitting, tasks_of}
-use Rattle.response_fixpoint.specs.Answers.{Answers, IsBest}
+use Rattle.response_fixpoint.specs.Answers.{Answers, IsBest, IsRight as IsRightVerdict}
 use Rattle.response_fixpoint.specs.Rounds.{Ending, Schedulable, NotShown, Wide, Allowance, EndsIn}
 use Rattle.response_fixpoint.specs.Runs.{rounds_of}
 use Rattle.refusal_cert.specs.Refuting.{refuting}
+use Rattle.refusal_cert.proofs.Analyses.{forget_allowance}
 use Rattle.refusal_cert.specs.Answers.{Refutes, IsRight as IsRightRefutation}
 use Rattle.refusal_cert.specs.declared.answer.Answer.{Answer}
 use Rattle.refusal_cert.specs.declared.answer.Answer.TheVariants as refutation
 use Rattle.refusal_cert.specs.declared.answer.RefuteStop.{RefuteStop}
 use Rattle.refusal_cert.specs.declared.answer.RefuteStop.TheVariants as refute_stop
+use Rattle.refusal_laws.specs.Seen.{steps_seen}
 use Rattle.refusal_laws.specs.declared.refusal.Refusal.{Refusal}
 use Rattle.response_fixpoint.specs.declared.verdict.Verdict.{Verdict}
 use Rattle.response_fixpoint.specs.declared.verdict.Verdict.TheVariants as verdict
@@ -24,11 +26,11 @@ use Rattle.schedule_model.specs.RowDef.{Trace}
 use Rattle.schedule_model.specs.declared.rule.Rule.{Rule}
 use Rattle.soundness_laws.specs.Sound.{Sound}
 use Rattle.soundness_laws.specs.Analyses.{AreValues}
-use Rattle.settling.specs.Answers.{Settles, IsRight, IsSchedulable, Keeps, AnswersSo, GivesWide, GivesRefusal, IsNotShown, IsLeftOpen}
-use Rattle.settling.specs.Answers.{RefusesSo, IsRefusedSo, IsSound, IsWideOnlySo, HasEnough, StopsWithin}
-use Rattle.settling.specs.Rising.{StopsLost, StopsWalk}
-use Rattle.settling.specs.Walks.{walk}
-use Rattle.settling.specs.Ways.{LosesWhole, NothingFits, NeedsMoreBits}
+use Rattle.settling.specs.Answers.{Settles, IsRight, IsSchedulable, Keeps, IsNotShown, IsLeftOpen, IsWideToAnalyse, IsToRefuse}
+use Rattle.settling.specs.Answers.{Has64Bits, IsAnswered, IsRefusedSo, IsSound, MayBeWide, RefusesIn64Bits}
+use Rattle.settling.specs.Rising.{IsProvedLeast, StopsLost, StopsWalk}
+use Rattle.settling.specs.Walks.{walk, IsUnrefuted}
+use Rattle.settling.specs.Ways.{LosesWhole, NeedsMoreBits, NoneNeedsMore}
 use Rattle.settling.specs.declared.finding.Points.{Points}
 use Rattle.settling.specs.declared.finding.Points.TheVariants.{Exact, Rounded}
 use Rattle.settling.specs.declared.answer.Settled.{Settled}
@@ -46,19 +48,30 @@ left_open : (f : SourceDef) (allowance : ℕ) → HasOneEnding f allowance → I
 left_open f allowance one (inl (i, wide)) e ends = inr (i, one e (Wide i) ends wide)
 left_open f allowance one (inr ((i, value, late), left)) e ends = inl (i, value, one e (NotShown i value) ends late)
 
+-- If it is left to a walk to refuse a set, the rounds leave the set open.
+pub open_of : (f : SourceDef) (allowance : ℕ) → IsToRefuse f allowance → IsLeftOpen f allowance
+open_of f allowance to = elim to.left [
+  | inl (wide, late) ↦ inl wide
+  | inr left ↦ inr left
+]
+
+pub open_if_wide : (f : SourceDef) (allowance i : ℕ) → MayBeWide f allowance i → IsLeftOpen f allowance
+open_if_wide f allowance i (inl (wide, needs)) = inl wide
+open_if_wide f allowance i (inr (to, unrefuted)) = open_of f allowance to
+
 pub keeps_of : (f : SourceDef) (allowance : ℕ) (r : Result Settled SettleStop) → HasOneEnding f allowance → Settles r f allowance
     → (e : Ending) → EndsIn (rounds_of f) allowance e → Keeps r e
 keeps_of f allowance (Ok (settled.Schedulable certificate)) one (inl own) e ends =
     inl (one e (Schedulable certificate.bounds.items (map dual_seen certificate.duals.items)) ends own)
-keeps_of f allowance (Ok (settled.Schedulable certificate)) one (inr (i, wide)) e ends = inr (i, one e (Wide i) ends wide)
+keeps_of f allowance (Ok (settled.Schedulable certificate)) one (inr ((i, wide), walked)) e ends = inr (i, one e (Wide i) ends wide)
 keeps_of f allowance (Ok (settled.Refused refusal)) one (inl ((i, value, late), refutes)) e ends =
     inl (i, value, one e (NotShown i value) ends late)
-keeps_of f allowance (Ok (settled.Refused refusal)) one (inr (left, small)) e ends = left_open f allowance one left e ends
-keeps_of f allowance (Err (stop.Wide task)) one left e ends = left_open f allowance one left e ends
+keeps_of f allowance (Ok (settled.Refused refusal)) one (inr (to, small)) e ends = left_open f allowance one (open_of f allowance to) e ends
+keeps_of f allowance (Err (stop.Wide task)) one may e ends = left_open f allowance one (open_if_wide f allowance task.0 may) e ends
 keeps_of f allowance (Err stop.Allowance) one (inl own) e ends = inl (one e Allowance ends own)
-keeps_of f allowance (Err stop.Allowance) one (inr (inl (left, more))) e ends = inr (left_open f allowance one left e ends)
-keeps_of f allowance (Err stop.Allowance) one (inr (inr ((i, value, late), short))) e ends =
-    inr (inl (i, value, one e (NotShown i value) ends late))
+keeps_of f allowance (Err stop.Allowance) one (inr (inl ((i, wide), walked))) e ends = inr (inr (i, one e (Wide i) ends wide))
+keeps_of f allowance (Err stop.Allowance) one (inr (inr (to, walked))) e ends =
+    inr (left_open f allowance one (open_of f allowance to) e ends)
 keeps_of f allowance (Err stop.Memory) one settles e ends = tt
 
 -- Each verdict comes if it is right, and only then.
@@ -68,73 +81,95 @@ exactly_of f (Ok (settled.Schedulable certificate)) right = ((λ _. (certificate
 exactly_of f (Ok (settled.Refused refusal)) right = ((λ h. absurd h), λ h. absurd (right.1 h.0 h.1))
 exactly_of f (Err e) right = tt
 
--- The answer if the analysis gives a certificate, if it is wide, and if it doesn't show the set.
+walk_within : (points : Points) (f : SourceDef) (allowance i : ℕ) → EndsIn (walk points f) allowance (Wide i) → i < tasks_of f
+walk_within points f allowance i (r, left, found, here, comes, run) = here
+
+-- The answer if the analysis gives a certificate, and if it or memory runs out.
 pub answers_best : (f : SourceDef) (allowance : ℕ) (c : Certificate)
     → EndsIn (rounds_of f) allowance (Schedulable c.bounds.items (map dual_seen c.duals.items)) → IsBest f (certificate_seen c)
-    → AnswersSo (Ok (settled.Schedulable c)) f allowance
-answers_best f allowance c ends best = (inl ends, record { least = best.least; valid = best.valid; small = best.small })
+    → NoneNeedsMore f → IsAnswered f allowance (Ok (settled.Schedulable c))
+answers_best f allowance c ends best enough = record {
+  settles = inl ends;
+  right = record { least = best.least; valid = best.valid; small = best.small };
+  enough = enough;
+  names = tt;
+  bits = tt;
+}
 
-pub answers_wide : (f : SourceDef) (allowance i : ℕ) (r : Result Settled SettleStop) → EndsIn (rounds_of f) allowance (Wide i)
-    → GivesWide r f allowance → AnswersSo r f allowance
-answers_wide f allowance i (Ok (settled.Schedulable certificate)) wide gives = (inr (i, wide), gives)
-answers_wide f allowance i (Ok (settled.Refused refusal)) wide gives = (inr (inl (i, wide), gives.1), gives.0)
-answers_wide f allowance i (Err (stop.Wide task)) wide gives = (inl (i, wide), tt)
-answers_wide f allowance i (Err stop.Allowance) wide gives = (inr (inl (inl (i, wide), gives)), tt)
-answers_wide f allowance i (Err stop.Memory) wide gives = (tt, tt)
+pub answers_short : (f : SourceDef) (allowance : ℕ) → EndsIn (rounds_of f) allowance Allowance → IsAnswered f allowance (Err stop.Allowance)
+answers_short f allowance ends = record { settles = inl ends; right = tt; enough = tt; names = tt; bits = tt }
 
-pub answers_refusal : (f : SourceDef) (allowance : ℕ) (r : Result Settled SettleStop) → IsNotShown f allowance
-    → GivesRefusal r f allowance → AnswersSo r f allowance
-answers_refusal f allowance (Ok (settled.Schedulable certificate)) late gives = absurd gives
-answers_refusal f allowance (Ok (settled.Refused refusal)) late (right, inl refutes) = (inl (late, refutes), right)
-answers_refusal f allowance (Ok (settled.Refused refusal)) late (right, inr (wide, small)) =
-    (inr (inr (late, wide), small), right)
-answers_refusal f allowance (Err (stop.Wide task)) late gives = (inr (late, gives), tt)
-answers_refusal f allowance (Err stop.Allowance) late (inl (wide, more)) = (inr (inl (inr (late, wide), more)), tt)
-answers_refusal f allowance (Err stop.Allowance) late (inr short) = (inr (inr (late, short)), tt)
-answers_refusal f allowance (Err stop.Memory) late gives = (tt, tt)
+pub answers_nothing : (f : SourceDef) (allowance : ℕ) → IsAnswered f allowance (Err stop.Memory)
+answers_nothing f allowance = record { settles = tt; right = tt; enough = tt; names = tt; bits = tt }
 
--- What a walk with rounded points gives if nothing fits, for a wide analysis and for wide rounds of refusals.
-pub wide_of : (f : SourceDef) (allowance : ℕ) (r : Result Settled SettleStop) → NothingFits f → RefusesSo r f allowance
-    → GivesWide r f allowance
-wide_of f allowance (Ok (settled.Schedulable certificate)) nothing gives = absurd gives
-wide_of f allowance (Ok (settled.Refused refusal)) nothing gives = gives
-wide_of f allowance (Err (stop.Wide task)) nothing gives = tt
-wide_of f allowance (Err stop.Allowance) nothing gives = inr (nothing, gives)
-wide_of f allowance (Err stop.Memory) nothing gives = tt
+-- The answer of rounds of refusals that aren't wide.
+pub answers_refutation : (f : SourceDef) (allowance : ℕ) (refusal : Refusal) → IsNotShown f allowance
+    → Refutes (Ok (refutation.Refused refusal)) f allowance → IsRight (settled.Refused refusal) f → Has64Bits (steps_seen refusal)
+    → IsAnswered f allowance (Ok (settled.Refused refusal))
+answers_refutation f allowance refusal late refutes right bits =
+    record { settles = inl (late, refutes); right = right; enough = tt; names = tt; bits = bits }
 
-pub refusal_of_steps : (f : SourceDef) (allowance i : ℕ) (r : Result Settled SettleStop) → EndsIn (refuting f) allowance (Wide i)
-    → NothingFits f → RefusesSo r f allowance → GivesRefusal r f allowance
-refusal_of_steps f allowance i (Ok (settled.Schedulable certificate)) wide nothing gives = absurd gives
-refusal_of_steps f allowance i (Ok (settled.Refused refusal)) wide nothing gives = (gives.0, inr ((i, wide), gives.1))
-refusal_of_steps f allowance i (Err (stop.Wide task)) wide nothing gives = (i, wide)
-refusal_of_steps f allowance i (Err stop.Allowance) wide nothing gives = inl ((i, wide), inr (nothing, gives))
-refusal_of_steps f allowance i (Err stop.Memory) wide nothing gives = tt
+-- The answers of a walk with exact points: a certificate, or why it stops, or why there is no certificate.
+pub answers_walked : (f : SourceDef) (allowance : ℕ) (c : Certificate) → IsWideToAnalyse f allowance
+    → EndsIn (walk Exact f) allowance (Schedulable c.bounds.items (map dual_seen c.duals.items))
+    → IsProvedLeast f (certificate_seen c) → NoneNeedsMore f → IsAnswered f allowance (Ok (settled.Schedulable c))
+answers_walked f allowance c wide ends proved enough =
+    record { settles = inr (wide, ends); right = proved; enough = enough; names = tt; bits = tt }
 
-pub only_if_nothing : (f : SourceDef) (allowance : ℕ) (r : Result Settled SettleStop) → NothingFits f → RefusesSo r f allowance
-    → IsWideOnlySo r f allowance
-only_if_nothing f allowance (Ok settled) nothing gives = tt
-only_if_nothing f allowance (Err (stop.Wide task)) nothing gives = inl (nothing, gives)
-only_if_nothing f allowance (Err stop.Allowance) nothing gives = tt
-only_if_nothing f allowance (Err stop.Memory) nothing gives = tt
+abbrev pub NeedsMoreIfWide : SourceDef → ℕ → Type 0
+NeedsMoreIfWide f allowance = (i : ℕ) → EndsIn (walk Exact f) allowance (Wide i) → NeedsMoreBits f i
 
-pub refused_enough : (f : SourceDef) (allowance : ℕ) (r : Result Settled SettleStop) → RefusesSo r f allowance
-    → IfOk r (λ s. HasEnough f s)
-refused_enough f allowance (Ok (settled.Schedulable certificate)) gives = absurd gives
-refused_enough f allowance (Ok (settled.Refused refusal)) gives = tt
-refused_enough f allowance (Err e) gives = tt
+pub answers_stop : (f : SourceDef) (allowance : ℕ) (e : SettleStop) → IsWideToAnalyse f allowance → NeedsMoreIfWide f allowance
+    → StopsWalk Exact f allowance e → IsAnswered f allowance (Err e)
+answers_stop f allowance (stop.Wide task) wide needs ends = record {
+  settles = inl (wide, needs task.0 ends);
+  right = tt;
+  enough = tt;
+  names = walk_within Exact f allowance task.0 ends;
+  bits = tt;
+}
+answers_stop f allowance stop.Allowance wide needs ends =
+    record { settles = inr (inl (wide, ends)); right = tt; enough = tt; names = tt; bits = tt }
+answers_stop f allowance stop.Memory wide needs ends = answers_nothing f allowance
 
--- What a refusal gives.
-pub refused_gives : (f : SourceDef) (allowance : ℕ) (s : Settled) → IsRefusedSo f s → GivesWide (Ok s) f allowance
-refused_gives f allowance (settled.Schedulable certificate) is = absurd is
-refused_gives f allowance (settled.Refused refusal) is = is
+pub answers_lost : (f : SourceDef) (allowance : ℕ) (v : List ℕ) (e : SettleStop) → IsWideToAnalyse f allowance
+    → ((i : ℕ) → i < tasks_of f → AreLeastFitting f v → LosesWhole (f.program i v) → NeedsMoreBits f i) → StopsLost f v e
+    → IsAnswered f allowance (Err e)
+answers_lost f allowance v (stop.Wide task) wide needs (within, least, loses) = record {
+  settles = inl (wide, needs task.0 within least loses);
+  right = tt;
+  enough = tt;
+  names = within;
+  bits = tt;
+}
+answers_lost f allowance v stop.Allowance wide needs stops = absurd stops
+answers_lost f allowance v stop.Memory wide needs stops = answers_nothing f allowance
 
-pub refused_so : (f : SourceDef) (allowance : ℕ) (s : Settled) → IsRefusedSo f s → RefusesSo (Ok s) f allowance
-refused_so f allowance (settled.Schedulable certificate) is = absurd is
-refused_so f allowance (settled.Refused refusal) is = is
+-- The answers where it is left to a walk to refuse the set: a refusal, or why there is none.
+pub answers_refused : (f : SourceDef) (allowance : ℕ) (s : Settled) → IsToRefuse f allowance → IsRefusedSo f s → RefusesIn64Bits s
+    → IsAnswered f allowance (Ok s)
+answers_refused f allowance (settled.Schedulable certificate) to is bits = absurd is
+answers_refused f allowance (settled.Refused refusal) to (right, small) bits =
+    record { settles = inr (to, small); right = right; enough = tt; names = tt; bits = bits }
 
-pub refused_needs_none : (f : SourceDef) (s : Settled) → IsRefusedSo f s → HasEnough f s
-refused_needs_none f (settled.Schedulable certificate) is = absurd is
-refused_needs_none f (settled.Refused refusal) is = tt
+pub answers_unrefuted : (f : SourceDef) (allowance : ℕ) (task : TaskId) → IsToRefuse f allowance → IsUnrefuted f allowance
+    → task.0 < tasks_of f → IsAnswered f allowance (Err (stop.Wide task))
+answers_unrefuted f allowance task to unrefuted within =
+    record { settles = inr (to, unrefuted); right = tt; enough = tt; names = within; bits = tt }
+
+pub answers_rounded_stop : (f : SourceDef) (allowance : ℕ) (e : SettleStop) → IsToRefuse f allowance → StopsWalk Rounded f allowance e
+    → IsAnswered f allowance (Err e)
+answers_rounded_stop f allowance (stop.Wide task) to ends =
+    answers_unrefuted f allowance task to (inl (task.0, ends)) (walk_within Rounded f allowance task.0 ends)
+answers_rounded_stop f allowance stop.Allowance to ends =
+    record { settles = inr (inr (to, ends)); right = tt; enough = tt; names = tt; bits = tt }
+answers_rounded_stop f allowance stop.Memory to ends = answers_nothing f allowance
+
+-- Rounds of refusals want no more units than an analysis that doesn't show the set.
+pub never_short : (f : SourceDef) (allowance : ℕ) → HasOneEnding f allowance → IsNotShown f allowance
+    → EndsIn (refuting f) allowance Allowance → ⊥
+never_short f allowance one (i, value, late) short =
+    let same : NotShown i value ≡ Allowance = one (NotShown i value) Allowance late (forget_allowance f allowance short) in cc
 
 -- What the endings of an analysis and of a refutation say, for each variant of the answers.
 pub not_shown_of : (f : SourceDef) (allowance : ℕ) (r : Result Verdict Stop) (v : Verdict) (task : TaskId) (bound : ℕ)
@@ -155,26 +190,42 @@ pub wide_analysis_of : (f : SourceDef) (allowance : ℕ) (r : Result Verdict Sto
 wide_analysis_of f allowance r e task answers is same =
     subst (λ (x : Stop). Answers (Err x) f allowance) same (subst (λ (x : Result Verdict Stop). Answers x f allowance) is answers)
 
+pub short_analysis_of : (f : SourceDef) (allowance : ℕ) (r : Result Verdict Stop) (e : Stop) → Answers r f allowance → r ≡ Err e
+    → e ≡ analysis_stop.Allowance → EndsIn (rounds_of f) allowance Allowance
+short_analysis_of f allowance r e answers is same =
+    subst (λ (x : Stop). Answers (Err x) f allowance) same (subst (λ (x : Result Verdict Stop). Answers x f allowance) is answers)
+
+pub best_of : (f : SourceDef) (r : Result Verdict Stop) (v : Verdict) (c : Certificate) → IfOk r (λ v. IsRightVerdict v f) → r ≡ Ok v
+    → v ≡ verdict.Schedulable c → IsBest f (certificate_seen c)
+best_of f r v c right is same =
+    subst (λ (x : Verdict). IsRightVerdict x f) same (subst (λ (x : Result Verdict Stop). IfOk x (λ v. IsRightVerdict v f)) is right)
+
 pub wide_within : (f : SourceDef) (allowance i : ℕ) → EndsIn (rounds_of f) allowance (Wide i) → i < tasks_of f
 wide_within f allowance i (r, left, found, here, comes, run) = here
 
 pub wide_refutation_within : (f : SourceDef) (allowance i : ℕ) → EndsIn (refuting f) allowance (Wide i) → i < tasks_of f
 wide_refutation_within f allowance i (r, left, found, here, comes, run) = here
 
-pub refused_of : (f : SourceDef) (allowance : ℕ) (r : Result Answer RefuteStop) (v : Answer) (refusal : Refusal)
-    → Refutes r f allowance → IfOk r (λ a. IsRightRefutation a f) → r ≡ Ok v → v ≡ refutation.Refused refusal
-    → GivesRefusal (Ok (settled.Refused refusal)) f allowance
-refused_of f allowance r v refusal rounds right is same =
-    let ends : Refutes (Ok (refutation.Refused refusal)) f allowance =
-    subst (λ (x : Answer). Refutes (Ok x) f allowance) same (subst (λ (x : Result Answer RefuteStop). Refutes x f allowance) is rounds) in
-    let holds : IsRightRefutation (refutation.Refused refusal) f =
+pub refuted_of : (f : SourceDef) (allowance : ℕ) (r : Result Answer RefuteStop) (v : Answer) (refusal : Refusal)
+    → Refutes r f allowance → r ≡ Ok v → v ≡ refutation.Refused refusal → Refutes (Ok (refutation.Refused refusal)) f allowance
+refuted_of f allowance r v refusal rounds is same =
+    subst (λ (x : Answer). Refutes (Ok x) f allowance) same (subst (λ (x : Result Answer RefuteStop). Refutes x f allowance) is rounds)
+
+pub right_refusal_of : (f : SourceDef) (r : Result Answer RefuteStop) (v : Answer) (refusal : Refusal)
+    → IfOk r (λ a. IsRightRefutation a f) → r ≡ Ok v → v ≡ refutation.Refused refusal → IsRight (settled.Refused refusal) f
+right_refusal_of f r v refusal right is same =
     subst (λ (x : Answer). IsRightRefutation x f) same
-    (subst (λ (x : Result Answer RefuteStop). IfOk x (λ a. IsRightRefutation a f)) is right) in
-    (holds, inl ends)
+    (subst (λ (x : Result Answer RefuteStop). IfOk x (λ a. IsRightRefutation a f)) is right)
 
 pub wide_refutation_of : (f : SourceDef) (allowance : ℕ) (r : Result Answer RefuteStop) (e : RefuteStop) (task : TaskId)
     → Refutes r f allowance → r ≡ Err e → e ≡ refute_stop.Wide task → EndsIn (refuting f) allowance (Wide task.0)
 wide_refutation_of f allowance r e task rounds is same =
+    subst (λ (x : RefuteStop). Refutes (Err x) f allowance) same
+    (subst (λ (x : Result Answer RefuteStop). Refutes x f allowance) is rounds)
+
+pub short_refutation_of : (f : SourceDef) (allowance : ℕ) (r : Result Answer RefuteStop) (e : RefuteStop) → Refutes r f allowance
+    → r ≡ Err e → e ≡ refute_stop.Allowance → EndsIn (refuting f) allowance Allowance
+short_refutation_of f allowance r e rounds is same =
     subst (λ (x : RefuteStop). Refutes (Err x) f allowance) same
     (subst (λ (x : Result Answer RefuteStop). Refutes x f allowance) is rounds)
 
@@ -187,46 +238,3 @@ sound_of f keeps interferes (Ok (settled.Schedulable certificate)) right law =
     λ values are. law (certificate_seen certificate) values right.valid are
 sound_of f keeps interferes (Ok (settled.Refused refusal)) right law = tt
 sound_of f keeps interferes (Err e) right law = tt
-
--- What the stops of walks say.
-abbrev pub NeedsMoreIfWide : SourceDef → ℕ → Type 0
-NeedsMoreIfWide f allowance = (i : ℕ) → EndsIn (walk Exact f) allowance (Wide i) → NeedsMoreBits f i
-
-pub walk_gives : (f : SourceDef) (allowance : ℕ) (e : SettleStop) → StopsWalk Exact f allowance e → GivesWide (Err e) f allowance
-walk_gives f allowance (stop.Wide task) ends = tt
-walk_gives f allowance stop.Allowance ends = inl ends
-walk_gives f allowance stop.Memory ends = tt
-
-pub walk_wide : (f : SourceDef) (allowance : ℕ) (e : SettleStop) → NeedsMoreIfWide f allowance → StopsWalk Exact f allowance e
-    → IsWideOnlySo (Err e) f allowance
-walk_wide f allowance (stop.Wide task) needs ends = inr (needs task.0 ends)
-walk_wide f allowance stop.Allowance needs ends = tt
-walk_wide f allowance stop.Memory needs ends = tt
-
-pub walk_refuses : (f : SourceDef) (allowance : ℕ) (e : SettleStop) → StopsWalk Rounded f allowance e → RefusesSo (Err e) f allowance
-walk_refuses f allowance (stop.Wide task) ends = inl (task.0, ends)
-walk_refuses f allowance stop.Allowance ends = ends
-walk_refuses f allowance stop.Memory ends = tt
-
-pub names_walk : (points : Points) (f : SourceDef) (allowance : ℕ) (e : SettleStop) → StopsWalk points f allowance e → StopsWithin f.set e
-names_walk points f allowance (stop.Wide task) (r, left, found, here, comes, run) = here
-names_walk points f allowance stop.Allowance ends = tt
-names_walk points f allowance stop.Memory ends = tt
-
--- What is said if a certificate's dual loses the whole part of its optimum.
-pub lost_gives : (f : SourceDef) (allowance : ℕ) (v : List ℕ) (e : SettleStop) → StopsLost f v e → GivesWide (Err e) f allowance
-lost_gives f allowance v (stop.Wide task) stops = tt
-lost_gives f allowance v stop.Allowance stops = absurd stops
-lost_gives f allowance v stop.Memory stops = tt
-
-pub lost_wide : (f : SourceDef) (allowance : ℕ) (v : List ℕ) (e : SettleStop)
-    → ((i : ℕ) → i < tasks_of f → AreLeastFitting f v → LosesWhole (f.program i v) → NeedsMoreBits f i) → StopsLost f v e
-    → IsWideOnlySo (Err e) f allowance
-lost_wide f allowance v (stop.Wide task) needs (within, least, loses) = inr (needs task.0 within least loses)
-lost_wide f allowance v stop.Allowance needs stops = absurd stops
-lost_wide f allowance v stop.Memory needs stops = tt
-
-pub names_lost : (f : SourceDef) (v : List ℕ) (e : SettleStop) → StopsLost f v e → StopsWithin f.set e
-names_lost f v (stop.Wide task) stops = stops.0
-names_lost f v stop.Allowance stops = tt
-names_lost f v stop.Memory stops = tt

@@ -8,5 +8,5 @@ pub mod AnswerLaws
 pub mod SmallSteps
 pub mod EnoughBits
 pub mod TrailLaws
-pub mod TurnLaws
+pub mod WalkRoundLaws
 pub mod OneWalk

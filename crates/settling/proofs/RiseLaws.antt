@@ -1,10 +1,10 @@
 -- How the bounds of a walk stay in their range, rise, and stay at most every fitting vector.
-use Rattle.std.proofs.Common.{◌≡◌, ◌∙◌, ℕ, ◌+◌, ◌<◌, ◌≤◌, ◌^◌, List, [], ◌∷◌, ◌++◌, length, get_or, refl, sym, ap, subst, arith, inl, inr}
+use Rattle.std.proofs.Common.{◌≡◌, ◌∙◌, ℕ, ◌+◌, ◌<◌, ◌≤◌, ◌^◌, List, [], ◌∷◌, ◌++◌, length, refl, sym, ap, subst, arith, inl, inr}
 use Rattle.std.specs.Prelude.{slice_index, slice_get, Some, None, IfSome}
 use Rattle.std.specs.declared.option.Option.{Option}
 use Rattle.std.proofs.lemmas.Bool.{cases_lt}
 use Rattle.std.proofs.lemmas.List.{get_or_append_left, get_or_push, length_push}
-use Rattle.std.proofs.lemmas.Option.{slice_get_cases, slice_get_read, slice_get-get_or}
+use Rattle.std.proofs.lemmas.Option.{slice_get_cases, slice_get-get_or}
 use Rattle.program_form.specs.Certificate.{DualDef}
 use Rattle.program_form.specs.Points.{Reaches, IsGreatestReached}
 use Rattle.program_form.specs.Program.{ProgramDef}
@@ -14,7 +14,7 @@ use Rattle.program_sources.specs.Fitting.{AreFitting, AreBelowAllFitting, tasks_
 use Rattle.response_fixpoint.proofs.PlaceLaws.{each_more, each_none}
 use Rattle.response_fixpoint.proofs.SolutionLaws.{Rises, renewed_program}
 use Rattle.free_search.specs.Ends.{IsFoundDual}
-use Rattle.settling.specs.Rising.{IsFoundOf, AreFoundAt, HaveSmallTicks, IsSame, IsNextBound, AreNextBounds, IsPointFor, seen_point}
+use Rattle.settling.specs.Rising.{IsFoundOf, AreFoundAt, IsSame, IsNextBound, AreNextBounds, IsPointFor, seen_point}
 use Rattle.settling.specs.Walks.{Reads}
 use Rattle.settling.specs.Ways.{NothingFits}
 use Rattle.settling.specs.declared.finding.Points.{Points}
@@ -38,15 +38,6 @@ pub found_at : (points : Points) (f : SourceDef) (v : List ℕ) (found : List Re
 found_at points f v found i r are here =
     let first : 0 + i ≡ i = omega arith in
     subst (λ (k : ℕ). IsFoundOf points (f.program k v) r) first (are i r here)
-
-pub small_ticks : (points : Points) (f : SourceDef) (v : List ℕ) (found : List Reached) → AreFoundAt points f v found → HaveSmallTicks found
-small_ticks points f v found are i r here = (found_at points f v found i r are here).is_reached.small
-
--- The ticks of a task, as a look-up gives them.
-pub small_here : (found : List Reached) (i : ℕ) (r : Reached) → HaveSmallTicks found → i < length found → r ≡ get_or found i r
-    → (get_or found i r).ticks < 2 ^ 63
-small_here found i r small here is =
-    subst (λ (x : Reached). x.ticks < 2 ^ 63) is (small i r (slice_get_read found (length found) i r refl here is))
 
 -- A program whose limits stay stays, and what was found of it too.
 same_program : (f : SourceDef) (u v : List ℕ) (i : ℕ) → Rises f i → (f.program i u).limits ≡ (f.program i v).limits

@@ -19,7 +19,7 @@ use Rattle.refusal_cert.specs.Steps.{step_of}
 use Rattle.refusal_cert.proofs.Led.{after_all_length, own, step_of_point, led_step, led_same, last_holds}
 use Rattle.settling.specs.Rising.{IsPointFor, seen_point}
 use Rattle.settling.specs.Trails.{HasSmallPoints, IsEmpty, AddsStep, AddsRise, LeadsTo, LeadsWithin, IsRefusal, IsTrail, IsTrailWithin, EndsTrail, seen}
-use Rattle.settling.specs.Turns.{AreWrittenIfRounded}
+use Rattle.settling.specs.WalkRounds.{AreWrittenIfRounded}
 use Rattle.settling.specs.declared.finding.Points.{Points}
 use Rattle.settling.specs.declared.finding.Points.TheVariants.{Rounded}
 use Rattle.settling.specs.declared.steps.Steps.{Steps}

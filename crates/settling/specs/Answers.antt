@@ -18,9 +18,9 @@ use Rattle.refusal_cert.specs.Answers.{Refutes}
 use Rattle.refusal_cert.specs.declared.answer.Answer.TheVariants as refutation
 use Rattle.settling.specs.Rising.{IsProvedLeast}
 use Rattle.settling.specs.Trails.{HasSmallPoints}
-use Rattle.settling.specs.Walks.{walk, WantsMore, IsUnrefuted}
+use Rattle.settling.specs.Walks.{walk, WalksLate, IsUnrefuted}
 use Rattle.settling.specs.Ways.{NothingFits, NeedsMoreBits, NoneNeedsMore}
-use Rattle.settling.specs.declared.finding.Points.TheVariants.{Rounded}
+use Rattle.settling.specs.declared.finding.Points.TheVariants.{Exact, Rounded}
 use Rattle.settling.specs.declared.answer.Settled.{Settled}
 use Rattle.settling.specs.declared.answer.Settled.TheVariants as settled
 use Rattle.settling.specs.declared.answer.SettleStop.{SettleStop}
@@ -60,14 +60,6 @@ abbrev pub NamesTask : SetDef → Result Settled SettleStop → Type 0
 NamesTask set (Ok settled) = Unit {0}
 NamesTask set (Err stop) = StopsWithin set stop
 
--- Does a wide stop come only in two cases? Nothing fits, and the walk with rounded points passes no latest bound. Or the program of the task
--- that it names needs more than 63 bits.
-abbrev pub IsWideOnlySo : Result Settled SettleStop → SourceDef → ℕ → Type 0
-IsWideOnlySo (Ok settled) f allowance = Unit {0}
-IsWideOnlySo (Err (stop.Wide task)) f allowance = ((NothingFits f) × IsUnrefuted f allowance) ⊎ NeedsMoreBits f task.0
-IsWideOnlySo (Err stop.Allowance) f allowance = Unit {0}
-IsWideOnlySo (Err stop.Memory) f allowance = Unit {0}
-
 -- Is a set schedulable only if no task needs more bits?
 abbrev pub HasEnough : SourceDef → Settled → Type 0
 HasEnough f (settled.Schedulable certificate) = NoneNeedsMore f
@@ -82,7 +74,11 @@ abbrev pub IsSchedulable : Settled → Type 0
 IsSchedulable (settled.Schedulable certificate) = Unit {0}
 IsSchedulable (settled.Refused refusal) = ⊥
 
--- Do the rounds of an analysis end at a task that isn't shown?
+-- Do the rounds of an analysis end wide?
+abbrev pub IsWideToAnalyse : SourceDef → ℕ → Type 0
+IsWideToAnalyse f allowance = (i : ℕ) × EndsIn (rounds_of f) allowance (Wide i)
+
+-- Do they end at a task that isn't shown?
 abbrev pub IsNotShown : SourceDef → ℕ → Type 0
 IsNotShown f allowance = (i : ℕ) × (value : ℕ) × EndsIn (rounds_of f) allowance (NotShown i value)
 
@@ -92,57 +88,53 @@ IsWideToRefute f allowance = (i : ℕ) × EndsIn (refuting f) allowance (Wide i)
 
 -- Do the rounds leave the set open? The analysis ends wide. Or it ends at a task that isn't shown, and the rounds of refusals end wide.
 abbrev pub IsLeftOpen : SourceDef → ℕ → Type 0
-IsLeftOpen f allowance = ((i : ℕ) × EndsIn (rounds_of f) allowance (Wide i))
-    ⊎ ((IsNotShown f allowance) × IsWideToRefute f allowance)
+IsLeftOpen f allowance = (IsWideToAnalyse f allowance) ⊎ ((IsNotShown f allowance) × IsWideToRefute f allowance)
+
+-- Is it left to a walk to refuse the set? Nothing fits. Either the analysis ends wide, and the walk with exact points ends late. Or the
+-- analysis ends at a task that isn't shown, and the rounds of refusals end wide.
+pub record IsToRefuse (f : SourceDef) (allowance : ℕ) : Type 0 where
+  pub none : NothingFits f
+  pub left : ((IsWideToAnalyse f allowance) × WalksLate Exact f allowance) ⊎ ((IsNotShown f allowance) × IsWideToRefute f allowance)
+
+-- May the set be left unsettled at task i? The analysis ends wide, and the task's program needs more than 63 bits. Or it is left to a walk
+-- to refuse the set, and the one with rounded points passes no latest bound.
+abbrev pub MayBeWide : SourceDef → ℕ → ℕ → Type 0
+MayBeWide f allowance i = ((IsWideToAnalyse f allowance) × NeedsMoreBits f i)
+    ⊎ ((IsToRefuse f allowance) × IsUnrefuted f allowance)
+
+-- May so many units be too few? The analysis wants more. Or it ends wide, and the walk with exact points wants more. Or it is left to a
+-- walk to refuse the set, and the one with rounded points wants more.
+abbrev pub MayWantMore : SourceDef → ℕ → Type 0
+MayWantMore f allowance = (EndsIn (rounds_of f) allowance Allowance)
+    ⊎ (((IsWideToAnalyse f allowance) × EndsIn (walk Exact f) allowance Allowance)
+    ⊎ ((IsToRefuse f allowance) × EndsIn (walk Rounded f) allowance Allowance))
 
 -- Is it a refusal that holds, with small points?
 abbrev pub IsRefusedSo : SourceDef → Settled → Type 0
 IsRefusedSo f (settled.Schedulable certificate) = ⊥
 IsRefusedSo f (settled.Refused refusal) = (IsRight (settled.Refused refusal) f) × HasSmallPoints (steps_seen refusal)
 
--- What a walk with rounded points gives: a refusal that holds, with small points. Or it stops for what its rounds end in.
-abbrev pub RefusesSo : Result Settled SettleStop → SourceDef → ℕ → Type 0
-RefusesSo (Ok (settled.Schedulable certificate)) f allowance = ⊥
-RefusesSo (Ok (settled.Refused refusal)) f allowance = (IsRight (settled.Refused refusal) f) × HasSmallPoints (steps_seen refusal)
-RefusesSo (Err (stop.Wide task)) f allowance = IsUnrefuted f allowance
-RefusesSo (Err stop.Allowance) f allowance = EndsIn (walk Rounded f) allowance Allowance
-RefusesSo (Err stop.Memory) f allowance = Unit {0}
-
--- What is answered if the analysis is wide.
-abbrev pub GivesWide : Result Settled SettleStop → SourceDef → ℕ → Type 0
-GivesWide (Ok (settled.Schedulable certificate)) f allowance = IsRight (settled.Schedulable certificate) f
-GivesWide (Ok (settled.Refused refusal)) f allowance = (IsRight (settled.Refused refusal) f) × HasSmallPoints (steps_seen refusal)
-GivesWide (Err (stop.Wide task)) f allowance = Unit {0}
-GivesWide (Err stop.Allowance) f allowance = WantsMore f allowance
-GivesWide (Err stop.Memory) f allowance = Unit {0}
-
--- What is answered if the analysis doesn't show the set.
-abbrev pub GivesRefusal : Result Settled SettleStop → SourceDef → ℕ → Type 0
-GivesRefusal (Ok (settled.Schedulable certificate)) f allowance = ⊥
-GivesRefusal (Ok (settled.Refused refusal)) f allowance = (IsRight (settled.Refused refusal) f)
-    × ((Refutes (Ok (refutation.Refused refusal)) f allowance)
-    ⊎ ((IsWideToRefute f allowance) × HasSmallPoints (steps_seen refusal)))
-GivesRefusal (Err (stop.Wide task)) f allowance = IsWideToRefute f allowance
-GivesRefusal (Err stop.Allowance) f allowance = ((IsWideToRefute f allowance) × WantsMore f allowance) ⊎ EndsIn (refuting f) allowance Allowance
-GivesRefusal (Err stop.Memory) f allowance = Unit {0}
-
--- Where an answer comes from. If the rounds don't leave the set open, it is that of the analysis, or that of the rounds of refusals.
--- Running out of memory says nothing.
+-- Where an answer comes from. If the rounds don't leave the set open, it is that of the analysis, or that of the rounds of refusals. If
+-- they do, it is that of a walk. Running out of memory says nothing.
 abbrev pub Settles : Result Settled SettleStop → SourceDef → ℕ → Type 0
 Settles (Ok (settled.Schedulable certificate)) f allowance =
     (EndsIn (rounds_of f) allowance (Schedulable certificate.bounds.items (map dual_seen certificate.duals.items)))
-    ⊎ ((i : ℕ) × EndsIn (rounds_of f) allowance (Wide i))
+    ⊎ ((IsWideToAnalyse f allowance)
+    × EndsIn (walk Exact f) allowance (Schedulable certificate.bounds.items (map dual_seen certificate.duals.items)))
 Settles (Ok (settled.Refused refusal)) f allowance =
     ((IsNotShown f allowance) × Refutes (Ok (refutation.Refused refusal)) f allowance)
-    ⊎ ((IsLeftOpen f allowance) × HasSmallPoints (steps_seen refusal))
-Settles (Err (stop.Wide task)) f allowance = IsLeftOpen f allowance
-Settles (Err stop.Allowance) f allowance = (EndsIn (rounds_of f) allowance Allowance)
-    ⊎ ((IsLeftOpen f allowance) × WantsMore f allowance) ⊎ ((IsNotShown f allowance) × EndsIn (refuting f) allowance Allowance)
+    ⊎ ((IsToRefuse f allowance) × HasSmallPoints (steps_seen refusal))
+Settles (Err (stop.Wide task)) f allowance = MayBeWide f allowance task.0
+Settles (Err stop.Allowance) f allowance = MayWantMore f allowance
 Settles (Err stop.Memory) f allowance = Unit {0}
 
--- Does the answer come from there, and is it right?
-abbrev pub AnswersSo : Result Settled SettleStop → SourceDef → ℕ → Type 0
-AnswersSo r f allowance = (Settles r f allowance) × IfOk r (λ settled. IsRight settled f)
+-- What is answered: where it comes from, that it is right, that no task of a schedulable set needs more bits, and that it can be written.
+pub record IsAnswered (f : SourceDef) (allowance : ℕ) (r : Result Settled SettleStop) : Type 0 where
+  pub settles : Settles r f allowance
+  pub right : IfOk r (λ s. IsRight s f)
+  pub enough : IfOk r (HasEnough f)
+  pub names : NamesTask f.set r
+  pub bits : IfOk r (λ s. RefusesIn64Bits s)
 
 -- Is this an ending at a task that isn't shown, or a wide one?
 abbrev pub IsUnshown : Ending → Type 0
@@ -163,16 +155,15 @@ Keeps (Err stop.Memory) e = Unit {0}
 
 -- What settling answers with this allowance.
 pub record IsAnswerFor (f : SourceDef) (allowance : ℕ) (r : Result Settled SettleStop) : Type 0 where
-  -- Where each answer comes from: the analysis, or a refutation, unless these are wide. And what is kept of each ending of the analysis.
+  -- Where each answer comes from: the analysis, or a refutation, or a walk if these are wide. So when it is wide or out of units. And what
+  -- is kept of each ending of the analysis.
   pub settles : Settles r f allowance
   pub keeps : (e : Ending) → EndsIn (rounds_of f) allowance e → Keeps r e
   -- Schedulable: the least fitting bounds, with a valid certificate. Refused: the refusal holds, and nothing fits. So an answer is
   -- schedulable if some bounds fit, and only then.
   pub right : IfOk r (λ s. IsRight s f)
   pub exactly : IfOk r (λ s. IsSchedulable s ↔ ((bounds : List ℕ) × AreFitting f bounds))
-  -- A wide stop names a task whose program needs more than 63 bits. Or nothing fits, and the walk with rounded points passes no latest
-  -- bound. If the answer is schedulable, no task needs more.
-  pub wide : IsWideOnlySo r f allowance
+  -- If the answer is schedulable, no task's program needs more than 63 bits.
   pub enough : IfOk r (HasEnough f)
   -- What is answered can be written.
   pub names : NamesTask f.set r

@@ -2,5 +2,5 @@ pub mod Ways
 pub mod Walks
 pub mod Trails
 pub mod Rising
-pub mod Turns
+pub mod WalkRounds
 pub mod Answers

@@ -1,6 +1,6 @@
 -- Bounds that rise by what programs were shown to reach.
-use Rattle.std.specs.Prelude.{◌≡◌, ◌⊎◌, ℕ, ◌+◌, ◌<◌, ◌≤◌, ◌^◌, List, map, max, length, slice_index, slice_get, Some, None, Result, Ok, Err, IfSome}
-use Rattle.std.specs.Prelude.{pos}
+use Rattle.std.specs.Prelude.{◌≡◌, ◌⊎◌, ℕ, ◌+◌, ◌<◌, ◌≤◌, ◌^◌, List, map, max, pos, length, slice_index, slice_get, Some, None}
+use Rattle.std.specs.Prelude.{Result, Ok, Err, IfSome}
 use Rattle.std.specs.declared.option.Option.{Option}
 use Rattle.fraction128.specs.Fraction.{IsFloor}
 use Rattle.program_form.specs.Certificate.{DualDef, CertificateDef, dual_seen}
@@ -19,7 +19,7 @@ use Rattle.refusal_laws.specs.Seen.{steps_seen}
 use Rattle.refusal_laws.specs.declared.refusal.Refusal.{Refusal}
 use Rattle.response_fixpoint.specs.Answers.{IsSmallDual}
 use Rattle.response_fixpoint.specs.Places.{AreEach}
-use Rattle.response_fixpoint.specs.Rounds.{TooWide, OutOfUnits, Schedulable, NotShown, Wide, Allowance, EndsIn}
+use Rattle.response_fixpoint.specs.Rounds.{TooWide, OutOfUnits, Schedulable, Wide, Allowance, EndsIn}
 use Rattle.schedule_answers.specs.declared.checked.Invalid.{Invalid}
 use Rattle.schedule_answers.specs.declared.checked.Invalid.TheVariants as invalid
 use Rattle.free_search.specs.Ends.{IsEndAfter, IsFoundDual, NeedsMoreThan}
@@ -28,7 +28,7 @@ use Rattle.free_search.specs.declared.found.Found.{Found}
 use Rattle.free_search.specs.declared.found.SearchStop.{SearchStop}
 use Rattle.free_search.specs.declared.found.SearchStop.TheVariants.{Memory, Units, Lost}
 use Rattle.settling.specs.Trails.{IsRefusal}
-use Rattle.settling.specs.Walks.{Reads, IsPastReading, WalkRuns, walk}
+use Rattle.settling.specs.Walks.{Reads, IsPastReading, WalkRuns, walk, WalksLate}
 use Rattle.settling.specs.Ways.{LosesWhole, NothingFits}
 use Rattle.settling.specs.declared.answer.SettleStop.{SettleStop}
 use Rattle.settling.specs.declared.answer.SettleStop.TheVariants as stop
@@ -82,13 +82,13 @@ pub record IsFoundOf (points : Points) (p : ProgramDef) (found : Reached) : Type
   pub written : points ≡ Rounded → seen_point found.point ≡ None → ⊥
   pub greatest : points ≡ Exact → IsGreatestReached p found.ticks
 
--- Was this found of the programs of the first tasks at the bounds v, one after another?
-abbrev pub AreFoundAt : Points → SourceDef → List ℕ → List Reached → Type 0
-AreFoundAt points f v found = AreEach (λ i r. IsFoundOf points (f.program i v) r) 0 found
+-- Was this found of task i's program at the bounds v?
+abbrev pub IsFoundAt : Points → SourceDef → List ℕ → ℕ → Reached → Type 0
+IsFoundAt points f v i r = IsFoundOf points (f.program i v) r
 
--- Are the ticks of each below 2^63?
-abbrev pub HaveSmallTicks : List Reached → Type 0
-HaveSmallTicks found = (i : ℕ) (r : Reached) → slice_get found i ≡ Some r → r.ticks < 2 ^ 63
+-- Was this found of the programs of the first tasks, one after another?
+abbrev pub AreFoundAt : Points → SourceDef → List ℕ → List Reached → Type 0
+AreFoundAt points f v found = AreEach (IsFoundAt points f v) 0 found
 
 -- Was the same found?
 pub record IsSame (before now : Reached) : Type 0 where
@@ -181,9 +181,7 @@ pub record IsFixed (points : Points) (f : SourceDef) (allowance : ℕ) (bounds :
 -- Does some value pass its latest bound, so that nothing fits? Do the rounds of the walk end so? And does the refusal hold, if there is one?
 pub record ShowsNothingFits (points : Points) (f : SourceDef) (allowance : ℕ) (refusal : Option Refusal) : Type 0 where
   pub none : NothingFits f
-  pub task : ℕ
-  pub value : ℕ
-  pub ends : EndsIn (walk points f) allowance (NotShown task value)
+  pub late : WalksLate points f allowance
   pub holds : IfSome refusal (λ r. IsRefusal f (steps_seen r))
   pub written : points ≡ Rounded → refusal ≡ None → ⊥
 

@@ -10,8 +10,8 @@ use Rattle.exchange_runs.specs.Readings.{value_of}
 use Rattle.free_search.specs.Ends.{IsEndAfter, IsPointOf, IsFoundDual, IsTooGreat, NeedsMoreThan}
 use Rattle.free_search.specs.Rounding.{AreWrittenDown, HaveGreatWholes}
 use Rattle.refusal_laws.specs.Steps.{costs_of, whole_worth}
-use Rattle.response_fixpoint.specs.Rounds.{RunEnd, Valued, TooWide, OutOfUnits, RoundsOf, Schedulable, Wide, Allowance, EndsIn}
-use Rattle.settling.specs.Ways.{NothingFits}
+use Rattle.response_fixpoint.specs.Rounds.{RunEnd, Valued, TooWide, OutOfUnits, RoundsOf}
+use Rattle.response_fixpoint.specs.Rounds.{Schedulable, NotShown, Wide, EndsIn}
 use Rattle.settling.specs.declared.finding.Points.{Points}
 use Rattle.settling.specs.declared.finding.Points.TheVariants.{Exact, Rounded}
 
@@ -64,9 +64,9 @@ WalkRuns points f r i left OutOfUnits = NeedsMoreThan (f.program i r) left
 abbrev pub walk : Points → SourceDef → RoundsOf
 walk points f = record { tasks = tasks_of f; first = costs_of f.set; latest = latest_of f; runs = WalkRuns points f }
 
--- Does a search want more units than this allowance: the walk with exact points, or, if nothing fits, the one with rounded points?
-abbrev pub WantsMore : SourceDef → ℕ → Type 0
-WantsMore f allowance = (EndsIn (walk Exact f) allowance Allowance) ⊎ ((NothingFits f) × EndsIn (walk Rounded f) allowance Allowance)
+-- Does the walk end late: at a value that passes its task's latest bound?
+abbrev pub WalksLate : Points → SourceDef → ℕ → Type 0
+WalksLate points f allowance = (i : ℕ) × (value : ℕ) × EndsIn (walk points f) allowance (NotShown i value)
 
 -- Does the walk with rounded points pass no latest bound? A run's end is too great on the way. Or no bound rises any more.
 abbrev pub IsUnrefuted : SourceDef → ℕ → Type 0

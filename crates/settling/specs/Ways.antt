@@ -23,7 +23,7 @@ IsAfterRounds f zero v = v ≡ costs_of f.set
 IsAfterRounds f (suc k) v = (before : List ℕ) × (IsAfterRounds f k before) × AreResponses f before v
 
 -- Is the end of the program's exchange run, over fractions of any size, too great for 63 bits? Is a multiplier, rounded up to a whole
--- number, above 2^63 - 1, or is the optimum?
+-- number, above 2^63 - 1, or is the whole part of the optimum?
 abbrev pub EndsTooGreat : ProgramDef → Type 0
 EndsTooGreat p = (k : ℕ) × (t : Table) × (IsEndAfter p k t)
     × ((IsTooGreat p t) ⊎ ((n : ℕ) × (IsFloor (value_of p t) (pos n)) × (2 ^ 63 ≤ n)))

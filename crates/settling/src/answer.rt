@@ -17,9 +17,10 @@ pub enum Settled {
 /// Why settling stops without an answer.
 #[derive(Debug, Drop)]
 pub enum SettleStop {
-    /// The rounds are wide, and the search gave no point, or no dual of 63 bits, that settles this task.
+    /// The rounds are wide. This task's program needs numbers of more than 63 bits. Or nothing fits, and points of 63 bits lead to no
+    /// refusal: then it is the task at which the rounds, or the walk with such points, are wide.
     Wide(TaskId),
-    /// The rounds or the search want more units than the allowance.
+    /// The analysis or a walk of the search wants more units than the allowance.
     Allowance,
     /// No memory is left.
     Memory,

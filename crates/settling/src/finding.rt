@@ -1,13 +1,12 @@
 //! What a search finds of a program, as found or with its point rounded down.
 
-ghost use Rattle.std.specs.Prelude.{◌≡◌, ◌<◌, ◌≤◌, ◌^◌, length, IfOk, IfErr, MatchOption};
+ghost use Rattle.std.specs.Prelude.{◌≡◌, ◌/◌, ◌<◌, ◌≤◌, ◌^◌, length, IfOk, IfErr, MatchOption};
 ghost use Rattle.program_form.specs.Program.{columns};
-ghost use Rattle.program_form.specs.Certificate.{dual_seen};
-ghost use Rattle.refusal_laws.specs.Steps.{whole_worth};
 ghost use Rattle.settling.specs.Rising.{IsFoundBy, IsRoundedFrom, StopsSo};
 
 use free_search::{Found, SearchStop, round_down, search, what_is_found_is_best};
-use program_form::{Dual, SparseProgram};
+use point_tests::worth_sum;
+use program_form::SparseProgram;
 use std::alloc::{AllocError, Global};
 use whole_numbers::Whole;
 
@@ -20,22 +19,6 @@ pub(crate) enum Points {
     Rounded,
 }
 
-/// How many whole ticks the point is worth. None if they have more than 64 bits.
-fn worth_of(alloc: Global, program: &SparseProgram, point: &Dual) -> Result<Option<u64>, AllocError>
-    requires size { length point.now.num.items ≡ columns program.now }
-    requires den { 0 < point.now.den }
-    ensures { IfOk result (λ found. MatchOption found (2 ^ 64 ≤ whole_worth program.now (dual_seen point.now))
-        (λ ticks. ticks ≡ whole_worth program.now (dual_seen point.now))) }
-{
-    let mut sum = Whole::zero(alloc);
-    for c in 0..program.columns() {
-        let number = Whole::of(alloc, point.num[c as usize]);
-        sum.add_times(&number, program.cost(c))?;
-    }
-    let division = sum.divided_by(alloc, &Whole::of(alloc, point.den))?;
-    Ok(division.quotient.as_u64())
-}
-
 fn wholes_of(alloc: Global, numbers: &[u64]) -> Result<Vec<Whole>, AllocError>
     ensures { IfOk result (λ v. v.items ≡ numbers.now) }
 {
@@ -44,6 +27,15 @@ fn wholes_of(alloc: Global, numbers: &[u64]) -> Result<Vec<Whole>, AllocError>
         wholes.push(Whole::of(alloc, *number))?;
     }
     Ok(wholes)
+}
+
+/// The whole part of a quotient. None if it has more than 64 bits.
+fn whole_part(alloc: Global, number: &Whole, den: &Whole) -> Result<Option<u64>, AllocError>
+    requires { 0 < den.now }
+    ensures { IfOk result (λ found. MatchOption found (2 ^ 64 ≤ number.now / den.now) (λ ticks. ticks ≡ number.now / den.now)) }
+{
+    let division = number.divided_by(alloc, den)?;
+    Ok(division.quotient.as_u64())
 }
 
 /// The same with its point rounded down if it needs more than 63 bits. `Lost` comes if no such point has 63 bits, or if it is worth more
@@ -56,13 +48,16 @@ fn round_found(alloc: Global, program: &SparseProgram, found: Found) -> Result<F
     let Some(point) = round_down(alloc, &found)? else {
         return Err(SearchStop::Lost);
     };
-    let Some(ticks) = worth_of(alloc, program, &point)? else {
+    let den = Whole::of(alloc, point.den);
+    let num = wholes_of(alloc, &point.num)?;
+    let sum = worth_sum(alloc, program, &num)?;
+    let Some(ticks) = whole_part(alloc, &sum, &den)? else {
         return Err(SearchStop::Lost);
     };
     let Found { dual, used, .. } = found;
     Ok(Found {
-        den: Whole::of(alloc, point.den),
-        num: wholes_of(alloc, &point.num)?,
+        den,
+        num,
         ticks,
         dual,
         used,

@@ -4,6 +4,7 @@
 //! certificate is judged before it is answered.
 #![tactic(auto)]
 
+mod ahead;
 mod answer;
 mod certificates;
 mod finding;

@@ -1,10 +1,9 @@
 //! Refusals by the steps of walks.
 
-ghost use Rattle.std.specs.Prelude.{◌≡◌, ℕ, ◌<◌, ◌≤◌, List, IfOk, IsTrue, length};
-ghost use Rattle.program_form.specs.Certificate.{dual_seen};
+ghost use Rattle.std.specs.Prelude.{◌<◌, ◌≤◌, IfOk, IfSome, IsTrue, length};
 ghost use Rattle.program_sources.specs.Recurrence.{source_at};
 ghost use Rattle.refusal_laws.specs.Seen.{steps_seen};
-ghost use Rattle.settling.specs.Answers.{Has64Bits, IsRefusedSo, NamesTask, RefusesIn64Bits, RefusesSo};
+ghost use Rattle.settling.specs.Answers.{Has64Bits, IsAnswered, IsRefusedSo, IsToRefuse, RefusesIn64Bits};
 ghost use Rattle.settling.specs.Trails.{HasSmallPoints, IsRefusal};
 
 use crate::answer::{SettleStop, Settled};
@@ -69,28 +68,46 @@ fn is_confirmed<R: Threads + Sync, P: ProgramSource + Sync>(
     }
 }
 
-/// Answers a refusal that holds, without steps that the last one doesn't need. What is left is confirmed. If it doesn't hold, the whole one
-/// is answered.
+/// The refusal without steps that its last one doesn't need, if what is left is confirmed.
+fn confirmed_shorter<R: Threads + Sync, P: ProgramSource + Sync>(
+    rt: &R,
+    alloc: Global,
+    set: &TaskSet,
+    protocol: &P,
+    refusal: &Refusal,
+) -> Result<Option<Refusal>, AllocError>
+    requires serves { P.serves protocol.now set.now }
+    ensures { IfOk result (λ o. IfSome o (λ r. IsRefusal (source_at (P.source protocol.now) set.now) (steps_seen r))) }
+{
+    let shorter = shorten(alloc, set, protocol, refusal)?;
+    if is_confirmed(rt, alloc, set, protocol, &shorter)? {
+        return Ok(Some(shorter));
+    }
+    Ok(None)
+}
+
+/// Answers a refusal that holds, without steps that its last one doesn't need. If that isn't confirmed, or memory runs out over it, the
+/// whole one is answered.
 pub(crate) fn answer_refusal<R: Threads + Sync, P: ProgramSource + Sync>(
     rt: &R,
     alloc: Global,
     set: &TaskSet,
     protocol: &P,
     refusal: Refusal,
-) -> Result<Settled, AllocError>
+) -> Settled
     requires serves { P.serves protocol.now set.now }
     requires holds { IsRefusal (source_at (P.source protocol.now) set.now) (steps_seen refusal) }
-    ensures refuses { IfOk result (IsRefusedSo (source_at (P.source protocol.now) set.now)) }
-    ensures bits { IfOk result (λ settled. RefusesIn64Bits settled) }
+    ensures refuses { IsRefusedSo (source_at (P.source protocol.now) set.now) result }
+    ensures bits { RefusesIn64Bits result }
 {
     refusals_are_right::<P>();
-    let shorter = shorten(alloc, set, protocol, &refusal)?;
-    if is_confirmed(rt, alloc, set, protocol, &shorter)? {
-        keeps_64_bits(&shorter);
-        return Ok(Settled::Refused(shorter));
-    }
-    keeps_64_bits(&refusal);
-    Ok(Settled::Refused(refusal))
+    let answered = match confirmed_shorter(rt, alloc, set, protocol, &refusal) {
+        Ok(Some(shorter)) => shorter,
+        Ok(None) => refusal,
+        Err(AllocError) => refusal,
+    };
+    keeps_64_bits(&answered);
+    Settled::Refused(answered)
 }
 
 /// A refusal by points that are rounded down. If they lead to none, settling stops at this task.
@@ -104,12 +121,11 @@ pub(crate) fn refuse_by_rounded_points<R: Threads + Sync, P: ProgramSource + Syn
 ) -> Result<Settled, SettleStop>
     requires serves { P.serves protocol.now set.now }
     requires task { task.0 < length set.now.tasks }
-    ensures refuses { RefusesSo result (source_at (P.source protocol.now) set.now) allowance }
-    ensures names { NamesTask set.now result }
-    ensures bits { IfOk result (λ settled. RefusesIn64Bits settled) }
+    requires left { IsToRefuse (source_at (P.source protocol.now) set.now) allowance }
+    ensures { IsAnswered (source_at (P.source protocol.now) set.now) allowance result }
 {
-    match rise(alloc, set, protocol, Points::Rounded, allowance) {
-        Ok(Risen::Late(Some(refusal))) => Ok(answer_refusal(rt, alloc, set, protocol, refusal)?),
+    match rise(rt, alloc, set, protocol, Points::Rounded, allowance) {
+        Ok(Risen::Late(Some(refusal))) => Ok(answer_refusal(rt, alloc, set, protocol, refusal)),
         Ok(Risen::Late(None)) => unreachable!(),
         Ok(Risen::Fixed(..)) => Err(SettleStop::Wide(task)),
         Err(stop) => Err(stop),

@@ -10,11 +10,12 @@ use crate::reached::Reached;
 use crate::rounds::{Round, take_round};
 use crate::steps::Steps;
 use least_laws::{costs_are_below_all_fitting, reached_responses_are_below_all_fitting};
-use program_sources::{ProgramSource, recurrence_is_monotone};
+use program_sources::ProgramSource;
 use refusal_laws::Refusal;
 use response_fixpoint::costs;
 use sporadic_model::TaskSet;
 use std::alloc::Global;
+use std::thread::Threads;
 
 /// Where a walk ends.
 #[derive(Drop)]
@@ -26,7 +27,8 @@ pub(crate) enum Risen {
 }
 
 /// Raises bounds from the costs, with so many units: one for each task of a round, and one more for each exchange of its program's run.
-pub(crate) fn rise<P: ProgramSource>(
+pub(crate) fn rise<R: Threads + Sync, P: ProgramSource + Sync>(
+    rt: &R,
     alloc: Global,
     set: &TaskSet,
     protocol: &P,
@@ -47,14 +49,14 @@ pub(crate) fn rise<P: ProgramSource>(
     let mut spent = 0;
     loop {
         let left = allowance - spent;
-        let turn = take_round(
-            alloc, set, protocol, points, &bounds, &before, left, &mut steps,
+        let round = take_round(
+            rt, alloc, set, protocol, points, &bounds, &before, left, &mut steps,
         );
         let Round {
             used,
             next,
             reached,
-        } = match turn {
+        } = match round {
             Ok(Some(round)) => round,
             Ok(None) => return Ok(Risen::Late(steps.refusal())),
             Err(stop) => return Err(stop),

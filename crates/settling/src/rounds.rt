@@ -1,21 +1,23 @@
 //! One round of a walk.
 
-ghost use Rattle.std.specs.Prelude.{◌≡◌, ℕ, ◌+◌, ◌<◌, ◌≤◌, ◌^◌, ◌++◌, ◌∷◌, [], List, max, slice_index, length, OnOk};
+ghost use Rattle.std.specs.Prelude.{◌≡◌, ℕ, ◌+◌, ◌<◌, ◌^◌, ◌++◌, ◌∷◌, [], List, max, slice_index, length, OnOk};
 ghost use Rattle.program_form.specs.Certificate.{dual_seen};
 ghost use Rattle.program_sources.specs.Bounds.{IsInRange};
 ghost use Rattle.program_sources.specs.Recurrence.{source_at, response_with};
 ghost use Rattle.response_fixpoint.specs.Rounds.{with_task};
 ghost use Rattle.settling.specs.Rising.{AreFoundAt};
 ghost use Rattle.settling.specs.Trails.{IsTrail};
-ghost use Rattle.settling.specs.Turns.{found_of, AreWrittenIfRounded, GivesTurn};
+ghost use Rattle.settling.specs.WalkRounds.{found_of, AreWrittenIfRounded, GivesRound};
 
+use crate::ahead::{reach_ahead, reach_in_place};
 use crate::answer::SettleStop;
 use crate::finding::Points;
-use crate::reached::{Reached, reach_task};
+use crate::reached::Reached;
 use crate::steps::Steps;
 use program_sources::{ProgramSource, response};
 use sporadic_model::{TaskId, TaskSet};
 use std::alloc::{AllocError, Global};
+use std::thread::Threads;
 
 /// What a round has found: its units, the next bounds in ticks, and what was found of each task's program.
 #[derive(Drop)]
@@ -26,7 +28,7 @@ pub(crate) struct Round {
 }
 
 /// The response time of task `i` with these ticks as blocking, or its bound if that is greater.
-fn next_bound<P: ProgramSource>(
+pub(crate) fn next_bound<P: ProgramSource>(
     set: &TaskSet,
     protocol: &P,
     i: TaskId,
@@ -58,7 +60,11 @@ fn take_task(round: &mut Round, reached: Reached, bound: u64) -> Result<(), Allo
 /// One round at `bounds`: what is found of each task's program, and the task's next bound, task by task. Each program may take the units
 /// that the tasks before it have left. `before` is what was found at other bounds. `steps` gets a step for each bound that rises. None if
 /// a task's value passes its latest bound. Then the last step is that task's.
-pub(crate) fn take_round<P: ProgramSource>(
+///
+/// The programs are searched side by side, ahead of their places, if that is worth threads. Each may take all units that are left at the
+/// start of the round.
+pub(crate) fn take_round<R: Threads + Sync, P: ProgramSource + Sync>(
+    rt: &R,
     alloc: Global,
     set: &TaskSet,
     protocol: &P,
@@ -73,17 +79,22 @@ pub(crate) fn take_round<P: ProgramSource>(
     requires before { (u : List ℕ) × AreFoundAt points (source_at (P.source protocol.now) set.now) u before.now }
     requires steps { IsTrail (source_at (P.source protocol.now) set.now) bounds.now steps.old }
     requires written { AreWrittenIfRounded points steps.old }
-    ensures { GivesTurn result points (source_at (P.source protocol.now) set.now) bounds.now left steps.new }
+    ensures { GivesRound result points (source_at (P.source protocol.now) set.now) bounds.now left steps.new }
 {
     let mut round = Round {
         used: 0,
         next: Vec::new(alloc),
         reached: Vec::new(alloc),
     };
+    let ahead = reach_ahead(rt, alloc, set, protocol, points, bounds, before, left)?;
+    let mut ahead = ahead.into_iter();
     for i in 0..set.tasks() {
         let task = TaskId(i);
         let here = left - round.used;
-        let reached = match reach_task(alloc, set, protocol, points, task, bounds, before, here) {
+        let first = ahead.next().flatten();
+        let reached = match reach_in_place(
+            alloc, set, protocol, points, task, bounds, before, here, first,
+        ) {
             Ok(reached) => reached,
             Err(stop) => return Err(stop),
         };

@@ -1,7 +1,8 @@
-ghost use Rattle.std.specs.Prelude.{◌<◌, IfOk, length};
+ghost use Rattle.std.specs.Prelude.{IfOk};
 ghost use Rattle.program_sources.specs.Recurrence.{source_at};
-ghost use Rattle.settling.specs.Answers.{AnswersSo, GivesRefusal, GivesWide, IsAnswerFor, IsSound, NamesTask};
-ghost use Rattle.settling.specs.Answers.{RefusesIn64Bits, IsWideOnlySo, HasEnough};
+ghost use Rattle.response_fixpoint.specs.Rounds.{Wide, EndsIn};
+ghost use Rattle.response_fixpoint.specs.Runs.{rounds_of};
+ghost use Rattle.settling.specs.Answers.{IsAnswered, IsAnswerFor, IsNotShown, IsSound, IsWideToAnalyse};
 ghost use Rattle.settling.specs.Rising.{IsFixed};
 ghost use Rattle.settling.specs.Ways.{NothingFits};
 ghost use Rattle.settling.specs.declared.finding.Points.TheVariants.{Exact};
@@ -33,12 +34,9 @@ fn settle_fixed<P: ProgramSource>(
     allowance: u64,
 ) -> Result<Settled, SettleStop>
     requires serves { P.serves protocol.now set.now }
+    requires wide { IsWideToAnalyse (source_at (P.source protocol.now) set.now) allowance }
     requires fixed { IsFixed Exact (source_at (P.source protocol.now) set.now) allowance bounds.items reached.items }
-    ensures gives { GivesWide result (source_at (P.source protocol.now) set.now) allowance }
-    ensures wide { IsWideOnlySo result (source_at (P.source protocol.now) set.now) allowance }
-    ensures enough { IfOk result (HasEnough (source_at (P.source protocol.now) set.now)) }
-    ensures names { NamesTask set.now result }
-    ensures bits { IfOk result (λ settled. RefusesIn64Bits settled) }
+    ensures { IsAnswered (source_at (P.source protocol.now) set.now) allowance result }
 {
     recurrence_is_monotone::<P>();
     what_is_found_is_best();
@@ -59,21 +57,17 @@ fn settle_wide<R: Threads + Sync, P: ProgramSource + Sync>(
     allowance: u64,
 ) -> Result<Settled, SettleStop>
     requires serves { P.serves protocol.now set.now }
-    requires task { task.0 < length set.now.tasks }
-    ensures gives { GivesWide result (source_at (P.source protocol.now) set.now) allowance }
-    ensures wide { IsWideOnlySo result (source_at (P.source protocol.now) set.now) allowance }
-    ensures enough { IfOk result (HasEnough (source_at (P.source protocol.now) set.now)) }
-    ensures names { NamesTask set.now result }
-    ensures bits { IfOk result (λ settled. RefusesIn64Bits settled) }
+    requires wide { EndsIn (rounds_of (source_at (P.source protocol.now) set.now)) allowance (Wide task.0) }
+    ensures { IsAnswered (source_at (P.source protocol.now) set.now) allowance result }
 {
     recurrence_is_monotone::<P>();
     what_is_found_is_best();
     the_end_is_read_in_one_way();
-    match rise(alloc, set, protocol, Points::Exact, allowance) {
+    match rise(rt, alloc, set, protocol, Points::Exact, allowance) {
         Ok(Risen::Fixed(bounds, reached)) => {
             settle_fixed(alloc, set, protocol, bounds, reached, allowance)
         }
-        Ok(Risen::Late(Some(refusal))) => Ok(answer_refusal(rt, alloc, set, protocol, refusal)?),
+        Ok(Risen::Late(Some(refusal))) => Ok(answer_refusal(rt, alloc, set, protocol, refusal)),
         Ok(Risen::Late(None)) => {
             refuse_by_rounded_points(rt, alloc, set, protocol, task, allowance)
         }
@@ -91,12 +85,10 @@ fn refuse<R: Threads + Sync, P: ProgramSource + Sync>(
 ) -> Result<Settled, SettleStop>
     requires serves { P.serves protocol.now set.now }
     requires none { NothingFits (source_at (P.source protocol.now) set.now) }
-    ensures gives { GivesRefusal result (source_at (P.source protocol.now) set.now) allowance }
-    ensures wide { IsWideOnlySo result (source_at (P.source protocol.now) set.now) allowance }
-    ensures enough { IfOk result (HasEnough (source_at (P.source protocol.now) set.now)) }
-    ensures names { NamesTask set.now result }
-    ensures bits { IfOk result (λ settled. RefusesIn64Bits settled) }
+    requires late { IsNotShown (source_at (P.source protocol.now) set.now) allowance }
+    ensures { IsAnswered (source_at (P.source protocol.now) set.now) allowance result }
 {
+    the_rounds_have_one_ending();
     match refute(alloc, set, protocol, allowance) {
         Ok(Answer::Refused(refusal)) => {
             keeps_64_bits(&refusal);
@@ -106,7 +98,8 @@ fn refuse<R: Threads + Sync, P: ProgramSource + Sync>(
         Err(RefuteStop::Wide(task)) => {
             refuse_by_rounded_points(rt, alloc, set, protocol, task, allowance)
         }
-        Err(RefuteStop::Allowance) => Err(SettleStop::Allowance),
+        // the analysis had units enough, and the rounds of refusals take as many
+        Err(RefuteStop::Allowance) => unreachable!(),
         Err(RefuteStop::Memory) => Err(SettleStop::Memory),
     }
 }
@@ -120,11 +113,7 @@ fn settle<R: Threads + Sync, P: ProgramSource + Sync>(
     allowance: u64,
 ) -> Result<Settled, SettleStop>
     requires serves { P.serves protocol.now set.now }
-    ensures answers { AnswersSo result (source_at (P.source protocol.now) set.now) allowance }
-    ensures wide { IsWideOnlySo result (source_at (P.source protocol.now) set.now) allowance }
-    ensures enough { IfOk result (HasEnough (source_at (P.source protocol.now) set.now)) }
-    ensures names { NamesTask set.now result }
-    ensures bits { IfOk result (λ settled. RefusesIn64Bits settled) }
+    ensures { IsAnswered (source_at (P.source protocol.now) set.now) allowance result }
 {
     certificates_of_analyses_need_no_more_bits();
     match analyse_with(rt, alloc, set, protocol, allowance) {
@@ -160,9 +149,10 @@ pub fn settle_by<R: Threads + Sync, P: ProgramSource + Sync>(
 /// points of 63 bits make a refusal. Steps that its last one doesn't need are left out, as far as they are found.
 ///
 /// `allowance` is the number of units for the analysis, as many for the refutation, and as many for each walk of a search. A task takes one
-/// in each round, and one more for each exchange. `SettleStop::Wide` names a task whose program isn't settled. It comes only if the
-/// analysis is wide, or the refutation of a set that isn't shown. `SettleStop::Allowance` comes only if one of them, or a walk, wants more
-/// units. `SettleStop::Memory` comes only if memory runs out.
+/// in each round, and one more for each exchange. `SettleStop::Wide` comes only if the analysis is wide, or the refutation of a set that
+/// isn't shown. It names a task whose program needs numbers of more than 63 bits. Or nothing fits, and points of 63 bits lead to no
+/// refusal. `SettleStop::Allowance` comes only if the analysis, or a walk, wants more units. `SettleStop::Memory` comes only if memory runs
+/// out.
 pub fn settle_with<R: Threads + Sync, P: ChargedProtocol + Sync>(
     rt: &R,
     alloc: Global,

@@ -42,6 +42,8 @@ impl Steps {
             return Ok(());
         }
         match point {
+            // behind a step that isn't written none is of use
+            Some(_) if !self.are_written => {}
             Some(point) => {
                 let point = copy_of(alloc, point)?;
                 self.list.push(RefusalStep {

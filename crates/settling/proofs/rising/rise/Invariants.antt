@@ -5,7 +5,7 @@ use Rattle.program_sources.specs.Fitting.{AreBelowAllFitting}
 use Rattle.response_fixpoint.specs.Rounds.{Reaches}
 use Rattle.settling.specs.Rising.{AreFoundAt}
 use Rattle.settling.specs.Trails.{IsTrail}
-use Rattle.settling.specs.Turns.{AreWrittenIfRounded}
+use Rattle.settling.specs.WalkRounds.{AreWrittenIfRounded}
 use Rattle.settling.specs.Walks.{walk}
 use Rattle.settling.proofs.rising.rise.Given as goal
 

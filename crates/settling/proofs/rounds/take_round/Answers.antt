@@ -5,21 +5,28 @@ use Rattle.program_sources.specs.Recurrence.{SourceDef, source_at, response_with
 use Rattle.program_sources.specs.Fitting.{tasks_of, latest_of}
 use Rattle.program_sources.proofs.RecurrenceLaws.{LimitsRise}
 use Rattle.response_fixpoint.specs.Rounds.{Found, with_task}
+use Rattle.response_fixpoint.proofs.PlaceLaws.{found_first, found_rest}
 use Rattle.response_fixpoint.proofs.RoundLaws.{values_length}
-use Rattle.settling.specs.Rising.{IsFoundOf}
+use Rattle.settling.specs.Rising.{IsFoundAt, IsFoundOf}
 use Rattle.settling.specs.Trails.{IsTrailWithin}
-use Rattle.settling.specs.Turns.{found_of, IsPart}
+use Rattle.settling.specs.WalkRounds.{found_of, IsPart}
 use Rattle.settling.specs.Walks.{walk}
 use Rattle.settling.specs.declared.reached.Reached.{Reached}
 use Rattle.settling.proofs.TrailLaws.{trail_goes_on, trail_ends, trail_whole, written_goes_on}
-use Rattle.settling.proofs.TurnLaws.{part_goes_on, turn_stops, late_of}
+use Rattle.settling.proofs.WalkRoundLaws.{part_goes_on, round_stops, late_of}
 use Rattle.settling.proofs.rounds.take_round.Goals as goal
 
 pub returns-in-Err : goal.returns-in-Err
 returns-in-Err g c =
     let f : SourceDef = source_at (g.P.ProgramSource.source c.args.protocol.now) c.args.set.now in
-    turn_stops c.args.points f c.args.bounds.now c.args.left c.loop-i.i c.loop-i.round c.loop-i.steps c.in-Err.stop (omega arith)
+    round_stops c.args.points f c.args.bounds.now c.args.left c.loop-i.i c.loop-i.round c.loop-i.steps c.in-Err.stop (omega arith)
     c.loop-i.invariant.part c.in-Err.ensures.stops
+
+pub reach_in_place-requires-clause-ahead : goal.reach_in_place-requires-clause-ahead
+reach_in_place-requires-clause-ahead g c =
+    let f : SourceDef = source_at (g.P.ProgramSource.source c.args.protocol.now) c.args.set.now in
+    rw c.flatten-first.ensures (found_first (IsFoundAt c.args.points f c.args.bounds.now) c.loop-i.i c.loop-i.ahead.rest.items
+    c.next.new.self.rest.items c.next.result c.next.ensures.items c.loop-i.invariant.ahead)
 
 pub returns-then-bound-latest_bound : goal.returns-then-bound-latest_bound
 returns-then-bound-latest_bound g c =
@@ -66,6 +73,8 @@ loop-i-preserved g c =
       trail = subst (λ (x : Found). IsTrailWithin f r x (i + 1) c.add.new.self) (sym taken.found) trail;
       written = written_goes_on c.args.points c.loop-i.steps c.add.new.self i (slice_index r i) bound reached.point found.written
           c.in_ok-add.ensures c.loop-i.invariant.written;
+      ahead = found_rest (IsFoundAt c.args.points f r) i c.loop-i.ahead.rest.len c.loop-i.ahead.rest.items c.next.new.self.rest.items
+          c.next.result c.next.ensures.items c.next.ensures.variant c.loop-i.ahead.rest.ok.0 c.loop-i.invariant.ahead;
     }
 
 pub returns : goal.returns

@@ -12,12 +12,11 @@ returns g c =
     let fit : CostsFit f = λ i here.
     (let numbers = numbers_of_accepted c.args.set.now i c.keeps_the_model.ensures.accepted here in omega (arith, numbers.jitter_to)) in
     record {
-      settles = c.settle.ensures.answers.0;
-      keeps = keeps_of f c.args.allowance c.settle.result (c.the_rounds_have_one_ending.ensures f c.args.allowance) c.settle.ensures.answers.0;
-      right = c.settle.ensures.answers.1;
-      exactly = exactly_of f c.settle.result c.settle.ensures.answers.1;
-      wide = c.settle.ensures.wide;
+      settles = c.settle.ensures.settles;
+      keeps = keeps_of f c.args.allowance c.settle.result (c.the_rounds_have_one_ending.ensures f c.args.allowance) c.settle.ensures.settles;
+      right = c.settle.ensures.right;
+      exactly = exactly_of f c.settle.result c.settle.ensures.right;
       enough = c.settle.ensures.enough;
       names = c.settle.ensures.names;
-      small_steps = small_steps_of f c.args.allowance c.settle.result fit c.settle.ensures.bits c.settle.ensures.answers.0 c.settle.ensures.answers.1;
+      small_steps = small_steps_of f c.args.allowance c.settle.result fit c.settle.ensures.bits c.settle.ensures.settles c.settle.ensures.right;
     }

@@ -15,7 +15,7 @@ use Rattle.response_fixpoint.specs.Answers.{Halts}
 use Rattle.response_fixpoint.specs.Rounds.{RunEnd, Valued, TooWide, OutOfUnits, Found, with_task, nothing_found, RoundsOf, Passes, Reaches, ComesTo}
 use Rattle.settling.specs.Rising.{IsFoundOf, StopsAt, StopsWalk, IsNextBound, AreNextBounds, IsFixed, ShowsNothingFits}
 use Rattle.settling.specs.Trails.{IsRefusal, EndsTrail, Refuses}
-use Rattle.settling.specs.Turns.{found_of, IsPart, IsLate, GivesTurn, AreWrittenIfRounded}
+use Rattle.settling.specs.WalkRounds.{found_of, IsPart, IsLate, GivesRound, AreWrittenIfRounded}
 use Rattle.settling.specs.Walks.{IsWalked, walk}
 use Rattle.settling.specs.declared.answer.SettleStop.{SettleStop}
 use Rattle.settling.specs.declared.answer.SettleStop.TheVariants as stop
@@ -85,15 +85,15 @@ part_goes_on points f r left i bound before now found part is within value low s
     }
 
 -- A round ends where a search stops, and where a value passes its latest bound.
-pub turn_stops : (points : Points) (f : SourceDef) (r : List ℕ) (left i : ℕ) (round : Round) (steps : Steps) (s : SettleStop)
+pub round_stops : (points : Points) (f : SourceDef) (r : List ℕ) (left i : ℕ) (round : Round) (steps : Steps) (s : SettleStop)
     → i < tasks_of f → IsPart points f r left i round → StopsAt points f r i (left - round.used) s
-    → GivesTurn (Err s) points f r left steps
-turn_stops points f r left i round steps (stop.Wide task) here part (same, runs) =
+    → GivesRound (Err s) points f r left steps
+round_stops points f r left i round steps (stop.Wide task) here part (same, runs) =
     subst (λ (k : ℕ). Halts (walk points f) r left k TooWide) (sym same)
     (record { found = found_of round; below = here; passed = part.passed; run = runs })
-turn_stops points f r left i round steps stop.Allowance here part runs =
+round_stops points f r left i round steps stop.Allowance here part runs =
     (i, record { found = found_of round; below = here; passed = part.passed; run = runs })
-turn_stops points f r left i round steps stop.Memory here part runs = tt
+round_stops points f r left i round steps stop.Memory here part runs = tt
 
 pub late_of : (points : Points) (f : SourceDef) (r : List ℕ) (left i bound : ℕ) (round : Round) (found : Reached) → i < tasks_of f
     → IsPart points f r left i round → IsFoundOf points (f.program i r) found → found.used ≤ left - round.used
@@ -122,7 +122,7 @@ pub comes_at : (o : RoundsOf) (allowance k spent : ℕ) (r : List ℕ) (i : ℕ)
 comes_at o allowance k spent r i e h way = record { rounds = k; spent = spent; reached = way; passed = h.passed; units = refl }
 
 pub walk_stops : (points : Points) (f : SourceDef) (allowance k spent : ℕ) (r : List ℕ) (s : SettleStop) (steps : Steps)
-    → Reaches (walk points f) allowance k spent r → GivesTurn (Err s) points f r (allowance - spent) steps
+    → Reaches (walk points f) allowance k spent r → GivesRound (Err s) points f r (allowance - spent) steps
     → StopsWalk points f allowance s
 walk_stops points f allowance k spent r (stop.Wide task) steps way h =
     (r, allowance - spent - h.found.used, h.found, h.below, comes_at (walk points f) allowance k spent r task.0 TooWide h way, h.run)
@@ -150,9 +150,9 @@ late_shows points f allowance k spent r refusal steps responds below way late tr
     let h = late.halts in
     record {
       none = late_fits_nothing f r late.task late.ticks responds below h.below late.reached late.response;
-      task = late.task;
-      value = late.value;
-      ends = (
+      late = (
+        late.task,
+        late.value,
         r,
         allowance - spent - h.found.used,
         h.found,

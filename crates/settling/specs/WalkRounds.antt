@@ -47,9 +47,10 @@ abbrev pub AreWrittenIfRounded : Points → Steps → Type 0
 AreWrittenIfRounded points steps = points ≡ Rounded → IsTrue steps.are_written
 
 -- What such a round gives, with the steps then: what it has found of all tasks, or why it ends before. None says that a value is late.
-abbrev pub GivesTurn : Result (Option Round) SettleStop → Points → SourceDef → List ℕ → ℕ → Steps → Type 0
-GivesTurn (Ok (Some round)) points f r left steps = (IsPart points f r left (tasks_of f) round) × (IsTrail f round.next.items steps) × AreWrittenIfRounded points steps
-GivesTurn (Ok None) points f r left steps = (IsLate points f r left) × (EndsTrail f steps) × AreWrittenIfRounded points steps
-GivesTurn (Err (stop.Wide task)) points f r left steps = Halts (walk points f) r left task.0 TooWide
-GivesTurn (Err stop.Allowance) points f r left steps = (i : ℕ) × Halts (walk points f) r left i OutOfUnits
-GivesTurn (Err stop.Memory) points f r left steps = Unit {0}
+abbrev pub GivesRound : Result (Option Round) SettleStop → Points → SourceDef → List ℕ → ℕ → Steps → Type 0
+GivesRound (Ok (Some round)) points f r left steps =
+    (IsPart points f r left (tasks_of f) round) × (IsTrail f round.next.items steps) × AreWrittenIfRounded points steps
+GivesRound (Ok None) points f r left steps = (IsLate points f r left) × (EndsTrail f steps) × AreWrittenIfRounded points steps
+GivesRound (Err (stop.Wide task)) points f r left steps = Halts (walk points f) r left task.0 TooWide
+GivesRound (Err stop.Allowance) points f r left steps = (i : ℕ) × Halts (walk points f) r left i OutOfUnits
+GivesRound (Err stop.Memory) points f r left steps = Unit {0}
