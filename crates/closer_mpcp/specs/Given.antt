@@ -27,36 +27,36 @@ pub record AreTwoTasksAndResource (set : SetDef) (x y r : ℕ) : Type 0 where
   pub other : y < length set.tasks
   pub resource : r < length set.resources
 
--- Is x a task of the set, where no bound of a task is above its latest one?
+-- Is x a task of the set, and has each task a bound, at most its latest one?
 pub record IsTaskAt (set : SetDef) (bounds : List ℕ) (x : ℕ) : Type 0 where
   pub task : x < length set.tasks
   pub within : AreWithinDeadlines set bounds
 
--- Are x a task of the set and r a resource, at such bounds?
+-- Is x a task of the set, and r a resource, with such bounds?
 pub record IsRequestAt (set : SetDef) (bounds : List ℕ) (x r : ℕ) : Type 0 where
   pub task : x < length set.tasks
   pub resource : r < length set.resources
   pub within : AreWithinDeadlines set bounds
 
--- Are such bounds compared with r, the earlier ones, which were such, too?
+-- Are the bounds such, both the earlier ones in r and those now?
 pub record AreTwoBounds (set : SetDef) (r bounds : List ℕ) : Type 0 where
   pub earlier : AreWithinDeadlines set r
   pub within : AreWithinDeadlines set bounds
 
--- Are jobs of x counted in so many ticks, at most the longest deadline that a set may have?
+-- Are jobs of x counted with such bounds, in a span that is at most the longest deadline of any set?
 pub record AreJobsIn (set : SetDef) (bounds : List ℕ) (ticks x : ℕ) : Type 0 where
   pub task : x < length set.tasks
   pub within : AreWithinDeadlines set bounds
   pub span : ticks ≤ 1000000000
 
--- Are requests of r by x counted in so many?
+-- Are requests of r by x counted so?
 pub record AreRequestsIn (set : SetDef) (bounds : List ℕ) (ticks x r : ℕ) : Type 0 where
   pub task : x < length set.tasks
   pub resource : r < length set.resources
   pub within : AreWithinDeadlines set bounds
   pub span : ticks ≤ 1000000000
 
--- Does i wait at such bounds, for each resource within its window in w?
+-- Does i wait with such bounds, for each resource that it requests within its window in w?
 pub record AreWaitsAt (set : SetDef) (bounds : List ℕ) (i : ℕ) (w : List (Option ℕ)) : Type 0 where
   pub task : i < length set.tasks
   pub within : AreWithinDeadlines set bounds
@@ -64,12 +64,10 @@ pub record AreWaitsAt (set : SetDef) (bounds : List ℕ) (i : ℕ) (w : List (Op
 
 -- Does it, and does s say of each resource whether it is shared out?
 pub record AreSharedWaitsAt (set : SetDef) (bounds : List ℕ) (i : ℕ) (s : List Bool) (w : List (Option ℕ)) : Type 0 where
-  pub task : i < length set.tasks
-  pub within : AreWithinDeadlines set bounds
+  pub waits : AreWaitsAt set bounds i w
   pub shared : AreSharedOut set i s
-  pub windows : AreWaitWindows set (slice_index bounds) i w
 
--- Do the columns stand in order, so that the columns of each task begin where these entries say?
+-- Do the columns stand in order, so that those of each task begin where the entries say, with such bounds?
 pub record AreLaidOut (set : SetDef) (bounds : List ℕ) (i : ℕ) (columns : List Fragment) (entries : List TaskPlace) : Type 0 where
   pub task : i < length set.tasks
   pub within : AreWithinDeadlines set bounds
