@@ -1,3 +1,4 @@
+pub mod Given
 pub mod Holdings
 pub mod Tables
 pub mod Windows

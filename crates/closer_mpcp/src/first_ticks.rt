@@ -4,6 +4,7 @@ ghost use Rattle.std.specs.Prelude.{◌≡◌, ◌*◌, ◌<◌, ◌≤◌, leng
 ghost use Rattle.number_laws.specs.Sums.{only_if};
 ghost use Rattle.sporadic_model.specs.Users.{count_of, length_of};
 ghost use Rattle.closer_mpcp_laws.specs.CloserMpcpRows.{goes_first};
+ghost use Rattle.closer_mpcp.specs.Given.{AreTaskAndResource};
 ghost use Rattle.closer_mpcp.specs.Tables.{AreFirst, AreFirstOf};
 
 use crate::ceilings::goes_first;
@@ -21,9 +22,8 @@ pub(crate) struct FirstTicks {
 
 // The requests of `r` by `x`, if they go first while another task of `x`'s processor holds `q`.
 fn first_of_resource(set: &TaskSet, x: TaskId, q: ResourceId, r: ResourceId) -> FirstTicks
-    requires task { x.0 < length set.now.tasks }
+    requires request { AreTaskAndResource set.now x.0 r.0 }
     requires held { q.0 < length set.now.resources }
-    requires resource { r.0 < length set.now.resources }
     ensures longest { result.longest ≡ only_if (goes_first set.now x.0 r.0 q.0) (length_of set.now x.0 r.0) }
     ensures all { result.all ≡ only_if (goes_first set.now x.0 r.0 q.0) (count_of set.now x.0 r.0 * length_of set.now x.0 r.0) }
     ensures longest_to { result.longest ≤ 1000000000 }
@@ -42,8 +42,7 @@ fn first_of_resource(set: &TaskSet, x: TaskId, q: ResourceId, r: ResourceId) -> 
 
 // The requests of all resources by `x` that go first while another task of its processor holds `q`.
 fn first_ticks(set: &TaskSet, x: TaskId, q: ResourceId) -> FirstTicks
-    requires task { x.0 < length set.now.tasks }
-    requires held { q.0 < length set.now.resources }
+    requires { AreTaskAndResource set.now x.0 q.0 }
     ensures { AreFirstOf set.now x.0 q.0 result }
 {
     // a set has at most 32 resources, so the sum fits, and what isn't used has no length

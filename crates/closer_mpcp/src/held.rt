@@ -1,11 +1,9 @@
 //! What can be held beside each task, computed once for all rows of a program.
 
 ghost use Rattle.std.specs.Prelude.{◌≡◌, ◌<◌, ◌≤◌, length, slice_index, IfOk};
-ghost use Rattle.program_sources.specs.Bounds.{AreWithinDeadlines};
-ghost use Rattle.shared_requests.specs.Held.{AreSharedOut};
+ghost use Rattle.closer_mpcp.specs.Given.{AreTaskAndResource, AreWaitsAt, AreSharedWaitsAt};
 ghost use Rattle.closer_mpcp.specs.Holdings.{held_beside};
 ghost use Rattle.closer_mpcp.specs.Tables.{shared_beside, AreHeldBeside, AreHeldBesideEach};
-ghost use Rattle.closer_mpcp.specs.Windows.{AreWaitWindows};
 
 use crate::holdings::lower_held;
 use crate::places::Place;
@@ -32,11 +30,8 @@ fn held_beside(
     bounds: &[u64],
     windows: &[Option<u64>],
 ) -> u64
-    requires task { i.0 < length set.now.tasks }
-    requires runner { x.0 < length set.now.tasks }
-    requires resource { r.0 < length set.now.resources }
-    requires within { AreWithinDeadlines set.now bounds.now }
-    requires windows { AreWaitWindows set.now (slice_index bounds.now) i.0 windows.now }
+    requires waits { AreWaitsAt set.now bounds.now i.0 windows.now }
+    requires held { AreTaskAndResource set.now x.0 r.0 }
     ensures value { result ≡ held_beside set.now (slice_index bounds.now) i.0 x.0 r.0 }
     ensures most { result ≤ 128000000001000 }
 {
@@ -58,12 +53,8 @@ fn shared_beside(
     bounds: &[u64],
     windows: &[Option<u64>],
 ) -> u64
-    requires task { i.0 < length set.now.tasks }
-    requires runner { x.0 < length set.now.tasks }
-    requires resource { r.0 < length set.now.resources }
-    requires shared { AreSharedOut set.now i.0 shared.now }
-    requires within { AreWithinDeadlines set.now bounds.now }
-    requires windows { AreWaitWindows set.now (slice_index bounds.now) i.0 windows.now }
+    requires waits { AreSharedWaitsAt set.now bounds.now i.0 shared.now windows.now }
+    requires held { AreTaskAndResource set.now x.0 r.0 }
     ensures value { result ≡ shared_beside set.now (slice_index bounds.now) i.0 x.0 r.0 }
     ensures most { result ≤ 128000000001000 }
 {
@@ -83,11 +74,8 @@ fn held_beside_task(
     bounds: &[u64],
     windows: &[Option<u64>],
 ) -> [u64; 32]
-    requires task { i.0 < length set.now.tasks }
+    requires waits { AreSharedWaitsAt set.now bounds.now i.0 shared.now windows.now }
     requires runner { x.0 < length set.now.tasks }
-    requires shared { AreSharedOut set.now i.0 shared.now }
-    requires within { AreWithinDeadlines set.now bounds.now }
-    requires windows { AreWaitWindows set.now (slice_index bounds.now) i.0 windows.now }
     ensures { AreHeldBeside set.now (slice_index bounds.now) i.0 x.0 result }
 {
     // a set has at most 32 resources
@@ -109,10 +97,7 @@ pub(crate) fn held_beside_each(
     bounds: &[u64],
     windows: &[Option<u64>],
 ) -> Result<HeldBesideTasks, AllocError>
-    requires task { i.0 < length set.now.tasks }
-    requires shared { AreSharedOut set.now i.0 shared.now }
-    requires within { AreWithinDeadlines set.now bounds.now }
-    requires windows { AreWaitWindows set.now (slice_index bounds.now) i.0 windows.now }
+    requires { AreSharedWaitsAt set.now bounds.now i.0 shared.now windows.now }
     ensures { IfOk result (λ v. AreHeldBesideEach set.now (slice_index bounds.now) i.0 v.requests.items) }
 {
     let mut requests = Vec::with_capacity(alloc, set.tasks() as usize)?;

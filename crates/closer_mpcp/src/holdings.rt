@@ -2,12 +2,12 @@
 
 ghost use Rattle.std.specs.Prelude.{◌≡◌, ℕ, ◌<◌, ◌≤◌, ◌&&◌, nat_lt, length, slice_index, IfSome};
 ghost use Rattle.number_laws.specs.Sums.{only_if};
-ghost use Rattle.program_sources.specs.Bounds.{AreWithinDeadlines};
 ghost use Rattle.blocking_columns.specs.Windows.{requests_in, requests_by_higher};
 ghost use Rattle.closer_laws.specs.CloserRows.{is_held_there};
-ghost use Rattle.closer_mpcp_laws.specs.CloserMpcpRows.{is_away, shared_holdings, away_holdings, away_row};
+ghost use Rattle.closer_mpcp_laws.specs.CloserMpcpRows.{is_away, shared_holdings, away_row};
 ghost use Rattle.mpcp_window_laws.specs.WaitRows.{held_in_waits};
 ghost use Rattle.shared_requests.specs.Held.{AreSharedOut};
+ghost use Rattle.closer_mpcp.specs.Given.{AreTwoTasks, AreTaskAndResource, AreTwoTasksAndResource, IsTaskAt, IsRequestAt};
 ghost use Rattle.closer_mpcp.specs.Holdings.{passes, is_lower_at, has_lower, lower_held};
 ghost use Rattle.closer_mpcp.specs.Holdings.{runs_there};
 ghost use Rattle.closer_mpcp.specs.Tables.{AreHeldBesideEach};
@@ -28,11 +28,8 @@ fn requests_away(
     r: ResourceId,
     bounds: &[u64],
 ) -> u64
-    requires task { i.0 < length set.now.tasks }
-    requires runner { x.0 < length set.now.tasks }
-    requires holder { y.0 < length set.now.tasks }
-    requires resource { r.0 < length set.now.resources }
-    requires within { AreWithinDeadlines set.now bounds.now }
+    requires request { IsRequestAt set.now bounds.now i.0 r.0 }
+    requires others { AreTwoTasks set.now x.0 y.0 }
     ensures value { result ≡ only_if (nat_lt y.0 i.0 && is_away set.now x.0 y.0) (requests_in set.now (slice_index bounds.now) i.0 y.0 r.0) }
     ensures most { result ≤ 2000000000000 }
 {
@@ -45,10 +42,8 @@ fn requests_away(
 
 // How many requests of `r` can higher tasks than `i` make there within the bound of a job of `i`?
 fn higher_away(set: &TaskSet, i: TaskId, x: TaskId, r: ResourceId, bounds: &[u64]) -> u64
-    requires task { i.0 < length set.now.tasks }
+    requires request { IsRequestAt set.now bounds.now i.0 r.0 }
     requires runner { x.0 < length set.now.tasks }
-    requires resource { r.0 < length set.now.resources }
-    requires within { AreWithinDeadlines set.now bounds.now }
     ensures value { result ≡ requests_by_higher set.now (slice_index bounds.now) i.0 (is_away set.now x.0) r.0 }
     ensures most { result ≤ 128000000000000 }
 {
@@ -65,8 +60,7 @@ fn higher_away(set: &TaskSet, i: TaskId, x: TaskId, r: ResourceId, bounds: &[u64
 // Is `y` a lower task than `i` at this place of `x`?
 fn is_lower_at(set: &TaskSet, place: Place, i: TaskId, x: TaskId, y: TaskId) -> bool
     requires task { i.0 < length set.now.tasks }
-    requires runner { x.0 < length set.now.tasks }
-    requires other { y.0 < length set.now.tasks }
+    requires others { AreTwoTasks set.now x.0 y.0 }
     ensures { result ≡ (nat_lt i.0 y.0 && is_lower_at place set.now i.0 x.0 y.0) }
 {
     let lower = i < y;
@@ -78,9 +72,7 @@ fn is_lower_at(set: &TaskSet, place: Place, i: TaskId, x: TaskId, y: TaskId) -> 
 
 // Is there one that uses `r`?
 fn has_lower(set: &TaskSet, place: Place, i: TaskId, x: TaskId, r: ResourceId) -> bool
-    requires task { i.0 < length set.now.tasks }
-    requires runner { x.0 < length set.now.tasks }
-    requires resource { r.0 < length set.now.resources }
+    requires { AreTwoTasksAndResource set.now i.0 x.0 r.0 }
     ensures { result ≡ has_lower place set.now i.0 x.0 r.0 }
 {
     let users = set.users(r);
@@ -94,9 +86,7 @@ fn has_lower(set: &TaskSet, place: Place, i: TaskId, x: TaskId, r: ResourceId) -
 
 /// How many requests of `r` can lower tasks than `i` at this place of `x` hold while a job of `i` waits for them?
 pub(crate) fn lower_held(set: &TaskSet, place: Place, i: TaskId, x: TaskId, r: ResourceId) -> u64
-    requires task { i.0 < length set.now.tasks }
-    requires runner { x.0 < length set.now.tasks }
-    requires resource { r.0 < length set.now.resources }
+    requires { AreTwoTasksAndResource set.now i.0 x.0 r.0 }
     ensures value { result ≡ lower_held place set.now i.0 x.0 r.0 }
     ensures most { result ≤ 1000 }
 {
@@ -115,9 +105,8 @@ fn count_if_passing(
     r: ResourceId,
     held: u64,
 ) -> u64
-    requires runner { x.0 < length set.now.tasks }
+    requires held { AreTaskAndResource set.now x.0 r.0 }
     requires first { IfSome q (λ a. a.0 < length set.now.resources) }
-    requires resource { r.0 < length set.now.resources }
     ensures { result ≡ only_if (passes set.now x.0 q r.0) held }
 {
     // beside most tasks nothing is held, and what passes costs more to tell
@@ -138,8 +127,7 @@ pub(crate) fn shared_holdings(
     bounds: &[u64],
     held: &HeldBesideTasks,
 ) -> u64
-    requires task { i.0 < length set.now.tasks }
-    requires runner { x.0 < length set.now.tasks }
+    requires tasks { AreTwoTasks set.now i.0 x.0 }
     requires first { IfSome q (λ a. a.0 < length set.now.resources) }
     requires held { AreHeldBesideEach set.now (slice_index bounds.now) i.0 held.now.requests.items }
     ensures value { result ≡ shared_holdings set.now (held_in_waits set.now i.0 (slice_index bounds.now) x.0) i.0 x.0 (passes set.now x.0 q) }
@@ -158,9 +146,7 @@ pub(crate) fn shared_holdings(
 
 // May `i` wait for `r` while a task of `x`'s processor holds it?
 fn is_held_there(set: &TaskSet, i: TaskId, x: TaskId, r: ResourceId, shared: &[bool]) -> bool
-    requires task { i.0 < length set.now.tasks }
-    requires runner { x.0 < length set.now.tasks }
-    requires resource { r.0 < length set.now.resources }
+    requires request { AreTwoTasksAndResource set.now i.0 x.0 r.0 }
     requires shared { AreSharedOut set.now i.0 shared.now }
     ensures { result ≡ is_held_there set.now i.0 x.0 r.0 }
 {
@@ -169,10 +155,8 @@ fn is_held_there(set: &TaskSet, i: TaskId, x: TaskId, r: ResourceId, shared: &[b
 
 // How many requests of `x` can then run while `i` waits for `r`?
 fn runs_there(set: &TaskSet, i: TaskId, x: TaskId, r: ResourceId, bounds: &[u64]) -> u64
-    requires task { i.0 < length set.now.tasks }
+    requires request { IsRequestAt set.now bounds.now i.0 r.0 }
     requires runner { x.0 < length set.now.tasks }
-    requires resource { r.0 < length set.now.resources }
-    requires within { AreWithinDeadlines set.now bounds.now }
     ensures value { result ≡ runs_there set.now (slice_index bounds.now) i.0 x.0 r.0 }
     ensures most { result ≤ 128000000002000 }
 {
@@ -189,11 +173,9 @@ fn run_of(
     shared: &[bool],
     bounds: &[u64],
 ) -> u64
-    requires task { i.0 < length set.now.tasks }
+    requires request { IsRequestAt set.now bounds.now i.0 r.0 }
     requires runner { x.0 < length set.now.tasks }
-    requires resource { r.0 < length set.now.resources }
     requires shared { AreSharedOut set.now i.0 shared.now }
-    requires within { AreWithinDeadlines set.now bounds.now }
     ensures value { result ≡ only_if (is_held_there set.now i.0 x.0 r.0) (runs_there set.now (slice_index bounds.now) i.0 x.0 r.0) }
     ensures most { result ≤ 128000000002000 }
 {
@@ -213,10 +195,9 @@ pub(crate) fn run_beside_away_holdings(
     shared: &[bool],
     bounds: &[u64],
 ) -> u64
-    requires task { i.0 < length set.now.tasks }
+    requires task { IsTaskAt set.now bounds.now i.0 }
     requires runner { x.0 < length set.now.tasks }
     requires shared { AreSharedOut set.now i.0 shared.now }
-    requires within { AreWithinDeadlines set.now bounds.now }
     ensures { result ≡ (away_row set.now i.0 x.0).limit (slice_index bounds.now) }
 {
     // a set has at most 32 resources, so the sum fits

@@ -2,9 +2,9 @@
 
 ghost use Rattle.std.specs.Prelude.{◌≡◌, ℕ, ◌<◌, ◌≤◌, true, length, slice_index, IsTrue};
 ghost use Rattle.sporadic_model.specs.Users.{is_user};
-ghost use Rattle.program_sources.specs.Bounds.{AreWithinDeadlines};
 ghost use Rattle.blocking_columns.specs.Windows.{jobs_during};
 ghost use Rattle.mpcp_window_laws.specs.KeptWindows.{KeepsWindow, KeepsWindows};
+ghost use Rattle.closer_mpcp.specs.Given.{AreTaskAndResource, AreTwoBounds};
 
 use crate::lower_holders::other_holders;
 use crate::searching::window_with;
@@ -22,8 +22,7 @@ fn keeps_jobs_of_users(
 ) -> bool
     requires resource { q.0 < length set.now.resources }
     requires span { span ≤ 1000000000 }
-    requires earlier { AreWithinDeadlines set.now earlier.now }
-    requires within { AreWithinDeadlines set.now bounds.now }
+    requires bounds { AreTwoBounds set.now earlier.now bounds.now }
     ensures { IsTrue result → (x : ℕ) → x < length set.now.tasks → is_user set.now q.0 x ≡ true
         → jobs_during set.now (slice_index earlier.now) span x ≡ jobs_during set.now (slice_index bounds.now) span x }
 {
@@ -40,10 +39,8 @@ fn keeps_jobs_of_users(
 
 // Has a request of `q` by `i` the same window at these bounds as at the earlier ones, and can as many jobs run in it?
 fn keeps_window(set: &TaskSet, i: TaskId, q: ResourceId, earlier: &[u64], bounds: &[u64]) -> bool
-    requires task { i.0 < length set.now.tasks }
-    requires resource { q.0 < length set.now.resources }
-    requires earlier { AreWithinDeadlines set.now earlier.now }
-    requires within { AreWithinDeadlines set.now bounds.now }
+    requires request { AreTaskAndResource set.now i.0 q.0 }
+    requires bounds { AreTwoBounds set.now earlier.now bounds.now }
     ensures { IsTrue result → KeepsWindow set.now (slice_index earlier.now) (slice_index bounds.now) i.0 q.0 }
 {
     // no deadline is above the limits of every set
@@ -62,8 +59,7 @@ fn keeps_window(set: &TaskSet, i: TaskId, q: ResourceId, earlier: &[u64], bounds
 /// Is that so for each resource that `i` requests?
 pub(crate) fn keeps_windows(set: &TaskSet, i: TaskId, earlier: &[u64], bounds: &[u64]) -> bool
     requires task { i.0 < length set.now.tasks }
-    requires earlier { AreWithinDeadlines set.now earlier.now }
-    requires within { AreWithinDeadlines set.now bounds.now }
+    requires bounds { AreTwoBounds set.now earlier.now bounds.now }
     ensures { IsTrue result → KeepsWindows set.now i.0 earlier.now bounds.now }
 {
     for q in 0..set.resources() {

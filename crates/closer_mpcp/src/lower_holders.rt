@@ -3,6 +3,7 @@
 ghost use Rattle.std.specs.Prelude.{◌≡◌, ◌<◌, ◌≤◌, length};
 ghost use Rattle.number_laws.specs.Sums.{only_if};
 ghost use Rattle.mpcp_window_laws.specs.MpcpWindows.{may_run_instead, holding_ticks, may_hold_before, longest_lower_holding};
+ghost use Rattle.closer_mpcp.specs.Given.{AreTwoTasks, AreTaskAndResource, AreTwoTasksAndResource};
 ghost use Rattle.closer_mpcp.specs.Tables.{AreFirst, AreHolders};
 
 use crate::first_ticks::{FirstTicks, first_of_tasks};
@@ -20,8 +21,7 @@ pub(crate) struct OtherHolders {
 
 // May a request of `x` run in place of `y`'s, for which `i` waits?
 fn may_run_instead(set: &TaskSet, i: TaskId, y: TaskId, x: TaskId) -> bool
-    requires holder { y.0 < length set.now.tasks }
-    requires runner { x.0 < length set.now.tasks }
+    requires { AreTwoTasks set.now x.0 y.0 }
     ensures { result ≡ may_run_instead set.now i.0 y.0 x.0 }
 {
     x != y && share_processor(set, x, y) && x != i
@@ -29,8 +29,7 @@ fn may_run_instead(set: &TaskSet, i: TaskId, y: TaskId, x: TaskId) -> bool
 
 // For how many ticks may `y` hold `q` while `i` waits?
 fn holding_ticks(set: &TaskSet, i: TaskId, q: ResourceId, first: &[FirstTicks], y: TaskId) -> u64
-    requires resource { q.0 < length set.now.resources }
-    requires holder { y.0 < length set.now.tasks }
+    requires held { AreTaskAndResource set.now y.0 q.0 }
     requires first { AreFirst set.now q.0 first.now }
     ensures value { result ≡ holding_ticks set.now i.0 q.0 y.0 }
     ensures most { result ≤ 65000000000 }
@@ -46,9 +45,7 @@ fn holding_ticks(set: &TaskSet, i: TaskId, q: ResourceId, first: &[FirstTicks], 
 
 // May the lower task `y` hold `q` when `i` issues its request?
 fn may_hold_before(set: &TaskSet, i: TaskId, q: ResourceId, y: TaskId) -> bool
-    requires task { i.0 < length set.now.tasks }
-    requires resource { q.0 < length set.now.resources }
-    requires holder { y.0 < length set.now.tasks }
+    requires { AreTwoTasksAndResource set.now i.0 y.0 q.0 }
     ensures { result ≡ may_hold_before set.now i.0 q.0 y.0 }
 {
     i < y && uses(set, y, q) && !share_processor(set, y, i)
@@ -56,9 +53,7 @@ fn may_hold_before(set: &TaskSet, i: TaskId, q: ResourceId, y: TaskId) -> bool
 
 // For how many ticks may it hold `q` then?
 fn lower_holding(set: &TaskSet, i: TaskId, q: ResourceId, first: &[FirstTicks], y: TaskId) -> u64
-    requires task { i.0 < length set.now.tasks }
-    requires resource { q.0 < length set.now.resources }
-    requires holder { y.0 < length set.now.tasks }
+    requires held { AreTwoTasksAndResource set.now i.0 y.0 q.0 }
     requires first { AreFirst set.now q.0 first.now }
     ensures value { result ≡ only_if (may_hold_before set.now i.0 q.0 y.0) (holding_ticks set.now i.0 q.0 y.0) }
     ensures most { result ≤ 65000000000 }
@@ -72,8 +67,7 @@ fn lower_holding(set: &TaskSet, i: TaskId, q: ResourceId, first: &[FirstTicks], 
 
 // For how many ticks may the longest such holding last?
 fn longest_lower_holding(set: &TaskSet, i: TaskId, q: ResourceId, first: &[FirstTicks]) -> u64
-    requires task { i.0 < length set.now.tasks }
-    requires resource { q.0 < length set.now.resources }
+    requires request { AreTaskAndResource set.now i.0 q.0 }
     requires first { AreFirst set.now q.0 first.now }
     ensures value { result ≡ longest_lower_holding set.now i.0 q.0 }
     ensures most { result ≤ 65000000000 }
@@ -88,8 +82,7 @@ fn longest_lower_holding(set: &TaskSet, i: TaskId, q: ResourceId, first: &[First
 
 /// What others may do with `q` while `i` waits for it.
 pub(crate) fn other_holders(set: &TaskSet, i: TaskId, q: ResourceId) -> OtherHolders
-    requires task { i.0 < length set.now.tasks }
-    requires resource { q.0 < length set.now.resources }
+    requires { AreTaskAndResource set.now i.0 q.0 }
     ensures { AreHolders set.now i.0 q.0 result }
 {
     let first = first_of_tasks(set, q);

@@ -1,6 +1,7 @@
 //! Where other tasks may hold what the analysed task waits for.
 
-ghost use Rattle.std.specs.Prelude.{◌≡◌, ◌<◌, length};
+ghost use Rattle.std.specs.Prelude.{◌≡◌};
+ghost use Rattle.closer_mpcp.specs.Given.{AreTwoTasks};
 ghost use Rattle.closer_mpcp.specs.Holdings.{is_at};
 
 use fragments::share_processor;
@@ -17,8 +18,7 @@ pub(crate) enum Place {
 
 /// Is a higher task `y` at this place of `x`?
 pub(crate) fn is_at(set: &TaskSet, place: Place, x: TaskId, y: TaskId) -> bool
-    requires task { x.0 < length set.now.tasks }
-    requires other { y.0 < length set.now.tasks }
+    requires { AreTwoTasks set.now x.0 y.0 }
     ensures { result ≡ is_at place set.now x.0 y.0 }
 {
     let there = share_processor(set, y, x);

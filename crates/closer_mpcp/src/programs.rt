@@ -8,6 +8,7 @@ ghost use Rattle.blocking_columns.specs.ColumnDef.{column_seen};
 ghost use Rattle.blocking_columns.specs.Columns.{columns_of};
 ghost use Rattle.mpcp_window_laws.specs.WaitRows.{mpcp_closer_rows, mpcp_closer_program};
 ghost use Rattle.mpcp_window_laws.proofs.Programs.{mpcp_closer_is_program};
+ghost use Rattle.closer_mpcp.specs.Given.{IsTaskAt};
 
 use crate::rows::add_closer_rows;
 use fragments::{Fragment, RowTaker, columns_stand_in_order, fragments};
@@ -25,8 +26,7 @@ fn add_rows<T: RowTaker>(
     bounds: &[u64],
     columns: &[Fragment],
 ) -> Result<(), AllocError>
-    requires task { i.0 < length set.now.tasks }
-    requires within { AreWithinDeadlines set.now bounds.now }
+    requires task { IsTaskAt set.now bounds.now i.0 }
     requires columns { map column_seen columns.now ≡ columns_of protocol.Mpcp set.now i.0 }
     ensures { OnOk result (T.takes taker.old (map column_seen columns.now) (mpcp_closer_rows set.now i.0) bounds.now taker.new) }
 {

@@ -1,21 +1,19 @@
 //! The closer rows.
 
-ghost use Rattle.std.specs.Prelude.{◌≡◌, ◌<◌, ◌≤◌, ◌+◌, ◌==◌, ◌&&◌, not, false, [], ◌∷◌, ◌++◌, map, length, slice_index, OnOk, if◌then◌else◌};
+ghost use Rattle.std.specs.Prelude.{◌≡◌, ◌<◌, ◌≤◌, ◌+◌, ◌&&◌, not, false, [], ◌∷◌, ◌++◌, map, length, slice_index, OnOk, if◌then◌else◌};
 ghost use Rattle.std.specs.List.{AllWithin};
 ghost use Rattle.std.proofs.Common.{ap};
 ghost use Rattle.number_laws.specs.Sums.{flag};
-ghost use Rattle.program_sources.specs.Bounds.{AreWithinDeadlines};
 ghost use Rattle.blocking_columns.specs.declared.columns.Class.TheVariants.{Indirect, Preemption};
 ghost use Rattle.blocking_columns.specs.ColumnDef.{column_seen, is_class, AreKnown};
 ghost use Rattle.blocking_columns.specs.Columns.{is_lower_local};
 ghost use Rattle.fragments.specs.Constraints.{per, per_pair, per_where};
-ghost use Rattle.blocking_columns.specs.Stretches.{AreInOrder};
-ghost use Rattle.blocking_columns.specs.TaskPlaces.{ArePlaces};
 ghost use Rattle.closer_laws.specs.CloserRows.{is_shared_out, requests_where, local_preemption_row};
 ghost use Rattle.closer_mpcp_laws.specs.CloserMpcpRows.{shared_holding_row, resource_holding_row, away_row};
 ghost use Rattle.closer_mpcp_laws.specs.CloserMpcpRows.{shared_interval_row, lower_wait_row, further_rows};
 ghost use Rattle.mpcp_window_laws.specs.WaitRows.{held_in_waits, wait_rows};
 ghost use Rattle.shared_requests.specs.Held.{AreSharedOut};
+ghost use Rattle.closer_mpcp.specs.Given.{IsTaskAt, AreLaidOut};
 ghost use Rattle.closer_mpcp.specs.Tables.{AreHeldBesideEach};
 ghost use Rattle.closer_mpcp.specs.Windows.{AreWaitWindows};
 
@@ -277,11 +275,7 @@ fn add_holding_rows<T: RowTaker>(
     places: &[TaskPlace],
     held: &HeldBesideTasks,
 ) -> Result<(), AllocError>
-    requires task { i.0 < length set.now.tasks }
-    requires within { AreWithinDeadlines set.now bounds.now }
-    requires known { AreKnown (length set.now.tasks) (length set.now.resources) columns.now }
-    requires order { AreInOrder columns.now }
-    requires places { ArePlaces set.now (slice_index bounds.now) i.0 (length set.now.tasks) columns.now places.now }
+    requires columns { AreLaidOut set.now bounds.now i.0 columns.now places.now }
     requires held { AreHeldBesideEach set.now (slice_index bounds.now) i.0 held.now.requests.items }
     ensures { OnOk result (T.takes taker.old (map column_seen columns.now)
         (per (length set.now.tasks) (shared_holding_row set.now (held_in_waits set.now i.0) i.0)
@@ -317,11 +311,7 @@ fn add_interval_rows<T: RowTaker>(
     places: &[TaskPlace],
     intervals: u64,
 ) -> Result<(), AllocError>
-    requires task { i.0 < length set.now.tasks }
-    requires within { AreWithinDeadlines set.now bounds.now }
-    requires known { AreKnown (length set.now.tasks) (length set.now.resources) columns.now }
-    requires order { AreInOrder columns.now }
-    requires places { ArePlaces set.now (slice_index bounds.now) i.0 (length set.now.tasks) columns.now places.now }
+    requires columns { AreLaidOut set.now bounds.now i.0 columns.now places.now }
     requires intervals { intervals ≡ 1 + requests_where set.now i.0 (is_shared_out set.now i.0) }
     ensures { OnOk result (T.takes taker.old (map column_seen columns.now)
         (per_where (is_lower_local set.now i.0) (length set.now.tasks) (shared_interval_row set.now i.0)) bounds.now taker.new) }
@@ -340,8 +330,7 @@ fn add_single_rows<T: RowTaker>(
     columns: &[Fragment],
     intervals: u64,
 ) -> Result<(), AllocError>
-    requires task { i.0 < length set.now.tasks }
-    requires within { AreWithinDeadlines set.now bounds.now }
+    requires task { IsTaskAt set.now bounds.now i.0 }
     requires known { AreKnown (length set.now.tasks) (length set.now.resources) columns.now }
     requires intervals { intervals ≡ 1 + requests_where set.now i.0 (is_shared_out set.now i.0) }
     ensures { OnOk result (T.takes taker.old (map column_seen columns.now)
@@ -374,11 +363,7 @@ fn add_further_rows<T: RowTaker>(
     places: &[TaskPlace],
     windows: &[Option<u64>],
 ) -> Result<(), AllocError>
-    requires task { i.0 < length set.now.tasks }
-    requires within { AreWithinDeadlines set.now bounds.now }
-    requires known { AreKnown (length set.now.tasks) (length set.now.resources) columns.now }
-    requires order { AreInOrder columns.now }
-    requires places { ArePlaces set.now (slice_index bounds.now) i.0 (length set.now.tasks) columns.now places.now }
+    requires columns { AreLaidOut set.now bounds.now i.0 columns.now places.now }
     requires windows { AreWaitWindows set.now (slice_index bounds.now) i.0 windows.now }
     ensures { OnOk result (T.takes taker.old (map column_seen columns.now) (further_rows set.now (held_in_waits set.now i.0) i.0)
         bounds.now taker.new) }
@@ -404,11 +389,7 @@ pub(crate) fn add_closer_rows<T: RowTaker>(
     columns: &[Fragment],
     places: &[TaskPlace],
 ) -> Result<(), AllocError>
-    requires task { i.0 < length set.now.tasks }
-    requires within { AreWithinDeadlines set.now bounds.now }
-    requires known { AreKnown (length set.now.tasks) (length set.now.resources) columns.now }
-    requires order { AreInOrder columns.now }
-    requires places { ArePlaces set.now (slice_index bounds.now) i.0 (length set.now.tasks) columns.now places.now }
+    requires { AreLaidOut set.now bounds.now i.0 columns.now places.now }
     ensures { OnOk result (T.takes taker.old (map column_seen columns.now)
         (further_rows set.now (held_in_waits set.now i.0) i.0 ++ wait_rows set.now i.0) bounds.now taker.new) }
 {

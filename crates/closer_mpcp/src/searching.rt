@@ -1,9 +1,9 @@
 //! The window of a request.
 
-ghost use Rattle.std.specs.Prelude.{◌≡◌, ◌<◌, ◌≤◌, length, slice_index, IfSome};
+ghost use Rattle.std.specs.Prelude.{◌≡◌, ◌<◌, ◌≤◌, slice_index, IfSome};
 ghost use Rattle.sporadic_model.specs.SetDef.{task_at};
-ghost use Rattle.program_sources.specs.Bounds.{AreWithinDeadlines};
 ghost use Rattle.mpcp_window_laws.specs.MpcpWindows.{wait_window};
+ghost use Rattle.closer_mpcp.specs.Given.{IsRequestAt};
 ghost use Rattle.closer_mpcp.specs.Tables.{AreHolders};
 
 use crate::lower_holders::{OtherHolders, other_holders};
@@ -21,9 +21,7 @@ pub(crate) fn window_with(
     bounds: &[u64],
     holders: &OtherHolders,
 ) -> Option<u64>
-    requires task { i.0 < length set.now.tasks }
-    requires resource { q.0 < length set.now.resources }
-    requires within { AreWithinDeadlines set.now bounds.now }
+    requires request { IsRequestAt set.now bounds.now i.0 q.0 }
     requires holders { AreHolders set.now i.0 q.0 holders.now }
     ensures value { result ≡ wait_window set.now (slice_index bounds.now) i.0 q.0 }
     ensures within { IfSome result (λ w. (1 ≤ w) × (w ≤ (task_at set.now i.0).deadline)) }
@@ -42,9 +40,7 @@ pub(crate) fn window_with(
 
 /// The same, where it isn't known yet what others may do with `q`.
 pub(crate) fn wait_window(set: &TaskSet, i: TaskId, q: ResourceId, bounds: &[u64]) -> Option<u64>
-    requires task { i.0 < length set.now.tasks }
-    requires resource { q.0 < length set.now.resources }
-    requires within { AreWithinDeadlines set.now bounds.now }
+    requires { IsRequestAt set.now bounds.now i.0 q.0 }
     ensures value { result ≡ wait_window set.now (slice_index bounds.now) i.0 q.0 }
     ensures within { IfSome result (λ w. (1 ≤ w) × (w ≤ (task_at set.now i.0).deadline)) }
 {

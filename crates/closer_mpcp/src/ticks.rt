@@ -2,9 +2,9 @@
 
 ghost use Rattle.std.specs.Prelude.{◌≡◌, ◌<◌, ◌≤◌, ◌*◌, nat_lt, length, slice_index};
 ghost use Rattle.number_laws.specs.Sums.{only_if, sum_below};
-ghost use Rattle.program_sources.specs.Bounds.{AreWithinDeadlines};
 ghost use Rattle.blocking_columns.specs.Windows.{jobs_during, requests_during};
 ghost use Rattle.mpcp_window_laws.specs.MpcpWindows.{own_ticks, holdings_beside, ticks_instead, ticks_held};
+ghost use Rattle.closer_mpcp.specs.Given.{AreJobsIn, AreRequestsIn};
 ghost use Rattle.closer_mpcp.specs.Tables.{AreFirst, AreHoldings, AreHolders};
 
 use crate::first_ticks::FirstTicks;
@@ -13,9 +13,7 @@ use sporadic_model::{ResourceId, TaskId, TaskSet, jobs_in};
 
 /// How many jobs of `x` can run in a span of ticks?
 pub(crate) fn jobs_during(set: &TaskSet, bounds: &[u64], span: u64, x: TaskId) -> u64
-    requires task { x.0 < length set.now.tasks }
-    requires within { AreWithinDeadlines set.now bounds.now }
-    requires span { span ≤ 1000000000 }
+    requires { AreJobsIn set.now bounds.now span x.0 }
     ensures value { result ≡ jobs_during set.now (slice_index bounds.now) span x.0 }
     ensures most { result ≤ 2000000000 }
 {
@@ -27,9 +25,7 @@ pub(crate) fn jobs_during(set: &TaskSet, bounds: &[u64], span: u64, x: TaskId) -
 
 // For how many ticks may requests of these jobs run, if those of one job run for `time`?
 fn ticks_of_jobs(set: &TaskSet, bounds: &[u64], span: u64, x: TaskId, time: u64) -> u128
-    requires task { x.0 < length set.now.tasks }
-    requires within { AreWithinDeadlines set.now bounds.now }
-    requires span { span ≤ 1000000000 }
+    requires jobs { AreJobsIn set.now bounds.now span x.0 }
     requires time { time ≤ 32000000000000 }
     ensures value { result ≡ jobs_during set.now (slice_index bounds.now) span x.0 * time }
     ensures most { result ≤ 64000000000000000000000 }
@@ -46,10 +42,7 @@ fn own_ticks_of(
     span: u64,
     x: TaskId,
 ) -> u128
-    requires resource { q.0 < length set.now.resources }
-    requires other { x.0 < length set.now.tasks }
-    requires within { AreWithinDeadlines set.now bounds.now }
-    requires span { span ≤ 1000000000 }
+    requires { AreRequestsIn set.now bounds.now span x.0 q.0 }
     ensures value { result ≡ only_if (nat_lt x.0 i.0) (own_ticks set.now (slice_index bounds.now) q.0 span x.0) }
     ensures most { result ≤ 64000000000000000000000 }
 {
@@ -63,10 +56,7 @@ fn own_ticks_of(
 
 // For how many ticks may requests of `q` by tasks higher than `i` run?
 fn own_ticks(set: &TaskSet, i: TaskId, q: ResourceId, bounds: &[u64], span: u64) -> u128
-    requires task { i.0 < length set.now.tasks }
-    requires resource { q.0 < length set.now.resources }
-    requires within { AreWithinDeadlines set.now bounds.now }
-    requires span { span ≤ 1000000000 }
+    requires { AreRequestsIn set.now bounds.now span i.0 q.0 }
     ensures value { result ≡ sum_below i.0 (own_ticks set.now (slice_index bounds.now) q.0 span) }
     ensures most { result ≤ 4096000000000000000000000 }
 {
@@ -82,10 +72,7 @@ fn own_ticks(set: &TaskSet, i: TaskId, q: ResourceId, bounds: &[u64], span: u64)
 
 // How often may jobs of `y` hold `q` in the span, if it is higher than `i`?
 fn holdings_by(set: &TaskSet, i: TaskId, q: ResourceId, bounds: &[u64], span: u64, y: TaskId) -> u64
-    requires resource { q.0 < length set.now.resources }
-    requires holder { y.0 < length set.now.tasks }
-    requires within { AreWithinDeadlines set.now bounds.now }
-    requires span { span ≤ 1000000000 }
+    requires { AreRequestsIn set.now bounds.now span y.0 q.0 }
     ensures value { result ≡ only_if (nat_lt y.0 i.0) (requests_during set.now (slice_index bounds.now) span y.0 q.0) }
     ensures most { result ≤ 2000000000000 }
 {
@@ -100,10 +87,7 @@ fn holdings_by(set: &TaskSet, i: TaskId, q: ResourceId, bounds: &[u64], span: u6
 
 // How often may jobs of higher tasks hold it so, on each processor?
 fn holdings_on(set: &TaskSet, i: TaskId, q: ResourceId, bounds: &[u64], span: u64) -> [u64; 65]
-    requires task { i.0 < length set.now.tasks }
-    requires resource { q.0 < length set.now.resources }
-    requires within { AreWithinDeadlines set.now bounds.now }
-    requires span { span ≤ 1000000000 }
+    requires { AreRequestsIn set.now bounds.now span i.0 q.0 }
     ensures { AreHoldings set.now (slice_index bounds.now) i.0 q.0 span result }
 {
     // a set has at most 64 tasks, so each sum fits, and at most 64 processors, which are counted from 1
@@ -127,11 +111,8 @@ fn holdings_beside(
     holdings: &[u64],
     x: TaskId,
 ) -> u64
-    requires task { i.0 < length set.now.tasks }
-    requires resource { q.0 < length set.now.resources }
+    requires request { AreRequestsIn set.now bounds.now span i.0 q.0 }
     requires runner { x.0 < length set.now.tasks }
-    requires within { AreWithinDeadlines set.now bounds.now }
-    requires span { span ≤ 1000000000 }
     requires holdings { AreHoldings set.now (slice_index bounds.now) i.0 q.0 span holdings.now }
     ensures value { result ≡ holdings_beside set.now (slice_index bounds.now) i.0 q.0 span x.0 }
     ensures most { result ≤ 128000000000000 }
@@ -155,12 +136,9 @@ fn ticks_by(
     holdings: &[u64],
     x: TaskId,
 ) -> u128
-    requires task { i.0 < length set.now.tasks }
-    requires resource { q.0 < length set.now.resources }
+    requires request { AreRequestsIn set.now bounds.now span i.0 q.0 }
     requires runner { x.0 < length set.now.tasks }
-    requires within { AreWithinDeadlines set.now bounds.now }
     requires first { AreFirst set.now q.0 first.now }
-    requires span { span ≤ 1000000000 }
     requires holdings { AreHoldings set.now (slice_index bounds.now) i.0 q.0 span holdings.now }
     ensures value { result ≡ ticks_instead set.now (slice_index bounds.now) i.0 q.0 span x.0 }
     ensures most { result ≤ 64000000000000000000000 }
@@ -188,11 +166,8 @@ fn ticks_instead(
     first: &[FirstTicks],
     span: u64,
 ) -> u128
-    requires task { i.0 < length set.now.tasks }
-    requires resource { q.0 < length set.now.resources }
-    requires within { AreWithinDeadlines set.now bounds.now }
+    requires request { AreRequestsIn set.now bounds.now span i.0 q.0 }
     requires first { AreFirst set.now q.0 first.now }
-    requires span { span ≤ 1000000000 }
     ensures value { result ≡ sum_below (length set.now.tasks) (ticks_instead set.now (slice_index bounds.now) i.0 q.0 span) }
     ensures most { result ≤ 4096000000000000000000000 }
 {
@@ -213,11 +188,8 @@ pub(crate) fn ticks_held(
     holders: &OtherHolders,
     span: u64,
 ) -> u128
-    requires task { i.0 < length set.now.tasks }
-    requires resource { q.0 < length set.now.resources }
-    requires within { AreWithinDeadlines set.now bounds.now }
+    requires request { AreRequestsIn set.now bounds.now span i.0 q.0 }
     requires holders { AreHolders set.now i.0 q.0 holders.now }
-    requires span { span ≤ 1000000000 }
     ensures { result ≡ ticks_held set.now (slice_index bounds.now) i.0 q.0 span }
 {
     // a set has at most 64 tasks, so the sum fits

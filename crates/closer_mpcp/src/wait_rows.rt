@@ -1,11 +1,9 @@
 //! The rows of waits.
 
 ghost use Rattle.std.specs.Prelude.{◌≡◌, ◌<◌, map, length, slice_index, OnOk};
-ghost use Rattle.program_sources.specs.Bounds.{AreWithinDeadlines};
-ghost use Rattle.blocking_columns.specs.ColumnDef.{column_seen, AreKnown};
-ghost use Rattle.blocking_columns.specs.Stretches.{AreInOrder};
-ghost use Rattle.blocking_columns.specs.TaskPlaces.{ArePlaces};
+ghost use Rattle.blocking_columns.specs.ColumnDef.{column_seen};
 ghost use Rattle.mpcp_window_laws.specs.WaitRows.{direct_wait_row, wait_rows};
+ghost use Rattle.closer_mpcp.specs.Given.{AreLaidOut};
 ghost use Rattle.closer_mpcp.specs.Windows.{AreWaitWindows};
 
 use crate::waits::requests_in_waits;
@@ -85,11 +83,7 @@ pub(crate) fn add_wait_rows<T: RowTaker>(
     places: &[TaskPlace],
     windows: &[Option<u64>],
 ) -> Result<(), AllocError>
-    requires task { i.0 < length set.now.tasks }
-    requires within { AreWithinDeadlines set.now bounds.now }
-    requires known { AreKnown (length set.now.tasks) (length set.now.resources) columns.now }
-    requires order { AreInOrder columns.now }
-    requires places { ArePlaces set.now (slice_index bounds.now) i.0 (length set.now.tasks) columns.now places.now }
+    requires columns { AreLaidOut set.now bounds.now i.0 columns.now places.now }
     requires windows { AreWaitWindows set.now (slice_index bounds.now) i.0 windows.now }
     ensures { OnOk result (T.takes taker.old (map column_seen columns.now) (wait_rows set.now i.0) bounds.now taker.new) }
 {

@@ -1,11 +1,10 @@
 //! How many requests of other tasks can run, and how many can be held, while the analysed task waits for a resource.
 
-ghost use Rattle.std.specs.Prelude.{◌≡◌, ◌<◌, ◌≤◌, ◌&&◌, nat_lt, length, slice_index};
+ghost use Rattle.std.specs.Prelude.{◌≡◌, ◌<◌, ◌≤◌, ◌&&◌, nat_lt, slice_index};
 ghost use Rattle.number_laws.specs.Sums.{only_if};
-ghost use Rattle.program_sources.specs.Bounds.{AreWithinDeadlines};
 ghost use Rattle.indirect_constraints.specs.Rows.{is_beside};
 ghost use Rattle.mpcp_window_laws.specs.WaitRows.{requests_in_windows, requests_in_waits, held_in_waits};
-ghost use Rattle.closer_mpcp.specs.Windows.{AreWaitWindows};
+ghost use Rattle.closer_mpcp.specs.Given.{AreTaskAndResource, AreTwoTasksAndResource, AreWaitsAt};
 
 use crate::places::{Place, is_at};
 use crate::ticks::jobs_during;
@@ -22,11 +21,8 @@ fn requests_in_windows(
     bounds: &[u64],
     windows: &[Option<u64>],
 ) -> u64
-    requires task { i.0 < length set.now.tasks }
-    requires other { x.0 < length set.now.tasks }
-    requires resource { q.0 < length set.now.resources }
-    requires within { AreWithinDeadlines set.now bounds.now }
-    requires windows { AreWaitWindows set.now (slice_index bounds.now) i.0 windows.now }
+    requires waits { AreWaitsAt set.now bounds.now i.0 windows.now }
+    requires other { AreTaskAndResource set.now x.0 q.0 }
     ensures value { result ≡ requests_in_windows set.now (slice_index bounds.now) i.0 q.0 x.0 q.0 }
     ensures most { result ≤ 2000000000000000 }
 {
@@ -50,11 +46,8 @@ pub(crate) fn requests_in_waits(
     bounds: &[u64],
     windows: &[Option<u64>],
 ) -> u64
-    requires task { i.0 < length set.now.tasks }
-    requires other { x.0 < length set.now.tasks }
-    requires resource { q.0 < length set.now.resources }
-    requires within { AreWithinDeadlines set.now bounds.now }
-    requires windows { AreWaitWindows set.now (slice_index bounds.now) i.0 windows.now }
+    requires waits { AreWaitsAt set.now bounds.now i.0 windows.now }
+    requires other { AreTaskAndResource set.now x.0 q.0 }
     ensures value { result ≡ requests_in_waits set.now (slice_index bounds.now) i.0 q.0 x.0 q.0 }
     ensures most { result ≤ 2000000000000 }
 {
@@ -72,12 +65,8 @@ fn held_by(
     bounds: &[u64],
     windows: &[Option<u64>],
 ) -> u64
-    requires task { i.0 < length set.now.tasks }
-    requires runner { x.0 < length set.now.tasks }
-    requires holder { y.0 < length set.now.tasks }
-    requires resource { r.0 < length set.now.resources }
-    requires within { AreWithinDeadlines set.now bounds.now }
-    requires windows { AreWaitWindows set.now (slice_index bounds.now) i.0 windows.now }
+    requires waits { AreWaitsAt set.now bounds.now i.0 windows.now }
+    requires held { AreTwoTasksAndResource set.now x.0 y.0 r.0 }
     ensures value { result ≡ only_if (nat_lt y.0 i.0 && is_beside set.now x.0 y.0)
         (requests_in_waits set.now (slice_index bounds.now) i.0 r.0 y.0 r.0) }
     ensures most { result ≤ 2000000000000 }
@@ -98,11 +87,8 @@ pub(crate) fn held_in_waits(
     bounds: &[u64],
     windows: &[Option<u64>],
 ) -> u64
-    requires task { i.0 < length set.now.tasks }
-    requires runner { x.0 < length set.now.tasks }
-    requires resource { r.0 < length set.now.resources }
-    requires within { AreWithinDeadlines set.now bounds.now }
-    requires windows { AreWaitWindows set.now (slice_index bounds.now) i.0 windows.now }
+    requires waits { AreWaitsAt set.now bounds.now i.0 windows.now }
+    requires held { AreTaskAndResource set.now x.0 r.0 }
     ensures value { result ≡ held_in_waits set.now i.0 (slice_index bounds.now) x.0 r.0 }
     ensures most { result ≤ 128000000000000 }
 {

@@ -1,9 +1,9 @@
 //! The windows of a task's requests, computed once for all of its rows.
 
-ghost use Rattle.std.specs.Prelude.{◌≡◌, ◌<◌, ◌≤◌, true, length, slice_index, IfOk, unwrap_or};
+ghost use Rattle.std.specs.Prelude.{◌≡◌, ◌<◌, ◌≤◌, true, slice_index, IfOk, unwrap_or};
 ghost use Rattle.sporadic_model.specs.Users.{is_user};
-ghost use Rattle.program_sources.specs.Bounds.{AreWithinDeadlines};
 ghost use Rattle.mpcp_window_laws.specs.MpcpWindows.{wait_window};
+ghost use Rattle.closer_mpcp.specs.Given.{IsTaskAt, IsRequestAt};
 ghost use Rattle.closer_mpcp.specs.Windows.{AreWaitWindows};
 
 use crate::searching::wait_window;
@@ -13,9 +13,7 @@ use std::alloc::{AllocError, Global};
 
 // The window of a request of `q` by `i`, if `i` requests it.
 fn window_if_used(set: &TaskSet, i: TaskId, q: ResourceId, bounds: &[u64]) -> Option<u64>
-    requires task { i.0 < length set.now.tasks }
-    requires resource { q.0 < length set.now.resources }
-    requires within { AreWithinDeadlines set.now bounds.now }
+    requires { IsRequestAt set.now bounds.now i.0 q.0 }
     ensures value { is_user set.now q.0 i.0 ≡ true → result ≡ wait_window set.now (slice_index bounds.now) i.0 q.0 }
     ensures small { unwrap_or result 0 ≤ 1000000000 }
 {
@@ -35,8 +33,7 @@ pub(crate) fn wait_windows(
     i: TaskId,
     bounds: &[u64],
 ) -> Result<Vec<Option<u64>>, AllocError>
-    requires task { i.0 < length set.now.tasks }
-    requires within { AreWithinDeadlines set.now bounds.now }
+    requires { IsTaskAt set.now bounds.now i.0 }
     ensures { IfOk result (λ v. AreWaitWindows set.now (slice_index bounds.now) i.0 v.items) }
 {
     let mut windows = Vec::with_capacity(alloc, set.resources() as usize)?;

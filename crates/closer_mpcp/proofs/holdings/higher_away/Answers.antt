@@ -27,7 +27,7 @@ returns-clause-value c =
     let x = c.args.x.0 in
     let r = c.args.r.0 in
     all_users set i r (is_away set x) (λ y. requests_in set (slice_index c.args.bounds.now) i y r)
-    c.users-users.result.now c.loop-y.y-index c.loop-y.total c.users-users.ensures.value c.requires.task
+    c.users-users.result.now c.loop-y.y-index c.loop-y.total c.users-users.ensures.value c.requires.request.task
     (λ y unused. none_by set (slice_index c.args.bounds.now) (slice_index c.args.bounds.now i) y r unused) (omega (arith, c.loop-y-test.false)) c.loop-y.invariant.value
 
 pub returns-clause-most : goal.returns-clause-most

@@ -31,7 +31,7 @@ within c =
 -- The row of the table that is read.
 row : (c : goal.After-count_if_passing-total) → c.index-beside.result.now ≡ slice_index_or c.args.held.now.requests.items c.args.x.0 []
 row c = c.index-beside.ensures ∙ get_or_default c.args.held.now.requests.items c.args.x.0 c.index-beside.result.now []
-    (omega (arith, c.requires.held.one_each, c.requires.runner))
+    (omega (arith, c.requires.held.one_each, c.requires.tasks.other))
 
 -- And its entry.
 entry : (c : goal.After-count_if_passing-total) → slice_index c.index-beside.result.now c.loop-k.k
@@ -42,14 +42,14 @@ entry c =
     let i = c.args.i.0 in
     let used = c.used_by-used.result.now in
     ap (λ (ns : List ℕ). slice_index ns c.loop-k.k) (row c)
-    ∙ (c.requires.held.each c.args.x.0 c.requires.runner).each c.loop-k.k (within c)
+    ∙ (c.requires.held.each c.args.x.0 c.requires.tasks.other).each c.loop-k.k (within c)
     ∙ ap (shared_beside set (slice_index c.args.bounds.now) i c.args.x.0)
     (number_of set i used c.loop-k.k (record { 0 = 0 }) c.used_by-used.ensures.value c.loop-k-test.true)
 
 small : (c : goal.After-count_if_passing-total) → c.count_if_passing-total.result ≤ 128000000001000
 small c =
     let most : slice_index c.index-beside.result.now c.loop-k.k ≤ 128000000001000 =
-    rw (row c) ((c.requires.held.each c.args.x.0 c.requires.runner).small c.loop-k.k (within c)) in
+    rw (row c) ((c.requires.held.each c.args.x.0 c.requires.tasks.other).small c.loop-k.k (within c)) in
     omega (
       arith,
       c.count_if_passing-total.ensures,

@@ -30,7 +30,7 @@ loop-span-preserved c = record {
     c.ticks_held-held.ensures,
     none_below_next (ticks_held c.args.set.now (slice_index c.args.bounds.now) c.args.i.0 c.args.q.0) c.loop-span.span
         (λ v w more. ticks_held_rise c.args.set.now (slice_index c.args.bounds.now) (slice_index c.args.bounds.now) c.args.i.0 c.args.q.0
-        v w c.requires.task more (λ x l. omega arith))
+        v w c.requires.request.task more (λ x l. omega arith))
         c.loop-span.invariant.none m enough,
   );
 }
