@@ -1,6 +1,7 @@
 -- What answers of settling mean, from where they come.
 use Rattle.std.proofs.Common.{◌≡◌, ℕ, ◌<◌, List, map, Ok, Err, IfOk, inl, inr, subst}
 use Rattle.std.specs.Prelude.{◌↔◌, Bool, Result}
+use Rattle.std.specs.declared.option.Option.{Option}
 use Rattle.program_form.specs.Certificate.{CertificateDef, dual_seen, certificate_seen}
 use Rattle.program_sources.specs.Recurrence.{SourceDef}
 use Rattle.program_sources.specs.Fitting.{AreFitting, AreLeastFitting, tasks_of}
@@ -28,11 +29,13 @@ use Rattle.soundness_laws.specs.Sound.{Sound}
 use Rattle.soundness_laws.specs.Analyses.{AreValues}
 use Rattle.settling.specs.Answers.{Settles, IsRight, IsSchedulable, Keeps, IsNotShown, IsLeftOpen, IsWideToAnalyse, IsToRefuse}
 use Rattle.settling.specs.Answers.{Has64Bits, IsAnswered, IsRefusedSo, IsSound, MayBeWide, RefusesIn64Bits}
-use Rattle.settling.specs.Rising.{IsProvedLeast, StopsLost, StopsWalk}
+use Rattle.settling.specs.Rising.{IsProvedLeast, Rises, ShowsNothingFits, StopsLost, StopsWalk}
 use Rattle.settling.specs.Walks.{walk, IsUnrefuted}
 use Rattle.settling.specs.Ways.{LosesWhole, NeedsMoreBits, NoneNeedsMore}
 use Rattle.settling.specs.declared.finding.Points.{Points}
 use Rattle.settling.specs.declared.finding.Points.TheVariants.{Exact, Rounded}
+use Rattle.settling.specs.declared.rising.Risen.{Risen}
+use Rattle.settling.specs.declared.rising.Risen.TheVariants as risen
 use Rattle.settling.specs.declared.answer.Settled.{Settled}
 use Rattle.settling.specs.declared.answer.Settled.TheVariants as settled
 use Rattle.settling.specs.declared.answer.SettleStop.{SettleStop}
@@ -54,6 +57,13 @@ open_of f allowance to = elim to.left [
   | inl (wide, late) ↦ inl wide
   | inr left ↦ inr left
 ]
+
+-- A walk with exact points that ends late leaves it so.
+pub to_refuse_of : (f : SourceDef) (allowance : ℕ) (r : Risen) (refusal : Option Refusal) → IsWideToAnalyse f allowance
+    → Rises Exact f allowance r → r ≡ risen.Late refusal → IsToRefuse f allowance
+to_refuse_of f allowance r refusal wide rises is =
+    let shows : ShowsNothingFits Exact f allowance refusal = subst (λ (x : Risen). Rises Exact f allowance x) is rises in
+    record { none = shows.none; left = inl (wide, shows.late) }
 
 pub open_if_wide : (f : SourceDef) (allowance i : ℕ) → MayBeWide f allowance i → IsLeftOpen f allowance
 open_if_wide f allowance i (inl (wide, needs)) = inl wide

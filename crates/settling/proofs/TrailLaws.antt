@@ -58,7 +58,7 @@ trail_adds f rise r i used value ticks dual found (Some point) before now here c
     let lead : LeadsWithin f r found i (seen before) = trail (rw (← flag) written) in
     let step = step_within f rise r i value ticks found (dual_seen point) (seen before) here is past shows lead in
     let led = led_step f r i found used value dual (dual_seen point) (seen before) here count step low lead.led past in
-    subst (λ (s : List StepDef). LeadsWithin f r (with_task found used value dual) (suc i) s) (sym list)
+    subst (λ (s : List StepDef). LeadsWithin f r (with_task found used value dual) (suc i) s) (sym (list (rw (← flag) written)))
     (record { led = led; small = small_more (seen before) i value (dual_seen point) lead.small shows.small })
 trail_adds f rise r i used value ticks dual found None before now here count is low shows flag past trail written =
     absurd (let no : false ≡ true = rw flag at written in cc)
@@ -90,7 +90,7 @@ late_adds : (f : SourceDef) → LimitsRise f → (r : List ℕ) (i value ticks :
 late_adds f rise r i value ticks found (Some point) before now here is late shows (list, flag) past trail written =
     let lead : LeadsWithin f r found i (seen before) = trail (rw (← flag) written) in
     let step = step_within f rise r i value ticks found (dual_seen point) (seen before) here is past shows lead in
-    subst (λ (s : List StepDef). IsRefusal f s) (sym list) (record {
+    subst (λ (s : List StepDef). IsRefusal f s) (sym (list (rw (← flag) written))) (record {
       holds = last_holds f (seen before) (step_of i value (dual_seen point)) lead.led.leads step
           (subst (λ (j : ℕ). latest_of f j < value) (sym (own i value (dual_seen point))) late);
       small = small_more (seen before) i value (dual_seen point) lead.small shows.small;

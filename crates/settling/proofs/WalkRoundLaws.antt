@@ -153,15 +153,17 @@ late_shows points f allowance k spent r refusal steps responds below way late tr
       late = (
         late.task,
         late.value,
-        r,
-        allowance - spent - h.found.used,
-        h.found,
-        late.used,
-        late.dual,
-        h.below,
-        comes_at o allowance k spent r late.task (Valued late.used late.value late.dual) h way,
-        h.run,
-        late.late,
+        (
+          r,
+          allowance - spent - h.found.used,
+          h.found,
+          late.used,
+          late.dual,
+          h.below,
+          comes_at o allowance k spent r late.task (Valued late.used late.value late.dual) h way,
+          h.run,
+          late.late,
+        ),
       );
       holds = refusal_shown points f steps refusal trail refuses;
       written = refusal_written points steps refusal are refuses;

@@ -26,10 +26,10 @@ pub record IsEmpty (steps : Steps) : Type 0 where
   pub none : seen steps ≡ []
   pub written : IsTrue steps.are_written
 
--- Is the step of task i to this value added, if its point is written?
+-- Is the step of task i to this value added, if its point is written and those before it are?
 abbrev pub AddsStep : Steps → Steps → ℕ → ℕ → Option Dual → Type 0
 AddsStep before now i value (Some point) =
-    (seen now ≡ seen before ++ step_of i value (dual_seen point) ∷ []) × (now.are_written ≡ before.are_written)
+    (IsTrue before.are_written → seen now ≡ seen before ++ step_of i value (dual_seen point) ∷ []) × (now.are_written ≡ before.are_written)
 AddsStep before now i value None = now.are_written ≡ false
 
 -- The same if the value is above the task's bound. Else the steps stay.

@@ -113,7 +113,7 @@ fn reach_beside<R: Threads + Sync, P: ProgramSource + Sync>(
 }
 
 /// What searches side by side find of the programs of a round, each at its task's place. Each may take all units that are left at the start
-/// of the round. Behind a task that ends the round some may stay unsearched. Few and short programs get no threads, and nothing is found.
+/// of the round. Behind a task that ends the round some may stay unsearched. If no thread is worth its start, nothing is found.
 pub(crate) fn reach_ahead<R: Threads + Sync, P: ProgramSource + Sync>(
     rt: &R,
     alloc: Global,

@@ -5,7 +5,8 @@ ghost use Rattle.program_form.specs.Certificate.{dual_seen};
 ghost use Rattle.program_sources.specs.Bounds.{IsInRange};
 ghost use Rattle.program_sources.specs.Recurrence.{source_at, response_with};
 ghost use Rattle.response_fixpoint.specs.Rounds.{with_task};
-ghost use Rattle.settling.specs.Rising.{AreFoundAt};
+ghost use Rattle.response_fixpoint.specs.Places.{AreEachFound};
+ghost use Rattle.settling.specs.Rising.{AreFoundAt, IsFoundAt};
 ghost use Rattle.settling.specs.Trails.{IsTrail};
 ghost use Rattle.settling.specs.WalkRounds.{found_of, AreWrittenIfRounded, GivesRound};
 
@@ -61,10 +62,8 @@ fn take_task(round: &mut Round, reached: Reached, bound: u64) -> Result<(), Allo
 /// that the tasks before it have left. `before` is what was found at other bounds. `steps` gets a step for each bound that rises. None if
 /// a task's value passes its latest bound. Then the last step is that task's.
 ///
-/// The programs are searched side by side, ahead of their places, if that is worth threads. Each may take all units that are left at the
-/// start of the round.
-pub(crate) fn take_round<R: Threads + Sync, P: ProgramSource + Sync>(
-    rt: &R,
+/// `ahead` has what was found ahead, at the tasks' places.
+fn take_in_order<P: ProgramSource>(
     alloc: Global,
     set: &TaskSet,
     protocol: &P,
@@ -72,11 +71,13 @@ pub(crate) fn take_round<R: Threads + Sync, P: ProgramSource + Sync>(
     bounds: &[u64],
     before: &[Reached],
     left: u64,
+    ahead: Vec<Option<Reached>>,
     steps: &mut Steps,
 ) -> Result<Option<Round>, SettleStop>
     requires serves { P.serves protocol.now set.now }
     requires range { IsInRange set.now bounds.now }
     requires before { (u : List ℕ) × AreFoundAt points (source_at (P.source protocol.now) set.now) u before.now }
+    requires ahead { AreEachFound (IsFoundAt points (source_at (P.source protocol.now) set.now) bounds.now) 0 ahead.items }
     requires steps { IsTrail (source_at (P.source protocol.now) set.now) bounds.now steps.old }
     requires written { AreWrittenIfRounded points steps.old }
     ensures { GivesRound result points (source_at (P.source protocol.now) set.now) bounds.now left steps.new }
@@ -86,7 +87,6 @@ pub(crate) fn take_round<R: Threads + Sync, P: ProgramSource + Sync>(
         next: Vec::new(alloc),
         reached: Vec::new(alloc),
     };
-    let ahead = reach_ahead(rt, alloc, set, protocol, points, bounds, before, left)?;
     let mut ahead = ahead.into_iter();
     for i in 0..set.tasks() {
         let task = TaskId(i);
@@ -106,4 +106,30 @@ pub(crate) fn take_round<R: Threads + Sync, P: ProgramSource + Sync>(
         take_task(&mut round, reached, bound)?;
     }
     Ok(Some(round))
+}
+
+/// The same. The programs are searched side by side, ahead of their places, if that is worth threads. Each may take all units that are left
+/// at the start of the round.
+pub(crate) fn take_round<R: Threads + Sync, P: ProgramSource + Sync>(
+    rt: &R,
+    alloc: Global,
+    set: &TaskSet,
+    protocol: &P,
+    points: Points,
+    bounds: &[u64],
+    before: &[Reached],
+    left: u64,
+    steps: &mut Steps,
+) -> Result<Option<Round>, SettleStop>
+    requires serves { P.serves protocol.now set.now }
+    requires range { IsInRange set.now bounds.now }
+    requires before { (u : List ℕ) × AreFoundAt points (source_at (P.source protocol.now) set.now) u before.now }
+    requires steps { IsTrail (source_at (P.source protocol.now) set.now) bounds.now steps.old }
+    requires written { AreWrittenIfRounded points steps.old }
+    ensures { GivesRound result points (source_at (P.source protocol.now) set.now) bounds.now left steps.new }
+{
+    let ahead = reach_ahead(rt, alloc, set, protocol, points, bounds, before, left)?;
+    take_in_order(
+        alloc, set, protocol, points, bounds, before, left, ahead, steps,
+    )
 }

@@ -139,9 +139,9 @@ impl Tests {
             if self.holds_at(alloc, set, protocol, step, bounds)? {
                 high = middle;
             } else {
-                low = middle + 1;
+                low = middle.saturating_add(1);
             }
-            middle = low + high.saturating_sub(low) / 2;
+            middle = low.saturating_add(high.saturating_sub(low) / 2);
         }
         Ok(value_at(values, high))
     }

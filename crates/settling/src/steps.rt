@@ -42,9 +42,7 @@ impl Steps {
             return Ok(());
         }
         match point {
-            // behind a step that isn't written none is of use
-            Some(_) if !self.are_written => {}
-            Some(point) => {
+            Some(point) if self.are_written => {
                 let point = copy_of(alloc, point)?;
                 self.list.push(RefusalStep {
                     task: u64::from(task.0) + 1,
@@ -52,6 +50,8 @@ impl Steps {
                     point,
                 })?;
             }
+            // behind a step that isn't written none is of use
+            Some(_) => {}
             None => self.are_written = false,
         }
         Ok(())

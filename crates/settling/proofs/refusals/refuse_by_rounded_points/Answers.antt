@@ -20,7 +20,7 @@ returns-in-Ok-Fixed g c =
     answers_unrefuted f c.args.allowance c.args.task c.requires.left (inr (own.field-0-0.items, duals_found own.field-0-1.items, fixed.ends))
     (omega (arith, c.requires.task))
 
-pub returns-in-Err : goal.returns-in-Err
-returns-in-Err g c =
+pub returns : goal.returns
+returns g c =
     let f : SourceDef = source_at (g.P.ProgramSource.source c.args.protocol.now) c.args.set.now in
     answers_rounded_stop f c.args.allowance c.in-Err.stop c.requires.left c.in-Err.ensures.stops

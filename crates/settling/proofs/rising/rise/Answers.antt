@@ -29,7 +29,7 @@ loop-round-init g c =
     }
 
 pub take_round-round-requires-clause-before : goal.take_round-round-requires-clause-before
-take_round-round-requires-clause-before g c = rw c.deref-in-loop-round.ensures.value c.loop-round.invariant.before
+take_round-round-requires-clause-before g c = λ κs h. rw c.deref-in-loop-round.ensures.value c.loop-round.invariant.before
 
 pub returns-in-Ok-None-clause-rises : goal.returns-in-Ok-None-clause-rises
 returns-in-Ok-None-clause-rises g c =

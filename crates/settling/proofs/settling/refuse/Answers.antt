@@ -1,8 +1,9 @@
-use Rattle.std.proofs.Common.{◌<◌, length, inr, sym, subst, arith}
+use Rattle.std.proofs.Common.{◌<◌, length, inr, Ok, sym, subst, arith}
 use Rattle.refusal_laws.specs.Seen.{steps_seen}
 use Rattle.refusal_laws.specs.declared.refusal.Refusal.{Refusal}
 use Rattle.program_sources.specs.Recurrence.{SourceDef, source_at}
-use Rattle.settling.specs.Answers.{Has64Bits}
+use Rattle.settling.specs.Answers.{Has64Bits, IsAnswered}
+use Rattle.settling.specs.declared.answer.Settled.TheVariants as settled
 use Rattle.settling.proofs.AnswerLaws.{answers_nothing, answers_refutation, never_short, refuted_of, right_refusal_of}
 use Rattle.settling.proofs.AnswerLaws.{short_refutation_of, wide_refutation_of, wide_refutation_within}
 use Rattle.settling.proofs.settling.refuse.Goals as goal
@@ -13,7 +14,10 @@ returns-in-Ok-Refused g c =
     let own = c.in-Ok-Refused in
     let refutes = refuted_of f c.args.allowance c.refute.result own.field-0 own.refusal c.refute.ensures.rounds own.is own.field-0-is in
     let right = right_refusal_of f c.refute.result own.field-0 own.refusal c.refute.ensures.right own.is own.field-0-is in
-    answers_refutation f c.args.allowance own.refusal c.requires.late refutes right c.keeps_64_bits.ensures
+    let bits : Has64Bits (steps_seen own.refusal) =
+    subst (λ (x : Refusal). Has64Bits (steps_seen x)) own.refusal-is c.keeps_64_bits.ensures in
+    subst (λ (x : Refusal). IsAnswered f c.args.allowance (Ok (settled.Refused x))) (sym own.refusal-is)
+    (answers_refutation f c.args.allowance own.refusal c.requires.late refutes right bits)
 
 pub refuse_by_rounded_points-requires-clause-task : goal.refuse_by_rounded_points-requires-clause-task
 refuse_by_rounded_points-requires-clause-task g c =
@@ -28,10 +32,10 @@ refuse_by_rounded_points-requires-clause-left g c =
     let f : SourceDef = source_at (g.P.ProgramSource.source c.args.protocol.now) c.args.set.now in
     let wide = wide_refutation_of f c.args.allowance c.refute.result c.in-Err-Wide.field-0 c.in-Err-Wide.task c.refute.ensures.rounds
     c.in-Err-Wide.is c.in-Err-Wide.field-0-is in
-    record { none = c.requires.none; left = inr (c.requires.late, (c.in-Err-Wide.task.0, wide)) }
+    λ κs h. record { none = c.requires.none; left = inr (c.requires.late, (c.in-Err-Wide.task.0, wide)) }
 
-pub unreachable-in-Err-Allowance : goal.unreachable-in-Err-Allowance
-unreachable-in-Err-Allowance g c =
+pub unreachable-requires-in-Err-Allowance : goal.unreachable-requires-in-Err-Allowance
+unreachable-requires-in-Err-Allowance g c =
     let f : SourceDef = source_at (g.P.ProgramSource.source c.args.protocol.now) c.args.set.now in
     let short = short_refutation_of f c.args.allowance c.refute.result c.in-Err-Allowance.field-0 c.refute.ensures.rounds
     c.in-Err-Allowance.is c.in-Err-Allowance.field-0-is in

@@ -17,13 +17,13 @@ returns-in-Ok-Schedulable g c =
 pub refuse-requires-clause-late : goal.refuse-requires-clause-late
 refuse-requires-clause-late g c =
     let f : SourceDef = source_at (g.P.ProgramSource.source c.args.protocol.now) c.args.set.now in
-    not_shown_of f c.args.allowance c.analyse_with.result c.in-Ok-NotShown.field-0 _ _ c.analyse_with.ensures.rounds
+    λ κs h. not_shown_of f c.args.allowance c.analyse_with.result c.in-Ok-NotShown.field-0 _ _ c.analyse_with.ensures.rounds
     c.in-Ok-NotShown.is c.in-Ok-NotShown.field-0-is
 
 pub settle_wide-requires-clause-wide : goal.settle_wide-requires-clause-wide
 settle_wide-requires-clause-wide g c =
     let f : SourceDef = source_at (g.P.ProgramSource.source c.args.protocol.now) c.args.set.now in
-    wide_analysis_of f c.args.allowance c.analyse_with.result c.in-Err-Wide.field-0 c.in-Err-Wide.task c.analyse_with.ensures.rounds
+    λ κs h. wide_analysis_of f c.args.allowance c.analyse_with.result c.in-Err-Wide.field-0 c.in-Err-Wide.task c.analyse_with.ensures.rounds
     c.in-Err-Wide.is c.in-Err-Wide.field-0-is
 
 pub returns-in-Err-Allowance : goal.returns-in-Err-Allowance

@@ -1,15 +1,15 @@
-use Rattle.std.proofs.Common.{inl, arith}
+use Rattle.std.proofs.Common.{arith}
 use Rattle.program_sources.specs.Recurrence.{SourceDef, source_at}
-use Rattle.settling.proofs.AnswerLaws.{answers_refused, answers_stop, wide_within}
+use Rattle.settling.proofs.AnswerLaws.{answers_refused, answers_stop, to_refuse_of, wide_within}
 use Rattle.settling.proofs.BitLaws.{wide_needs_more}
 use Rattle.settling.proofs.settling.settle_wide.Goals as goal
 
 pub returns-in-Ok-Late-Some : goal.returns-in-Ok-Late-Some
 returns-in-Ok-Late-Some g c =
     let f : SourceDef = source_at (g.P.ProgramSource.source c.args.protocol.now) c.args.set.now in
-    answers_refused f c.args.allowance c.answer_refusal.result
-    (record { none = c.in-Ok-Late-Some.ensures.rises.none; left = inl ((c.args.task.0, c.requires.wide), c.in-Ok-Late-Some.ensures.rises.late) })
-    c.answer_refusal.ensures.refuses c.answer_refusal.ensures.bits
+    let own = c.in-Ok-Late-Some in
+    let to = to_refuse_of f c.args.allowance own.field-0 own.field-0-0 (c.args.task.0, c.requires.wide) own.ensures.rises own.field-0-is in
+    answers_refused f c.args.allowance c.answer_refusal.result to c.answer_refusal.ensures.refuses c.answer_refusal.ensures.bits
 
 pub refuse_by_rounded_points-requires-clause-task : goal.refuse_by_rounded_points-requires-clause-task
 refuse_by_rounded_points-requires-clause-task g c =
@@ -18,7 +18,9 @@ refuse_by_rounded_points-requires-clause-task g c =
 
 pub refuse_by_rounded_points-requires-clause-left : goal.refuse_by_rounded_points-requires-clause-left
 refuse_by_rounded_points-requires-clause-left g c =
-    record { none = c.in-Ok-Late-None.ensures.rises.none; left = inl ((c.args.task.0, c.requires.wide), c.in-Ok-Late-None.ensures.rises.late) }
+    let f : SourceDef = source_at (g.P.ProgramSource.source c.args.protocol.now) c.args.set.now in
+    let own = c.in-Ok-Late-None in
+    λ κs h. to_refuse_of f c.args.allowance own.field-0 own.field-0-0 (c.args.task.0, c.requires.wide) own.ensures.rises own.field-0-is
 
 pub returns-in-Err : goal.returns-in-Err
 returns-in-Err g c =

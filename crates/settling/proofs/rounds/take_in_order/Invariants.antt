@@ -3,7 +3,7 @@ use Rattle.response_fixpoint.specs.Places.{AreEachFound}
 use Rattle.settling.specs.Rising.{IsFoundAt}
 use Rattle.settling.specs.Trails.{IsTrailWithin}
 use Rattle.settling.specs.WalkRounds.{found_of, IsPart, AreWrittenIfRounded}
-use Rattle.settling.proofs.rounds.take_round.Given as goal
+use Rattle.settling.proofs.rounds.take_in_order.Given as goal
 
 -- the tasks so far pass, and the steps lead to what was found of them; what was found ahead goes on from the next task
 abbrev pub invariant-loop-i : goal.invariant-loop-i

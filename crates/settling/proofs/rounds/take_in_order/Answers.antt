@@ -14,7 +14,7 @@ use Rattle.settling.specs.Walks.{walk}
 use Rattle.settling.specs.declared.reached.Reached.{Reached}
 use Rattle.settling.proofs.TrailLaws.{trail_goes_on, trail_ends, trail_whole, written_goes_on}
 use Rattle.settling.proofs.WalkRoundLaws.{part_goes_on, round_stops, late_of}
-use Rattle.settling.proofs.rounds.take_round.Goals as goal
+use Rattle.settling.proofs.rounds.take_in_order.Goals as goal
 
 pub returns-in-Err : goal.returns-in-Err
 returns-in-Err g c =
