@@ -66,18 +66,7 @@ pub(crate) fn has_spinner(machine: &Machine, holders: &[Option<JobId>], processo
     !each_passes(&QuietTest { holders, processor }, machine)
 }
 
-/// Idle, for one job: if it is ready, does its processor run something, or does a job there spin?
-fn idle_passes(machine: &Machine, row: &Row, j: JobId) -> bool
-    requires fits { IsRowFor machine.now.list (row_seen row.now) }
-    requires listed { j.0 < length machine.now.list.jobs }
-    ensures { result ≡ idle_passes machine.now (row_seen row.now) j.0 }
-{
-    !may_run(machine, &row.holders, j)
-        || (running_beside(machine, row, j).is_some()
-            || has_spinner(machine, &row.holders, processor_of(machine, j)))
-}
-
-/// The test of Idle for active jobs.
+/// The test of Idle for active jobs: if the job is ready, does its processor run something, or does a job there spin?
 #[derive(Drop)]
 struct IdleTest<'a> {
     row: &'a Row,
@@ -89,17 +78,10 @@ impl<'a> JobTest for IdleTest<'a> {
     ghost passes = { λ t m. idle_passes m (row_seen t.row.now) };
 
     fn test(&self, machine: &Machine, j: JobId) -> bool {
-        idle_passes(machine, self.row, j)
+        !may_run(machine, &self.row.holders, j)
+            || (running_beside(machine, self.row, j).is_some()
+                || has_spinner(machine, &self.row.holders, processor_of(machine, j)))
     }
-}
-
-/// Idle: does each processor that has a ready job and no spinner run something?
-#[tactic(auto, unfolding(crate::specs::SpinTests::passes_idle))]
-fn passes_idle(machine: &Machine, row: &Row) -> bool
-    requires fits { IsRowFor machine.now.list (row_seen row.now) }
-    ensures { result ≡ passes_idle machine.now (row_seen row.now) }
-{
-    each_passes(&IdleTest { row }, machine)
 }
 
 /// Priority, for one job and what runs on its processor.
@@ -118,15 +100,6 @@ fn may_run_beside(machine: &Machine, j: JobId, running: Option<JobId>) -> bool
     }
 }
 
-/// The same in a row.
-fn priority_passes(machine: &Machine, row: &Row, j: JobId) -> bool
-    requires fits { IsRowFor machine.now.list (row_seen row.now) }
-    requires listed { j.0 < length machine.now.list.jobs }
-    ensures { result ≡ priority_passes machine.now (row_seen row.now) j.0 }
-{
-    may_run_beside(machine, j, running_beside(machine, row, j))
-}
-
 /// The test of Priority for active jobs.
 #[derive(Drop)]
 struct PriorityTest<'a> {
@@ -139,21 +112,12 @@ impl<'a> JobTest for PriorityTest<'a> {
     ghost passes = { λ t m. priority_passes m (row_seen t.row.now) };
 
     fn test(&self, machine: &Machine, j: JobId) -> bool {
-        priority_passes(machine, self.row, j)
+        may_run_beside(machine, j, running_beside(machine, self.row, j))
     }
 }
 
-/// Priority: if a job is in a request, does nothing else run on its processor? If none is, does no job run there that is lower than an
-/// active Local job?
-#[tactic(auto, unfolding(crate::specs::SpinTests::passes_priority))]
-fn passes_priority(machine: &Machine, row: &Row) -> bool
-    requires fits { IsRowFor machine.now.list (row_seen row.now) }
-    ensures { result ≡ passes_priority machine.now (row_seen row.now) }
-{
-    each_passes(&PriorityTest { row }, machine)
-}
-
-/// The tests of the rules.
+/// The tests of the rules. Idle: does each processor that has a ready job and no spinner run something? Priority: if a job is in a request,
+/// does nothing else run on its processor? If none is, does no job run there that is lower than an active Local job?
 #[derive(Drop)]
 struct SpinTests;
 
@@ -163,13 +127,14 @@ impl RuleTests for SpinTests {
     ghost passes = { λ t m row. by_rule (passes_run m row) (passes_keep m row) (passes_grant m (issue_now m) row)
         (passes_idle m row) (passes_priority m row) };
 
+    #[tactic(auto, unfolding(crate::specs::SpinTests::passes_idle, crate::specs::SpinTests::passes_priority))]
     fn test(&self, machine: &Machine, row: &Row, rule: Rule) -> bool {
         match rule {
             Rule::Run => each_stands(&OwnProcessors, machine, row),
             Rule::Keep => passes_keep(machine, row),
             Rule::Grant => passes_grant(&FmlpPlus, machine, row),
-            Rule::Idle => passes_idle(machine, row),
-            Rule::Priority => passes_priority(machine, row),
+            Rule::Idle => each_passes(&IdleTest { row }, machine),
+            Rule::Priority => each_passes(&PriorityTest { row }, machine),
         }
     }
 }
