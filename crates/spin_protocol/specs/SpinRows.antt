@@ -1,9 +1,6 @@
 -- The two kinds of rows of spinning, by the type that names them.
-use Rattle.std.specs.Prelude.{ℕ, ◌+◌, ◌<◌, List, length}
+use Rattle.std.specs.Prelude.{ℕ, ◌+◌, List, length}
 use Rattle.sporadic_model.specs.SetDef.{SetDef}
-use Rattle.program_sources.specs.Bounds.{AreWithinDeadlines}
-use Rattle.blocking_columns.specs.declared.columns.Fragment.{Fragment}
-use Rattle.blocking_columns.specs.ColumnDef.{AreKnown}
 use Rattle.fragments.specs.Constraints.{ConstraintDef, per_pair}
 use Rattle.spin_charging.specs.SpinPrograms.{spinning_row, own_spinning_row}
 use Rattle.spin_protocol.specs.declared.rows.Spinning.{Spinning}
@@ -16,10 +13,3 @@ row_of_kind spinning.Own set i k q = own_spinning_row set i k q
 -- Those of each processor, counted from 1, and each resource.
 abbrev pub rows_of_kind : Spinning → SetDef → ℕ → List ConstraintDef
 rows_of_kind kind set i = per_pair set.processors (length set.resources) (λ k q. row_of_kind kind set i (k + 1) q)
-
--- Can rows of task i be made at these bounds, over these columns? The task is one of the set, the bounds are within its deadlines, and the
--- columns are of its tasks and resources.
-pub record CanMakeRows (set : SetDef) (i : ℕ) (bounds : List ℕ) (columns : List Fragment) : Type 0 where
-  pub task : i < length set.tasks
-  pub within : AreWithinDeadlines set bounds
-  pub known : AreKnown (length set.tasks) (length set.resources) columns

@@ -24,9 +24,9 @@ use sporadic_model::TaskId;
 
 /// A tick: the machine before it, and a row for it.
 #[derive(Drop)]
-struct Tick<'a> {
-    machine: &'a Machine<'a>,
-    row: &'a Row,
+pub(crate) struct Tick<'a> {
+    pub(crate) machine: &'a Machine<'a>,
+    pub(crate) row: &'a Row,
     ghost fits: { IsRowFor machine.now.list (row_seen row.now) } by { Prim.hlevel props },
 }
 
@@ -107,16 +107,15 @@ fn charge_beside(tick: &Tick, j: JobId) -> Option<(JobId, Class)>
 }
 
 /// The charge of the tick for the job.
-pub(crate) fn charged_spin(machine: &Machine, row: &Row, j: JobId) -> Option<(JobId, Class)>
-    requires fits { IsRowFor machine.now.list (row_seen row.now) }
-    requires listed { j.0 < length machine.now.list.jobs }
-    ensures value { (rows : ℕ → RowDef) → Shows machine.now rows → rows machine.now.tick ≡ row_seen row.now
-        → KeepsRun (under machine.now rows) machine.now.tick
-        → charge_seen result ≡ spin_charge (under machine.now rows) machine.now.tick j.0 }
-    ensures listed { IfSome result (λ c. c.0.0 < length machine.now.list.jobs) }
+pub(crate) fn charged_spin(tick: &Tick, j: JobId) -> Option<(JobId, Class)>
+    requires { j.0 < length tick.now.machine.now.list.jobs }
+    ensures value { (rows : ℕ → RowDef) → Shows tick.now.machine.now rows
+        → rows tick.now.machine.now.tick ≡ row_seen tick.now.row.now → KeepsRun (under tick.now.machine.now rows) tick.now.machine.now.tick
+        → charge_seen result ≡ spin_charge (under tick.now.machine.now rows) tick.now.machine.now.tick j.0 }
+    ensures listed { IfSome result (λ c. c.0.0 < length tick.now.machine.now.list.jobs) }
 {
-    if blocked_shared(machine, row, j) {
-        return charge_beside(&Tick { machine, row }, j);
+    if blocked_shared(tick.machine, tick.row, j) {
+        return charge_beside(tick, j);
     }
     None
 }

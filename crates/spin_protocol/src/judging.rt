@@ -1,15 +1,10 @@
 //! The tests of the rules over a machine and the next row.
 
-ghost use Rattle.std.specs.Prelude.{◌≡◌, ℕ, ◌<◌, length, map, IfSome, None};
-ghost use Rattle.schedule_model.specs.RowDef.{RowDef};
+ghost use Rattle.std.specs.Prelude.{◌≡◌, ◌<◌, length, map, IfSome};
 ghost use Rattle.schedule_model.specs.Seen.{row_seen, place_seen};
-ghost use Rattle.phase_machine.specs.MachineDef.{under};
-ghost use Rattle.phase_machine.specs.Shows.{Shows};
 ghost use Rattle.phase_machine.specs.Taking.{IsRowFor};
-ghost use Rattle.phase_machine.specs.Judged.{Judged};
 ghost use Rattle.fmlp_rules.specs.IssueOrder.{issue_now};
 ghost use Rattle.shared_choosing.specs.Scene.{place_in};
-ghost use Rattle.spin_rules.specs.SpinRules.{spin_rule};
 ghost use Rattle.spin_protocol.specs.SpinTests.{is_request_now, spins_now, is_quiet, has_spinner_now, idle_passes};
 ghost use Rattle.spin_protocol.specs.SpinTests.{passes_idle, may_run_beside, priority_passes, passes_priority};
 ghost use Rattle.shared_rules.specs.RowTests.{passes_run, passes_keep, passes_grant, by_rule};
@@ -20,7 +15,7 @@ use phase_machine::columns::OwnProcessors;
 use phase_machine::lookup::{holds, is_local, may_run, processor_of, running_beside, task_of};
 use schedule_model::{JobId, Row, Rule};
 use shared_rules::judging::{each_stands, passes_grant, passes_keep};
-use shared_rules::rule_tests::{RuleTests, first_failed};
+use shared_rules::rule_tests::RuleTests;
 use shared_rules::walking::{JobTest, each_passes};
 
 /// Is the job in a request, if it is active?
@@ -119,7 +114,7 @@ impl<'a> JobTest for PriorityTest<'a> {
 /// The tests of the rules. Idle: does each processor that has a ready job and no spinner run something? Priority: if a job is in a request,
 /// does nothing else run on its processor? If none is, does no job run there that is lower than an active Local job?
 #[derive(Drop)]
-struct SpinTests;
+pub(crate) struct SpinTests;
 
 impl RuleTests for SpinTests {
     ghost needs = { λ t m. Unit {0} };
@@ -136,17 +131,5 @@ impl RuleTests for SpinTests {
             Rule::Idle => each_passes(&IdleTest { row }, machine),
             Rule::Priority => each_passes(&PriorityTest { row }, machine),
         }
-    }
-}
-
-/// Ok if the row keeps all five rules. Else the first rule that it breaks.
-pub(crate) fn judge_spin(machine: &Machine, row: &Row) -> Result<(), Rule>
-    requires fits { IsRowFor machine.now.list (row_seen row.now) }
-    ensures { (rows : ℕ → RowDef) → Shows machine.now rows → rows machine.now.tick ≡ row_seen row.now
-        → Judged spin_rule (under machine.now rows) machine.now.tick result }
-{
-    match first_failed(&SpinTests, machine, row) {
-        Some(rule) => Err(rule),
-        None => Ok(()),
     }
 }

@@ -3,7 +3,7 @@
 
 ghost use Rattle.std.specs.Prelude.{◌≡◌, ℕ, ◌*◌, ◌+◌, true, false, length, slice_index_or, IfOk};
 ghost use Rattle.blocking_columns.specs.ColumnDef.{column_seen, IsKnown, AreKnown};
-ghost use Rattle.spin_protocol.specs.Origins.{origin_place, IsMarked, AreOrigins};
+ghost use Rattle.spin_protocol.specs.Origins.{origin_place, Marks, AreOrigins};
 
 use fragments::Fragment;
 use sporadic_model::{ResourceId, TaskSet};
@@ -20,9 +20,7 @@ fn origin_place(processor: u32, q: ResourceId) -> usize
 fn mark(set: &TaskSet, table: &mut [bool], column: Fragment)
     requires known { IsKnown (length set.now.tasks) (length set.now.resources) (column_seen column) }
     requires room { length table.old ≡ length set.now.resources * 64 + 1 }
-    ensures room { length table.new ≡ length table.old }
-    ensures marked { IsMarked set.now table.new (column_seen column) }
-    ensures kept { (n : ℕ) → slice_index_or table.old n false ≡ true → slice_index_or table.new n false ≡ true }
+    ensures { Marks set.now (column_seen column) table.old table.new }
 {
     // a set has at most 64 processors
     let _processors = set.processors();

@@ -2,7 +2,6 @@
 
 ghost use Rattle.std.specs.Prelude.{◌≡◌, ℕ, ◌<◌, ◌≤◌, ◌+◌, ◌&&◌, ◌==◌, not, length, map, [], ◌∷◌, IfOk, OnOk};
 ghost use Rattle.schedule_model.specs.Protocols.{EachSetSuits};
-ghost use Rattle.program_sources.specs.Bounds.{AreWithinDeadlines};
 ghost use Rattle.blocking_columns.specs.ColumnDef.{column_seen, AreKnown};
 ghost use Rattle.blocking_columns.specs.Stretches.{AreInOrder};
 ghost use Rattle.blocking_columns.specs.Columns.{have_one_processor};
@@ -10,7 +9,8 @@ ghost use Rattle.fragments.specs.Constraints.{per_pair};
 ghost use Rattle.spin_charging.specs.SpinPrograms.{is_used_beside, is_spin_column};
 ghost use Rattle.spin_charging.specs.SpinPrograms.{spin_columns, lower_request_row, own_spinning_row, spin_rows};
 ghost use Rattle.spin_charging.proofs.SpinPrograms.{spin_is_program};
-ghost use Rattle.spin_protocol.specs.SpinRows.{rows_of_kind, CanMakeRows};
+ghost use Rattle.spin_protocol.specs.SpinRows.{rows_of_kind};
+ghost use Rattle.spin_protocol.specs.Given.{CanMakeRows};
 ghost use Rattle.spin_protocol.specs.Used.{AreUsedBeside};
 
 use crate::Spin;
@@ -125,9 +125,7 @@ pub fn add_own_spinning<T: RowTaker>(
     bounds: &[u64],
     columns: &[Fragment],
 ) -> Result<(), AllocError>
-    requires task { i.0 < length set.now.tasks }
-    requires within { AreWithinDeadlines set.now bounds.now }
-    requires known { AreKnown (length set.now.tasks) (length set.now.resources) columns.now }
+    requires { CanMakeRows set.now i.0 bounds.now columns.now }
     ensures { OnOk result (T.takes taker.old (map column_seen columns.now)
         (per_pair set.now.processors (length set.now.resources) (λ k q. own_spinning_row set.now i.0 (k + 1) q)) bounds.now taker.new) }
 {
@@ -144,9 +142,7 @@ pub fn add_lower_requests<T: RowTaker>(
     bounds: &[u64],
     columns: &[Fragment],
 ) -> Result<(), AllocError>
-    requires task { i.0 < length set.now.tasks }
-    requires within { AreWithinDeadlines set.now bounds.now }
-    requires known { AreKnown (length set.now.tasks) (length set.now.resources) columns.now }
+    requires { CanMakeRows set.now i.0 bounds.now columns.now }
     ensures { OnOk result (T.takes taker.old (map column_seen columns.now) (lower_request_row ∷ []) bounds.now taker.new) }
 {
     add_row(alloc, taker, &LowerRequestRow, set, i, bounds, columns)
