@@ -68,7 +68,7 @@ pub fn is_used_below(set: &TaskSet, i: TaskId, q: ResourceId) -> bool
 }
 
 /// 1 if the test passes, and else 0.
-fn one_if(test: bool) -> u64
+pub fn one_if(test: bool) -> u64
     ensures { result ≡ flag test }
 {
     if test { 1 } else { 0 }
