@@ -2,16 +2,16 @@
 
 ghost use Rattle.std.specs.Prelude.{◌≡◌, ℕ, ◌<◌, ◌≤◌, ◌+◌, ◌++◌, length, map, IfOk, OnOk};
 ghost use Rattle.schedule_model.specs.Protocols.{EachSetSuits};
-ghost use Rattle.program_sources.specs.Bounds.{AreWithinDeadlines};
-ghost use Rattle.blocking_columns.specs.ColumnDef.{column_seen, AreKnown};
+ghost use Rattle.blocking_columns.specs.ColumnDef.{column_seen};
 ghost use Rattle.blocking_columns.specs.Stretches.{AreInOrder};
-ghost use Rattle.spin_charging.specs.SpinPrograms.{is_used_below, spin_columns};
-ghost use Rattle.closer_spin_laws.specs.CloserSpinRows.{closer_spinning_rows, own_spinning_rows, together_rows, spin_closer_rows};
+ghost use Rattle.spin_charging.specs.SpinPrograms.{spin_columns};
+ghost use Rattle.closer_spin_laws.specs.CloserSpinRows.{together_rows, spin_closer_rows};
 ghost use Rattle.closer_spin_laws.proofs.Programs.{spin_closer_is_program};
-ghost use Rattle.closer_spin.specs.Tables.{Tells};
+ghost use Rattle.spin_protocol.specs.Given.{CanMakeRows};
+ghost use Rattle.closer_spin.specs.Tables.{TellsUsedBelow};
 
 use crate::rows::{CloserSpinningRows, LowerSpinningRows, OtherLowerSpinningRows};
-use crate::tables::used_below;
+use crate::tables::{UsedBelow, table_of};
 use direct_constraints::add_common;
 use fragments::{Fragment, RowTaker, add_per_number};
 use protocol_programs::ProgramParts;
@@ -29,69 +29,15 @@ fn add_together_rows<T: RowTaker>(
     columns: &[Fragment],
     below: &[bool],
 ) -> Result<(), AllocError>
-    requires task { i.0 < length set.now.tasks }
-    requires within { AreWithinDeadlines set.now bounds.now }
-    requires known { AreKnown (length set.now.tasks) (length set.now.resources) columns.now }
-    requires below { Tells (length set.now.resources) (is_used_below set.now i.0) below.now }
+    requires can { CanMakeRows set.now i.0 bounds.now columns.now }
+    requires below { TellsUsedBelow set.now i.0 below.now }
     ensures { OnOk result (T.takes taker.old (map column_seen columns.now) (together_rows set.now i.0) bounds.now taker.new) }
 {
     let processors = set.processors();
-    add_per_number(
-        alloc,
-        taker,
-        &LowerSpinningRows { below },
-        set,
-        processors,
-        i,
-        bounds,
-        columns,
-    )?;
-    add_per_number(
-        alloc,
-        taker,
-        &OtherLowerSpinningRows { below },
-        set,
-        processors,
-        i,
-        bounds,
-        columns,
-    )?;
-    Ok(())
-}
-
-/// Adds the rows of spinning, of own spinning and of several resources together behind those that the taker has.
-fn add_all_spinning<T: RowTaker>(
-    alloc: Global,
-    taker: &mut T,
-    set: &TaskSet,
-    i: TaskId,
-    bounds: &[u64],
-    columns: &[Fragment],
-) -> Result<(), AllocError>
-    requires task { i.0 < length set.now.tasks }
-    requires within { AreWithinDeadlines set.now bounds.now }
-    requires known { AreKnown (length set.now.tasks) (length set.now.resources) columns.now }
-    ensures { OnOk result (T.takes taker.old (map column_seen columns.now)
-        (closer_spinning_rows set.now i.0 ++ (own_spinning_rows set.now i.0 ++ together_rows set.now i.0)) bounds.now taker.new) }
-{
-    let processors = set.processors();
-    let below = used_below(alloc, set, i)?;
-    let origins = origins_of(alloc, set, columns)?;
-    add_per_number(
-        alloc,
-        taker,
-        &CloserSpinningRows {
-            below: &below,
-            origins: &origins,
-        },
-        set,
-        processors,
-        i,
-        bounds,
-        columns,
-    )?;
-    add_own_spinning(alloc, taker, set, i, bounds, columns)?;
-    add_together_rows(alloc, taker, set, i, bounds, columns, &below)?;
+    let all = LowerSpinningRows { below };
+    add_per_number(alloc, taker, &all, set, processors, i, bounds, columns)?;
+    let others = OtherLowerSpinningRows { below };
+    add_per_number(alloc, taker, &others, set, processors, i, bounds, columns)?;
     Ok(())
 }
 
@@ -104,15 +50,22 @@ fn add_rows<T: RowTaker>(
     bounds: &[u64],
     columns: &[Fragment],
 ) -> Result<(), AllocError>
-    requires task { i.0 < length set.now.tasks }
-    requires within { AreWithinDeadlines set.now bounds.now }
-    requires known { AreKnown (length set.now.tasks) (length set.now.resources) columns.now }
+    requires can { CanMakeRows set.now i.0 bounds.now columns.now }
     requires order { AreInOrder columns.now }
     ensures { OnOk result (T.takes taker.old (map column_seen columns.now) (spin_closer_rows set.now i.0) bounds.now taker.new) }
 {
     add_common(alloc, taker, set, i, bounds, columns)?;
     add_lower_requests(alloc, taker, set, i, bounds, columns)?;
-    add_all_spinning(alloc, taker, set, i, bounds, columns)?;
+    let processors = set.processors();
+    let below = table_of(alloc, set, i, &UsedBelow)?;
+    let origins = origins_of(alloc, set, columns)?;
+    let rows = CloserSpinningRows {
+        below: &below,
+        origins: &origins,
+    };
+    add_per_number(alloc, taker, &rows, set, processors, i, bounds, columns)?;
+    add_own_spinning(alloc, taker, set, i, bounds, columns)?;
+    add_together_rows(alloc, taker, set, i, bounds, columns, &below)?;
     Ok(())
 }
 

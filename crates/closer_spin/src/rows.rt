@@ -1,34 +1,26 @@
 //! The rows in which the closer analysis differs from that of spin locks.
 
 ghost use Rattle.std.specs.Prelude.{◌≡◌, ℕ, ◌<◌, ◌≤◌, ◌+◌, [], ◌∷◌, map, length, slice_index, Option, OnOk};
-ghost use Rattle.number_laws.specs.Sums.{flag};
-ghost use Rattle.program_sources.specs.Bounds.{AreWithinDeadlines};
-ghost use Rattle.blocking_columns.specs.ColumnDef.{column_seen, AreKnown};
+ghost use Rattle.blocking_columns.specs.ColumnDef.{column_seen};
 ghost use Rattle.fragments.specs.Constraints.{per, per_pair};
-ghost use Rattle.spin_charging.specs.SpinPrograms.{is_used_below, spinning_row};
-ghost use Rattle.closer_spin_laws.specs.CloserSpinRows.{is_spun_below, closer_spinning_row, together_row};
+ghost use Rattle.spin_charging.specs.SpinPrograms.{spinning_row};
+ghost use Rattle.closer_spin_laws.specs.CloserSpinRows.{is_spun_below, closer_spinning_row};
 ghost use Rattle.closer_spin_laws.specs.CloserSpinRows.{lower_spinning_row, other_lower_spinning_row};
 ghost use Rattle.spin_protocol.specs.Origins.{AreOrigins};
-ghost use Rattle.closer_spin.specs.Tables.{Tells};
-ghost use Rattle.closer_spin.specs.Together.{taken_together, AreTold};
+ghost use Rattle.spin_protocol.specs.Given.{CanMakeRows};
+ghost use Rattle.closer_spin.specs.Tables.{Tells, TellsUsedBelow, TellsSpun};
+ghost use Rattle.closer_spin.specs.Together.{taken_together, row_together, AreTold};
 
-use crate::tables::{are_several, spun_below, spun_beside, upper_requests};
+use crate::tables::{SpunBelow, SpunBeside, are_several, table_of, upper_requests};
 use fragments::{
     Constraint, Fragment, PerNumber, RowKind, RowTaker, add_per_number, add_row, add_row_limited,
 };
-use spin_protocol::{is_from, is_origin, spinning_requests};
+use spin_protocol::{is_from, is_origin, one_if, spinning_requests};
 use sporadic_model::{ResourceId, TaskId, TaskSet};
 use std::alloc::{AllocError, Global};
 
 /// How many requests of lower tasks are open at a job's release.
 const LOWER_REQUESTS: u64 = 1;
-
-/// One where the test passes, else none.
-fn one_if(test: bool) -> u64
-    ensures { result ≡ flag test }
-{
-    if test { 1 } else { 0 }
-}
 
 /// Of a processor, counted from 1, and a resource: each request of it from the analysed task's processor spins for at most one from
 /// there. Where lower tasks may spin so, a lower request of another resource stands in the place of theirs.
@@ -73,8 +65,7 @@ struct CloserSpinningFrom<'a> {
 impl<'a> PerNumber for CloserSpinningFrom<'a> {
     ghost rows_of = { λ k set i q. closer_spinning_row set i k.processor q ∷ [] };
 
-    ghost fits = { λ k set i columns q. (q < length set.resources)
-        × (Tells (length set.resources) (is_spun_below set i k.processor) k.spun.items × AreOrigins set columns k.origins.now) };
+    ghost fits = { λ k set i columns q. (q < length set.resources) × (TellsSpun set i k.processor k.spun.items × AreOrigins set columns k.origins.now) };
 
     fn add<T: RowTaker>(
         &self,
@@ -111,8 +102,7 @@ pub(crate) struct CloserSpinningRows<'a> {
 impl<'a> PerNumber for CloserSpinningRows<'a> {
     ghost rows_of = { λ k set i n. per (length set.resources) (closer_spinning_row set i (n + 1)) };
 
-    ghost fits = { λ k set i columns n. (n < set.processors)
-        × (Tells (length set.resources) (is_used_below set i) k.below.now × AreOrigins set columns k.origins.now) };
+    ghost fits = { λ k set i columns n. (n < set.processors) × (TellsUsedBelow set i k.below.now × AreOrigins set columns k.origins.now) };
 
     fn add<T: RowTaker>(
         &self,
@@ -129,7 +119,15 @@ impl<'a> PerNumber for CloserSpinningRows<'a> {
         let processor = number + 1;
         let rows = CloserSpinningFrom {
             processor,
-            spun: spun_below(alloc, set, i, processor, self.below)?,
+            spun: table_of(
+                alloc,
+                set,
+                i,
+                &SpunBelow {
+                    processor,
+                    below: self.below,
+                },
+            )?,
             origins: self.origins,
         };
         let resources = set.resources();
@@ -147,7 +145,7 @@ struct TogetherRow {
 }
 
 impl RowKind for TogetherRow {
-    ghost row_of = { λ k set i. together_row set i k.processor (taken_together set i k.processor k.without) };
+    ghost row_of = { λ k set i. row_together set i k.processor k.without };
 
     ghost fits = { λ k set. Unit {0} };
 
@@ -173,13 +171,10 @@ fn add_together<T: RowTaker>(
     columns: &[Fragment],
     row: &TogetherRow,
 ) -> Result<(), AllocError>
-    requires task { i.0 < length set.now.tasks }
-    requires within { AreWithinDeadlines set.now bounds.now }
-    requires known { AreKnown (length set.now.tasks) (length set.now.resources) columns.now }
+    requires can { CanMakeRows set.now i.0 bounds.now columns.now }
     requires table { Tells (length set.now.resources) (taken_together set.now i.0 row.now.processor row.now.without) row.now.table.items }
     ensures { OnOk result (T.takes taker.old (map column_seen columns.now)
-        (together_row set.now i.0 row.now.processor (taken_together set.now i.0 row.now.processor row.now.without) ∷ []) bounds.now
-        taker.new) }
+        (row_together set.now i.0 row.now.processor row.now.without ∷ []) bounds.now taker.new) }
 {
     // a set has at most 32 resources
     let _resources = set.resources();
@@ -200,7 +195,7 @@ pub(crate) struct LowerSpinningRows<'a> {
 impl<'a> PerNumber for LowerSpinningRows<'a> {
     ghost rows_of = { λ k set i n. lower_spinning_row set i (n + 1) ∷ [] };
 
-    ghost fits = { λ k set i columns n. (n < set.processors) × Tells (length set.resources) (is_used_below set i) k.below.now };
+    ghost fits = { λ k set i columns n. (n < set.processors) × TellsUsedBelow set i k.below.now };
 
     fn add<T: RowTaker>(
         &self,
@@ -218,7 +213,15 @@ impl<'a> PerNumber for LowerSpinningRows<'a> {
         let row = TogetherRow {
             processor,
             without: None,
-            table: spun_below(alloc, set, i, processor, self.below)?,
+            table: table_of(
+                alloc,
+                set,
+                i,
+                &SpunBelow {
+                    processor,
+                    below: self.below,
+                },
+            )?,
         };
         add_together(alloc, taker, set, i, bounds, columns, &row)
     }
@@ -234,8 +237,7 @@ struct OtherLowerSpinningFrom {
 impl PerNumber for OtherLowerSpinningFrom {
     ghost rows_of = { λ k set i q. other_lower_spinning_row set i k.processor q ∷ [] };
 
-    ghost fits = { λ k set i columns q. (q < length set.resources)
-        × Tells (length set.resources) (is_spun_below set i k.processor) k.spun.items };
+    ghost fits = { λ k set i columns q. (q < length set.resources) × TellsSpun set i k.processor k.spun.items };
 
     fn add<T: RowTaker>(
         &self,
@@ -255,7 +257,16 @@ impl PerNumber for OtherLowerSpinningFrom {
         let row = TogetherRow {
             processor: self.processor,
             without: Some(without),
-            table: spun_beside(alloc, set, i, self.processor, without, &self.spun)?,
+            table: table_of(
+                alloc,
+                set,
+                i,
+                &SpunBeside {
+                    processor: self.processor,
+                    without,
+                    spun: &self.spun,
+                },
+            )?,
         };
         add_together(alloc, taker, set, i, bounds, columns, &row)
     }
@@ -270,7 +281,7 @@ pub(crate) struct OtherLowerSpinningRows<'a> {
 impl<'a> PerNumber for OtherLowerSpinningRows<'a> {
     ghost rows_of = { λ k set i n. per (length set.resources) (other_lower_spinning_row set i (n + 1)) };
 
-    ghost fits = { λ k set i columns n. (n < set.processors) × Tells (length set.resources) (is_used_below set i) k.below.now };
+    ghost fits = { λ k set i columns n. (n < set.processors) × TellsUsedBelow set i k.below.now };
 
     fn add<T: RowTaker>(
         &self,
@@ -287,7 +298,15 @@ impl<'a> PerNumber for OtherLowerSpinningRows<'a> {
         let processor = number + 1;
         let rows = OtherLowerSpinningFrom {
             processor,
-            spun: spun_below(alloc, set, i, processor, self.below)?,
+            spun: table_of(
+                alloc,
+                set,
+                i,
+                &SpunBelow {
+                    processor,
+                    below: self.below,
+                },
+            )?,
         };
         let resources = set.resources();
         add_per_number(alloc, taker, &rows, set, resources, i, bounds, columns)

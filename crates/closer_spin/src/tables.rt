@@ -1,11 +1,12 @@
 //! Resources that pass a test, as tables, and sums over them.
 
-ghost use Rattle.std.specs.Prelude.{◌≡◌, ℕ, ◌<◌, ◌≤◌, false, nat_lt, length, slice_index, slice_index_or, IfOk};
+ghost use Rattle.std.specs.Prelude.{◌≡◌, ℕ, ◌<◌, ◌≤◌, Bool, false, nat_lt, length, slice_index, slice_index_or, IfOk};
 ghost use Rattle.number_laws.specs.Tests.{count_below};
 ghost use Rattle.program_sources.specs.Bounds.{AreWithinDeadlines};
 ghost use Rattle.spin_charging.specs.SpinPrograms.{is_used_below, upper_requests};
 ghost use Rattle.closer_spin_laws.specs.CloserSpinRows.{is_used_on, is_spun_below, is_spun_beside};
-ghost use Rattle.closer_spin.specs.Tables.{Tells};
+ghost use Rattle.sporadic_model.specs.SetDef.{SetDef};
+ghost use Rattle.closer_spin.specs.Tables.{Tells, TellsUsedBelow, TellsSpun};
 
 use spin_protocol::{higher_requests, is_used_below};
 use sporadic_model::{ResourceId, TaskId, TaskSet};
@@ -25,85 +26,92 @@ fn is_used_on(set: &TaskSet, processor: u32, q: ResourceId) -> bool
     false
 }
 
-/// By resource, whether a lower task of `i`'s processor uses it.
-pub(crate) fn used_below(alloc: Global, set: &TaskSet, i: TaskId) -> Result<Vec<bool>, AllocError>
-    requires { i.0 < length set.now.tasks }
-    ensures { IfOk result (λ v. Tells (length set.now.resources) (is_used_below set.now i.0) v.items) }
+/// A test of resources, for a set and an analysed task.
+pub(crate) trait ResourceTest {
+    /// What it needs of the set and the task.
+    ghost fits: { Self → SetDef → ℕ → Type 0 };
+
+    /// Which resources pass?
+    ghost passes: { Self → SetDef → ℕ → ℕ → Bool };
+
+    /// Does the resource pass?
+    fn test(&self, set: &TaskSet, i: TaskId, q: ResourceId) -> bool
+        requires task { i.0 < length set.now.tasks }
+        requires resource { q.0 < length set.now.resources }
+        requires fits { fits self.now set.now i.0 }
+        ensures { result ≡ passes self.now set.now i.0 q.0 };
+}
+
+/// By resource, whether it passes the test.
+pub(crate) fn table_of<R: ResourceTest>(
+    alloc: Global,
+    set: &TaskSet,
+    i: TaskId,
+    test: &R,
+) -> Result<Vec<bool>, AllocError>
+    requires task { i.0 < length set.now.tasks }
+    requires fits { R.fits test.now set.now i.0 }
+    ensures { IfOk result (λ v. Tells (length set.now.resources) (R.passes test.now set.now i.0) v.items) }
 {
-    let mut used = Vec::with_capacity(alloc, set.resources() as usize)?;
+    let mut table = Vec::with_capacity(alloc, set.resources() as usize)?;
     for q in 0..set.resources() {
-        used.push(is_used_below(set, i, ResourceId(q)))?;
+        table.push(test.test(set, i, ResourceId(q)))?;
     }
-    Ok(used)
+    Ok(table)
+}
+
+/// Does a lower task of `i`'s processor use the resource?
+#[derive(Drop)]
+pub(crate) struct UsedBelow;
+
+impl ResourceTest for UsedBelow {
+    ghost fits = { λ t set i. Unit {0} };
+
+    ghost passes = { λ t. is_used_below };
+
+    fn test(&self, set: &TaskSet, i: TaskId, q: ResourceId) -> bool {
+        is_used_below(set, i, q)
+    }
 }
 
 /// May a lower task of `i`'s processor spin for a request of the resource by a task of the processor? The table tells which resources
 /// lower tasks use.
-fn is_spun_below(set: &TaskSet, i: TaskId, processor: u32, q: ResourceId, below: &[bool]) -> bool
-    requires task { i.0 < length set.now.tasks }
-    requires resource { q.0 < length set.now.resources }
-    requires below { Tells (length set.now.resources) (is_used_below set.now i.0) below.now }
-    ensures { result ≡ is_spun_below set.now i.0 processor q.0 }
-{
-    // lower tasks use few resources, so this looks for users on the processor last
-    below[q.0 as usize] && processor != set.processor(i) && is_used_on(set, processor, q)
+#[derive(Drop)]
+pub(crate) struct SpunBelow<'a> {
+    pub(crate) processor: u32,
+    pub(crate) below: &'a [bool],
 }
 
-/// By resource, whether a lower task of `i`'s processor may spin for a request of it by a task of the processor.
-pub(crate) fn spun_below(
-    alloc: Global,
-    set: &TaskSet,
-    i: TaskId,
-    processor: u32,
-    below: &[bool],
-) -> Result<Vec<bool>, AllocError>
-    requires task { i.0 < length set.now.tasks }
-    requires below { Tells (length set.now.resources) (is_used_below set.now i.0) below.now }
-    ensures { IfOk result (λ v. Tells (length set.now.resources) (is_spun_below set.now i.0 processor) v.items) }
-{
-    let mut spun = Vec::with_capacity(alloc, set.resources() as usize)?;
-    for q in 0..set.resources() {
-        spun.push(is_spun_below(set, i, processor, ResourceId(q), below))?;
+impl<'a> ResourceTest for SpunBelow<'a> {
+    ghost fits = { λ t set i. TellsUsedBelow set i t.below.now };
+
+    ghost passes = { λ t set i. is_spun_below set i t.processor };
+
+    fn test(&self, set: &TaskSet, i: TaskId, q: ResourceId) -> bool {
+        // lower tasks use few resources, so this looks for users on the processor last
+        self.below[q.0 as usize]
+            && self.processor != set.processor(i)
+            && is_used_on(set, self.processor, q)
     }
-    Ok(spun)
 }
 
 /// May a lower task of `i`'s processor spin for requests of both resources by tasks of the processor, where the table tells for which it
 /// may, and are they two?
-fn is_spun_beside(
-    set: &TaskSet,
-    i: TaskId,
-    processor: u32,
-    without: ResourceId,
-    q: ResourceId,
-    spun: &[bool],
-) -> bool
-    requires without { without.0 < length set.now.resources }
-    requires resource { q.0 < length set.now.resources }
-    requires table { Tells (length set.now.resources) (is_spun_below set.now i.0 processor) spun.now }
-    ensures { result ≡ is_spun_beside set.now i.0 processor without.0 q.0 }
-{
-    spun[without.0 as usize] && (spun[q.0 as usize] && q != without)
+#[derive(Drop)]
+pub(crate) struct SpunBeside<'a> {
+    pub(crate) processor: u32,
+    pub(crate) without: ResourceId,
+    pub(crate) spun: &'a [bool],
 }
 
-/// All resources of that table but one, where that one is of it, else none.
-pub(crate) fn spun_beside(
-    alloc: Global,
-    set: &TaskSet,
-    i: TaskId,
-    processor: u32,
-    without: ResourceId,
-    spun: &[bool],
-) -> Result<Vec<bool>, AllocError>
-    requires resource { without.0 < length set.now.resources }
-    requires table { Tells (length set.now.resources) (is_spun_below set.now i.0 processor) spun.now }
-    ensures { IfOk result (λ v. Tells (length set.now.resources) (is_spun_beside set.now i.0 processor without.0) v.items) }
-{
-    let mut others = Vec::with_capacity(alloc, spun.len())?;
-    for q in 0..set.resources() {
-        others.push(is_spun_beside(set, i, processor, without, ResourceId(q), spun))?;
+impl<'a> ResourceTest for SpunBeside<'a> {
+    ghost fits = { λ t set i. (t.without.0 < length set.resources) × TellsSpun set i t.processor t.spun.now };
+
+    ghost passes = { λ t set i. is_spun_beside set i t.processor t.without.0 };
+
+    fn test(&self, _set: &TaskSet, _i: TaskId, q: ResourceId) -> bool {
+        self.spun[self.without.0 as usize] && (self.spun[q.0 as usize] && q != self.without)
     }
-    Ok(others)
 }
 
 /// Do two resources of the table pass, or more?

@@ -1,2 +1,4 @@
 pub mod Windows
 pub mod Times
+pub mod Amounts
+pub mod Served

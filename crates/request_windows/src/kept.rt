@@ -1,11 +1,10 @@
 //! The windows of a task's requests, computed once for all of its rows.
 
 ghost use Rattle.std.specs.Prelude.{◌≡◌, ◌<◌, ◌≤◌, true, length, slice_index, IfOk, unwrap_or};
-ghost use Rattle.sporadic_model.specs.Homes.{EachHasHome};
 ghost use Rattle.sporadic_model.specs.Users.{is_user};
-ghost use Rattle.program_sources.specs.Bounds.{AreWithinDeadlines};
 ghost use Rattle.window_laws.specs.Windows.{window_of};
 ghost use Rattle.request_windows.specs.Windows.{AreWindows};
+ghost use Rattle.request_windows.specs.Served.{IsServed};
 
 use crate::searching::window;
 use fragments::uses;
@@ -14,10 +13,8 @@ use std::alloc::{AllocError, Global};
 
 // The window of a request of `q` by `i`, if `i` requests it.
 fn window_if_used(set: &TaskSet, i: TaskId, q: ResourceId, bounds: &[u64]) -> Option<u64>
-    requires task { i.0 < length set.now.tasks }
+    requires served { IsServed set.now i.0 bounds.now }
     requires resource { q.0 < length set.now.resources }
-    requires suits { EachHasHome set.now }
-    requires within { AreWithinDeadlines set.now bounds.now }
     ensures value { is_user set.now q.0 i.0 ≡ true → result ≡ window_of set.now (slice_index bounds.now) i.0 q.0 }
     ensures small { unwrap_or result 0 ≤ 1000000000 }
 {
@@ -37,9 +34,7 @@ pub(crate) fn windows_of(
     i: TaskId,
     bounds: &[u64],
 ) -> Result<Vec<Option<u64>>, AllocError>
-    requires task { i.0 < length set.now.tasks }
-    requires suits { EachHasHome set.now }
-    requires within { AreWithinDeadlines set.now bounds.now }
+    requires { IsServed set.now i.0 bounds.now }
     ensures { IfOk result (λ v. AreWindows set.now (slice_index bounds.now) i.0 v.items) }
 {
     let mut windows = Vec::with_capacity(alloc, set.resources() as usize)?;

@@ -8,6 +8,7 @@ ghost use Rattle.blocking_columns.specs.ColumnDef.{column_seen};
 ghost use Rattle.blocking_columns.specs.Columns.{columns_of};
 ghost use Rattle.window_laws.specs.WindowRows.{windowed_rows, windowed_program};
 ghost use Rattle.window_laws.proofs.Programs.{windowed_is_program};
+ghost use Rattle.request_windows.specs.Served.{IsServed};
 
 use crate::rows::add_window_rows;
 use fragments::{Fragment, RowTaker, columns_stand_in_order, fragments};
@@ -25,9 +26,7 @@ fn add_rows<T: RowTaker>(
     bounds: &[u64],
     columns: &[Fragment],
 ) -> Result<(), AllocError>
-    requires task { i.0 < length set.now.tasks }
-    requires suits { EachHasHome set.now }
-    requires within { AreWithinDeadlines set.now bounds.now }
+    requires served { IsServed set.now i.0 bounds.now }
     requires columns { map column_seen columns.now ≡ columns_of protocol.Dpcp set.now i.0 }
     ensures { OnOk result (T.takes taker.old (map column_seen columns.now) (windowed_rows set.now i.0) bounds.now taker.new) }
 {

@@ -1,16 +1,15 @@
 //! The rows of windows.
 
 ghost use Rattle.std.specs.Prelude.{◌≡◌, ◌<◌, map, length, slice_index, OnOk};
-ghost use Rattle.sporadic_model.specs.Homes.{EachHasHome};
-ghost use Rattle.program_sources.specs.Bounds.{AreWithinDeadlines};
 ghost use Rattle.blocking_columns.specs.ColumnDef.{column_seen, AreKnown};
 ghost use Rattle.blocking_columns.specs.Stretches.{AreInOrder};
 ghost use Rattle.blocking_columns.specs.TaskPlaces.{ArePlaces};
 ghost use Rattle.window_laws.specs.WindowRows.{window_row, window_rows};
 ghost use Rattle.request_windows.specs.Windows.{AreWindows};
+ghost use Rattle.request_windows.specs.Served.{IsServed};
 
 use crate::kept::windows_of;
-use crate::limits::limit;
+use crate::limits::{Meeting, limit};
 use fragments::{
     Fragment, PerRequest, RowKind, RowTaker, TaskPlace, add_per_request_at, add_row_limited,
 };
@@ -71,7 +70,15 @@ impl PerRequest for WindowRows {
             task: x,
             resource: q,
         };
-        let most = limit(set, i, x, q, jobs, bounds, &self.windows);
+        let meeting = Meeting {
+            set,
+            i,
+            x,
+            r: q,
+            bounds,
+            windows: &self.windows,
+        };
+        let most = limit(&meeting, jobs);
         add_row_limited(alloc, taker, &row, set, i, bounds, columns, stretch, most)
     }
 }
@@ -87,9 +94,7 @@ pub(crate) fn add_window_rows<T: RowTaker>(
     columns: &[Fragment],
     places: &[TaskPlace],
 ) -> Result<(), AllocError>
-    requires task { i.0 < length set.now.tasks }
-    requires suits { EachHasHome set.now }
-    requires within { AreWithinDeadlines set.now bounds.now }
+    requires served { IsServed set.now i.0 bounds.now }
     requires known { AreKnown (length set.now.tasks) (length set.now.resources) columns.now }
     requires order { AreInOrder columns.now }
     requires places { ArePlaces set.now (slice_index bounds.now) i.0 (length set.now.tasks) columns.now places.now }

@@ -7,24 +7,21 @@ ghost use Rattle.sporadic_model.specs.Users.{is_user};
 ghost use Rattle.program_sources.specs.Bounds.{AreWithinDeadlines};
 ghost use Rattle.window_laws.specs.Windows.{window_of};
 
-use crate::ticks::{own_and_lower, ticks_there, times_of_higher};
+use crate::ticks::{Request, own_and_lower, ticks_there, times_of_higher};
 use fragments::home;
 use sporadic_model::{ResourceId, TaskId, TaskSet};
 
 // The least number of ticks that is enough, from below. If a number isn't, no number is that is less than what can run in that many ticks.
-fn search(set: &TaskSet, i: TaskId, q: ResourceId, bounds: &[u64]) -> Option<u64>
-    requires task { i.0 < length set.now.tasks }
-    requires resource { q.0 < length set.now.resources }
-    requires within { AreWithinDeadlines set.now bounds.now }
-    ensures value { result ≡ window_of set.now (slice_index bounds.now) i.0 q.0 }
-    ensures within { IfSome result (λ w. (1 ≤ w) × (w ≤ (task_at set.now i.0).deadline)) }
+fn search(at: &Request) -> Option<u64>
+    ensures value { result ≡ window_of at.now.set.now (slice_index at.now.bounds.now) at.now.i.0 at.now.q.0 }
+    ensures within { IfSome result (λ w. (1 ≤ w) × (w ≤ (task_at at.now.set.now at.now.i.0).deadline)) }
 {
-    let deadline = set.deadline(i);
-    let own = own_and_lower(set, i, q);
-    let times = times_of_higher(set, i, home(set, q));
+    let deadline = at.set.deadline(at.i);
+    let own = own_and_lower(at);
+    let times = times_of_higher(at.set, at.i, home(at.set, at.q));
     let mut span = 1u64;
     while span <= deadline {
-        let there = ticks_there(set, i, q, bounds, own, &times, span);
+        let there = ticks_there(at, own, &times, span);
         if there <= u128::from(span) {
             return Some(span);
         }
@@ -45,5 +42,5 @@ pub fn window(set: &TaskSet, i: TaskId, q: ResourceId, bounds: &[u64]) -> Option
     ensures value { result ≡ window_of set.now (slice_index bounds.now) i.0 q.0 }
     ensures within { IfSome result (λ w. (1 ≤ w) × (w ≤ (task_at set.now i.0).deadline)) }
 {
-    search(set, i, q, bounds)
+    search(&Request { set, i, q, bounds })
 }

@@ -1,6 +1,7 @@
 //! How many ticks of requests may run on a processor.
 
 ghost use Rattle.std.specs.Prelude.{◌≡◌, ◌<◌, ◌≤◌, ◌*◌, ◌+◌, length, slice_index};
+ghost use Rattle.std.proofs.Props.{props};
 ghost use Rattle.number_laws.specs.Sums.{only_if, sum_below};
 ghost use Rattle.sporadic_model.specs.Users.{count_of, length_of};
 ghost use Rattle.sporadic_model.specs.Homes.{home_in};
@@ -9,6 +10,7 @@ ghost use Rattle.program_sources.specs.Bounds.{AreWithinDeadlines};
 ghost use Rattle.blocking_columns.specs.Windows.{jobs_during};
 ghost use Rattle.window_laws.specs.Windows.{time_at, may_hold_up, longest_lower, ticks_by, ticks_there};
 ghost use Rattle.request_windows.specs.Times.{AreTimes};
+ghost use Rattle.request_windows.specs.Amounts.{IsAmount};
 
 use fragments::{ceiling_place, home, uses};
 use sporadic_model::{ResourceId, TaskId, TaskSet, jobs_in};
@@ -17,8 +19,7 @@ use sporadic_model::{ResourceId, TaskId, TaskSet, jobs_in};
 fn time_of(set: &TaskSet, x: TaskId, q: ResourceId) -> u64
     requires task { x.0 < length set.now.tasks }
     requires resource { q.0 < length set.now.resources }
-    ensures value { result ≡ count_of set.now x.0 q.0 * length_of set.now x.0 q.0 }
-    ensures most { result ≤ 1000000000000 }
+    ensures { IsAmount result (count_of set.now x.0 q.0 * length_of set.now x.0 q.0) 1000000000000 }
 {
     set.count(x, q) * set.length(x, q)
 }
@@ -26,8 +27,7 @@ fn time_of(set: &TaskSet, x: TaskId, q: ResourceId) -> u64
 // How many ticks may all requests of one job of task `x` run on processor `k`?
 fn time_at(set: &TaskSet, x: TaskId, k: u32) -> u64
     requires { x.0 < length set.now.tasks }
-    ensures value { result ≡ time_at set.now x.0 k }
-    ensures most { result ≤ 32000000000000 }
+    ensures { IsAmount result (time_at set.now x.0 k) 32000000000000 }
 {
     // a task uses no more resources than the set has, and that has few
     let _resources = set.resources();
@@ -67,9 +67,8 @@ fn holds_up(set: &TaskSet, i: TaskId, k: u32, x: TaskId, q: ResourceId) -> bool
 // How many ticks may the longest of these requests by `x` last?
 fn longest_by(set: &TaskSet, i: TaskId, k: u32, x: TaskId) -> u64
     requires { x.0 < length set.now.tasks }
-    ensures value { result ≡ greatest_below (length set.now.resources)
-        (λ q. only_if (may_hold_up set.now i.0 k x.0 q) (length_of set.now x.0 q)) }
-    ensures most { result ≤ 1000000000 }
+    ensures { IsAmount result (greatest_below (length set.now.resources)
+        (λ q. only_if (may_hold_up set.now i.0 k x.0 q) (length_of set.now x.0 q))) 1000000000 }
 {
     let used = set.used_by(x);
     let mut longest = 0;
@@ -83,8 +82,7 @@ fn longest_by(set: &TaskSet, i: TaskId, k: u32, x: TaskId) -> u64
 
 // The same for any lower task.
 fn longest_lower(set: &TaskSet, i: TaskId, k: u32) -> u64
-    ensures value { result ≡ longest_lower set.now i.0 k }
-    ensures most { result ≤ 1000000000 }
+    ensures { IsAmount result (longest_lower set.now i.0 k) 1000000000 }
 {
     let mut longest = 0;
     for x in 0..set.tasks() {
@@ -93,78 +91,67 @@ fn longest_lower(set: &TaskSet, i: TaskId, k: u32) -> u64
     longest
 }
 
-/// How many ticks may a request of `q` by `i` last, and the longest lower request that may hold it up? This doesn't depend on the span.
-pub(crate) fn own_and_lower(set: &TaskSet, i: TaskId, q: ResourceId) -> u64
-    requires task { i.0 < length set.now.tasks }
-    requires resource { q.0 < length set.now.resources }
-    ensures value { result ≡ length_of set.now i.0 q.0 + longest_lower set.now i.0 (home_in set.now q.0) }
-    ensures most { result ≤ 2000000000 }
+/// A request of a resource by a task, and the bounds of all tasks.
+#[derive(Drop)]
+pub(crate) struct Request<'a> {
+    pub(crate) set: &'a TaskSet,
+    pub(crate) i: TaskId,
+    pub(crate) q: ResourceId,
+    pub(crate) bounds: &'a [u64],
+    ghost task: { i.0 < length set.now.tasks },
+    ghost resource: { q.0 < length set.now.resources },
+    ghost within: { AreWithinDeadlines set.now bounds.now } by { Prim.hlevel props },
+}
+
+/// How many ticks may the request last, and the longest lower request that may hold it up? This doesn't depend on the span.
+pub(crate) fn own_and_lower(at: &Request) -> u64
+    ensures { IsAmount result (length_of at.now.set.now at.now.i.0 at.now.q.0
+        + longest_lower at.now.set.now at.now.i.0 (home_in at.now.set.now at.now.q.0)) 2000000000 }
 {
-    set.length(i, q) + longest_lower(set, i, home(set, q))
+    at.set.length(at.i, at.q) + longest_lower(at.set, at.i, home(at.set, at.q))
 }
 
 // How many ticks may requests of jobs of `x` run in a span of ticks, if those of one job run for `time`?
-fn ticks_by(set: &TaskSet, bounds: &[u64], span: u64, x: TaskId, time: u64) -> u128
-    requires task { x.0 < length set.now.tasks }
-    requires within { AreWithinDeadlines set.now bounds.now }
+fn ticks_by(at: &Request, span: u64, x: TaskId, time: u64) -> u128
+    requires task { x.0 < length at.now.set.now.tasks }
     requires span { span ≤ 1000000000 }
     requires time { time ≤ 32000000000000 }
-    ensures value { result ≡ jobs_during set.now (slice_index bounds.now) span x.0 * time }
-    ensures most { result ≤ 64000000000000000000000 }
+    ensures { IsAmount result (jobs_during at.now.set.now (slice_index at.now.bounds.now) span x.0 * time) 64000000000000000000000 }
 {
     // most tasks run nothing there
     if time == 0 {
         return 0;
     }
     // no bound and jitter together are above the deadline of their task, which is within the limits of every set
-    let _tasks = set.tasks();
-    let bound = bounds[x.0 as usize] + set.jitter(x);
-    let jobs = jobs_in(span, bound, set.period(x));
+    let _tasks = at.set.tasks();
+    let bound = at.bounds[x.0 as usize] + at.set.jitter(x);
+    let jobs = jobs_in(span, bound, at.set.period(x));
     u128::from(jobs) * u128::from(time)
 }
 
 // The same for all tasks higher than `i`, on processor `k`.
-fn ticks_by_higher(
-    set: &TaskSet,
-    i: TaskId,
-    bounds: &[u64],
-    k: u32,
-    times: &[u64],
-    span: u64,
-) -> u128
-    requires task { i.0 < length set.now.tasks }
-    requires within { AreWithinDeadlines set.now bounds.now }
-    requires times { AreTimes set.now i.0 k times.now }
+fn ticks_by_higher(at: &Request, k: u32, times: &[u64], span: u64) -> u128
+    requires times { AreTimes at.now.set.now at.now.i.0 k times.now }
     requires span { span ≤ 1000000000 }
-    ensures value { result ≡ sum_below i.0 (ticks_by set.now (slice_index bounds.now) k span) }
-    ensures most { result ≤ i.0 * 64000000000000000000000 }
+    ensures { IsAmount result (sum_below at.now.i.0 (ticks_by at.now.set.now (slice_index at.now.bounds.now) k span))
+        (at.now.i.0 * 64000000000000000000000) }
 {
     let mut total = 0u128;
-    for x in 0..i.0 {
-        total += ticks_by(set, bounds, span, TaskId(x), times[x as usize]);
+    for x in 0..at.i.0 {
+        total += ticks_by(at, span, TaskId(x), times[x as usize]);
     }
     total
 }
 
-/// Let a request of `q` by `i` be open. How many ticks may requests run at the home of `q` in this span from its issue on?
-pub(crate) fn ticks_there(
-    set: &TaskSet,
-    i: TaskId,
-    q: ResourceId,
-    bounds: &[u64],
-    own: u64,
-    times: &[u64],
-    span: u64,
-) -> u128
-    requires task { i.0 < length set.now.tasks }
-    requires resource { q.0 < length set.now.resources }
-    requires within { AreWithinDeadlines set.now bounds.now }
-    requires own { own ≡ length_of set.now i.0 q.0 + longest_lower set.now i.0 (home_in set.now q.0) }
-    requires times { AreTimes set.now i.0 (home_in set.now q.0) times.now }
+/// Let the request be open. How many ticks may requests run at its resource's home in this span from its issue on?
+pub(crate) fn ticks_there(at: &Request, own: u64, times: &[u64], span: u64) -> u128
+    requires own { own ≡ length_of at.now.set.now at.now.i.0 at.now.q.0
+        + longest_lower at.now.set.now at.now.i.0 (home_in at.now.set.now at.now.q.0) }
+    requires times { AreTimes at.now.set.now at.now.i.0 (home_in at.now.set.now at.now.q.0) times.now }
     requires span { span ≤ 1000000000 }
-    ensures { result ≡ ticks_there set.now (slice_index bounds.now) i.0 q.0 span }
+    ensures { result ≡ ticks_there at.now.set.now (slice_index at.now.bounds.now) at.now.i.0 at.now.q.0 span }
 {
     // a set has at most 64 tasks, so the sum fits
-    let _tasks = set.tasks();
-    u128::from(own) + ticks_by_higher(set, i, bounds, home(set, q), times, span)
+    let _tasks = at.set.tasks();
+    u128::from(own) + ticks_by_higher(at, home(at.set, at.q), times, span)
 }

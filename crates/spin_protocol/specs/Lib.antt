@@ -5,3 +5,4 @@ pub mod SpinChargeNow
 pub mod NextRow
 pub mod Used
 pub mod Origins
+pub mod Given

@@ -1,5 +1,5 @@
 -- A table of where columns come from.
-use Rattle.std.specs.Prelude.{◌≡◌, ℕ, ◌*◌, ◌+◌, Bool, true, false, List, slice_index_or}
+use Rattle.std.specs.Prelude.{◌≡◌, ℕ, ◌*◌, ◌+◌, Bool, true, false, List, length, slice_index_or}
 use Rattle.std.specs.List.{All}
 use Rattle.sporadic_model.specs.SetDef.{SetDef, task_at}
 use Rattle.blocking_columns.specs.declared.columns.Class.TheVariants as class
@@ -17,3 +17,9 @@ IsMarked set table c = is_class class.Preemption c.class ≡ false
 
 abbrev pub AreOrigins : SetDef → List Fragment → List Bool → Type 0
 AreOrigins set columns table = All (λ c. IsMarked set table (column_seen c)) columns
+
+-- Is the column marked in the table that was made of another one, and all that this one marks?
+pub record Marks (set : SetDef) (c : ColumnDef) (before after : List Bool) : Type 0 where
+  pub room : length after ≡ length before
+  pub marked : IsMarked set after c
+  pub kept : (n : ℕ) → slice_index_or before n false ≡ true → slice_index_or after n false ≡ true

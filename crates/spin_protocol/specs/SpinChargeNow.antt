@@ -1,9 +1,11 @@
 -- The charge of a blocked job under spin locks, from a machine's state and the next row.
-use Rattle.std.specs.Prelude.{ℕ, ◌==◌, ◌&&◌, Bool, false, Option, None, Some, if◌then◌else◌, length}
+use Rattle.std.specs.Prelude.{◌≡◌, ℕ, ◌<◌, ◌==◌, ◌&&◌, Bool, false, Option, None, Some, if◌then◌else◌, length, IfSome}
 use Rattle.std.specs.Option.{option_map_or, option_and_then}
 use Rattle.number_laws.specs.Tests.{found_below}
 use Rattle.sporadic_model.specs.SetDef.{task_at}
 use Rattle.schedule_model.specs.RowDef.{RowDef, running_on, holder_in}
+use Rattle.schedule_model.specs.JobDef.{JobsDef}
+use Rattle.schedule_model.specs.declared.job.JobId.{JobId}
 use Rattle.schedule_model.specs.Phase.{Phase}
 use Rattle.schedule_model.specs.Phase.Phase.{Asking}
 use Rattle.phase_machine.specs.MachineDef.{MachineDef}
@@ -11,6 +13,7 @@ use Rattle.phase_machine.specs.Now.{phase_now, current_now, processor_now}
 use Rattle.blocking_columns.specs.declared.columns.Class.{Class}
 use Rattle.blocking_columns.specs.declared.columns.Class.TheVariants.{Direct, Indirect, Preemption}
 use Rattle.charge_laws.specs.Charges.{Charge, charge_to}
+use Rattle.charged_protocols.specs.Seen.{charge_seen}
 use Rattle.spin_protocol.specs.SpinTests.{spins_now}
 
 -- Does task x's active job spin? Is x a task of processor k for which it does? And which job spins there? The search begins with the
@@ -45,3 +48,8 @@ charge_with m row j None = spinning_charge_now m row j
 
 abbrev pub beside_charge_now : MachineDef → RowDef → ℕ → Option Charge
 beside_charge_now m row j = charge_with m row j (running_on row (processor_now m j))
+
+-- Does the answer name this charge, and then a job of the list?
+pub record Names (list : JobsDef) (charge : Option Charge) (named : Option (JobId × Class)) : Type 0 where
+  pub value : charge_seen named ≡ charge
+  pub listed : IfSome named (λ c. c.0.0 < length list.jobs)

@@ -1,7 +1,8 @@
 //! The charge of a tick.
 
 ghost use Rattle.std.specs.Prelude.{◌≡◌, ℕ, ◌<◌, length, IfSome};
-ghost use Rattle.schedule_model.specs.RowDef.{RowDef, holder_in};
+ghost use Rattle.std.proofs.Props.{props};
+ghost use Rattle.schedule_model.specs.RowDef.{RowDef};
 ghost use Rattle.schedule_model.specs.SharedRules.{KeepsRun};
 ghost use Rattle.schedule_model.specs.Seen.{row_seen, place_seen};
 ghost use Rattle.phase_machine.specs.MachineDef.{under};
@@ -9,8 +10,7 @@ ghost use Rattle.phase_machine.specs.Shows.{Shows};
 ghost use Rattle.phase_machine.specs.Taking.{IsRowFor};
 ghost use Rattle.charged_protocols.specs.Seen.{charge_seen};
 ghost use Rattle.spin_charging.specs.SpinCharges.{spin_charge};
-ghost use Rattle.spin_protocol.specs.SpinTests.{spins_now};
-ghost use Rattle.spin_protocol.specs.SpinChargeNow.{current_spins, is_spinning_task_now, spinner_now};
+ghost use Rattle.spin_protocol.specs.SpinChargeNow.{Names, is_spinning_task_now, spinner_now};
 ghost use Rattle.spin_protocol.specs.SpinChargeNow.{class_of_spinner, spinner_charge_now, spinning_charge_now, beside_charge_now};
 
 use crate::judging::spins;
@@ -22,46 +22,37 @@ use schedule_model::{JobId, Row};
 use shared_rules::blocked_shared;
 use sporadic_model::TaskId;
 
-/// Does the job spin in this row, if it is active?
-fn spins_in(machine: &Machine, row: &Row, s: JobId) -> bool
-    requires fits { IsRowFor machine.now.list (row_seen row.now) }
-    requires listed { s.0 < length machine.now.list.jobs }
-    ensures { result ≡ spins_now machine.now (holder_in (row_seen row.now)) s.0 }
-{
-    spins(machine, &row.holders, s)
+/// A tick: the machine before it, and a row for it.
+#[derive(Drop)]
+pub(crate) struct Tick<'a> {
+    pub(crate) machine: &'a Machine<'a>,
+    pub(crate) row: &'a Row,
+    ghost fits: { IsRowFor machine.now.list (row_seen row.now) } by { Prim.hlevel props },
 }
 
-/// Does the task's active job spin, if it has one?
-fn current_spins(machine: &Machine, row: &Row, x: TaskId) -> bool
-    requires fits { IsRowFor machine.now.list (row_seen row.now) }
-    requires task { x.0 < length machine.now.list.set.tasks }
-    ensures { result ≡ current_spins machine.now (row_seen row.now) x.0 }
+/// Is it a task of the processor whose active job spins?
+fn is_spinning_task(tick: &Tick, processor: u32, x: TaskId) -> bool
+    requires { x.0 < length tick.now.machine.now.list.set.tasks }
+    ensures { result ≡ is_spinning_task_now tick.now.machine.now (row_seen tick.now.row.now) processor x.0 }
 {
-    match machine.current(x) {
-        Some(s) => spins_in(machine, row, s),
+    if tick.machine.jobs().set().processor(x) != processor {
+        return false;
+    }
+    match tick.machine.current(x) {
+        Some(s) => spins(tick.machine, &tick.row.holders, s),
         None => false,
     }
 }
 
-/// Is it a task of the processor whose active job spins?
-fn is_spinning_task(machine: &Machine, row: &Row, processor: u32, x: TaskId) -> bool
-    requires fits { IsRowFor machine.now.list (row_seen row.now) }
-    requires task { x.0 < length machine.now.list.set.tasks }
-    ensures { result ≡ is_spinning_task_now machine.now (row_seen row.now) processor x.0 }
-{
-    machine.jobs().set().processor(x) == processor && current_spins(machine, row, x)
-}
-
 /// The job of the processor's tasks that spins. The search begins with the highest task.
 #[tactic(auto, unfolding(crate::specs::SpinChargeNow::spinner_now))]
-fn spinner(machine: &Machine, row: &Row, processor: u32) -> Option<JobId>
-    requires { IsRowFor machine.now.list (row_seen row.now) }
-    ensures value { place_seen result ≡ spinner_now machine.now (row_seen row.now) processor }
-    ensures listed { IfSome result (λ s. s.0 < length machine.now.list.jobs) }
+fn spinner(tick: &Tick, processor: u32) -> Option<JobId>
+    ensures value { place_seen result ≡ spinner_now tick.now.machine.now (row_seen tick.now.row.now) processor }
+    ensures listed { IfSome result (λ s. s.0 < length tick.now.machine.now.list.jobs) }
 {
-    for x in 0..tasks_of(machine) {
-        if is_spinning_task(machine, row, processor, TaskId(x)) {
-            return machine.current(TaskId(x));
+    for x in 0..tasks_of(tick.machine) {
+        if is_spinning_task(tick, processor, TaskId(x)) {
+            return tick.machine.current(TaskId(x));
         }
     }
     None
@@ -79,56 +70,52 @@ fn class_of_spinner(j: JobId, s: JobId) -> Class
 }
 
 /// The charge for a job while `s` spins on its processor: the holder of the resource for which `s` spins.
-fn charge_by_spinner(machine: &Machine, row: &Row, j: JobId, s: JobId) -> Option<(JobId, Class)>
-    requires fits { IsRowFor machine.now.list (row_seen row.now) }
-    requires spinner { s.0 < length machine.now.list.jobs }
-    ensures value { charge_seen result ≡ spinner_charge_now machine.now (row_seen row.now) j.0 s.0 }
-    ensures listed { IfSome result (λ c. c.0.0 < length machine.now.list.jobs) }
+fn charge_by_spinner(tick: &Tick, j: JobId, s: JobId) -> Option<(JobId, Class)>
+    requires { s.0 < length tick.now.machine.now.list.jobs }
+    ensures { Names tick.now.machine.now.list (spinner_charge_now tick.now.machine.now (row_seen tick.now.row.now) j.0 s.0) result }
 {
-    match machine.phase(s) {
-        Phase::Asking(_, q) => charge_to(class_of_spinner(j, s), holder_at(machine, row, q)),
+    match tick.machine.phase(s) {
+        Phase::Asking(_, q) => charge_to(
+            class_of_spinner(j, s),
+            holder_at(tick.machine, tick.row, q),
+        ),
         Phase::Local => None,
         Phase::Finished => None,
     }
 }
 
 /// The charge for a job whose processor runs nothing.
-fn charge_of_spinning(machine: &Machine, row: &Row, j: JobId) -> Option<(JobId, Class)>
-    requires fits { IsRowFor machine.now.list (row_seen row.now) }
-    requires listed { j.0 < length machine.now.list.jobs }
-    ensures value { charge_seen result ≡ spinning_charge_now machine.now (row_seen row.now) j.0 }
-    ensures listed { IfSome result (λ c. c.0.0 < length machine.now.list.jobs) }
+fn charge_of_spinning(tick: &Tick, j: JobId) -> Option<(JobId, Class)>
+    requires { j.0 < length tick.now.machine.now.list.jobs }
+    ensures { Names tick.now.machine.now.list (spinning_charge_now tick.now.machine.now (row_seen tick.now.row.now) j.0) result }
 {
-    match spinner(machine, row, processor_of(machine, j)) {
-        Some(s) => charge_by_spinner(machine, row, j, s),
+    match spinner(tick, processor_of(tick.machine, j)) {
+        Some(s) => charge_by_spinner(tick, j, s),
         None => None,
     }
 }
 
 /// The charge of a blocked job: what runs on its processor, or the request for which a job there spins.
-fn charge_beside(machine: &Machine, row: &Row, j: JobId) -> Option<(JobId, Class)>
-    requires fits { IsRowFor machine.now.list (row_seen row.now) }
-    requires listed { j.0 < length machine.now.list.jobs }
-    ensures value { charge_seen result ≡ beside_charge_now machine.now (row_seen row.now) j.0 }
-    ensures listed { IfSome result (λ c. c.0.0 < length machine.now.list.jobs) }
+fn charge_beside(tick: &Tick, j: JobId) -> Option<(JobId, Class)>
+    requires { j.0 < length tick.now.machine.now.list.jobs }
+    ensures { Names tick.now.machine.now.list (beside_charge_now tick.now.machine.now (row_seen tick.now.row.now) j.0) result }
 {
-    match running_beside(machine, row, j) {
+    match running_beside(tick.machine, tick.row, j) {
         Some(r) => Some((r, Class::Preemption)),
-        None => charge_of_spinning(machine, row, j),
+        None => charge_of_spinning(tick, j),
     }
 }
 
 /// The charge of the tick for the job.
-pub(crate) fn charged_spin(machine: &Machine, row: &Row, j: JobId) -> Option<(JobId, Class)>
-    requires fits { IsRowFor machine.now.list (row_seen row.now) }
-    requires listed { j.0 < length machine.now.list.jobs }
-    ensures value { (rows : ℕ → RowDef) → Shows machine.now rows → rows machine.now.tick ≡ row_seen row.now
-        → KeepsRun (under machine.now rows) machine.now.tick
-        → charge_seen result ≡ spin_charge (under machine.now rows) machine.now.tick j.0 }
-    ensures listed { IfSome result (λ c. c.0.0 < length machine.now.list.jobs) }
+pub(crate) fn charged_spin(tick: &Tick, j: JobId) -> Option<(JobId, Class)>
+    requires { j.0 < length tick.now.machine.now.list.jobs }
+    ensures value { (rows : ℕ → RowDef) → Shows tick.now.machine.now rows
+        → rows tick.now.machine.now.tick ≡ row_seen tick.now.row.now → KeepsRun (under tick.now.machine.now rows) tick.now.machine.now.tick
+        → charge_seen result ≡ spin_charge (under tick.now.machine.now rows) tick.now.machine.now.tick j.0 }
+    ensures listed { IfSome result (λ c. c.0.0 < length tick.now.machine.now.list.jobs) }
 {
-    if blocked_shared(machine, row, j) {
-        return charge_beside(machine, row, j);
+    if blocked_shared(tick.machine, tick.row, j) {
+        return charge_beside(tick, j);
     }
     None
 }

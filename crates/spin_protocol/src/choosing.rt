@@ -1,18 +1,12 @@
 //! Chooses a row: first the holders, then what runs.
 
-ghost use Rattle.std.specs.Prelude.{◌≡◌, ℕ, length, map};
-ghost use Rattle.schedule_model.specs.RowDef.{RowDef};
-ghost use Rattle.schedule_model.specs.Chosen.{IsSized};
-ghost use Rattle.schedule_model.specs.Keeping.{KeepsBefore};
-ghost use Rattle.schedule_model.specs.Seen.{row_seen, place_seen};
-ghost use Rattle.phase_machine.specs.MachineDef.{under};
-ghost use Rattle.phase_machine.specs.Shows.{Shows};
+ghost use Rattle.std.specs.Prelude.{◌≡◌, length, map};
+ghost use Rattle.schedule_model.specs.Seen.{place_seen};
 ghost use Rattle.fmlp_rules.specs.IssueOrder.{issue_now};
 ghost use Rattle.phase_machine.specs.Now.{processor_now};
 ghost use Rattle.shared_choosing.specs.Scene.{scene_now, place_in};
 ghost use Rattle.shared_choosing.specs.Choosing.{Granted};
 ghost use Rattle.shared_choosing.specs.Filling.{FilledTwice, holder_claim};
-ghost use Rattle.spin_rules.specs.SpinRules.{spin_rule, IsSpinChoice};
 ghost use Rattle.spin_protocol.specs.SpinClaims.{calm_claim};
 
 use crate::judging::has_spinner;
@@ -20,10 +14,10 @@ use fmlp_rules::FmlpPlus;
 use phase_machine::Machine;
 use phase_machine::columns::OwnProcessors;
 use phase_machine::lookup::{is_local, processor_of};
-use schedule_model::{JobId, Row};
+use schedule_model::JobId;
 use shared_choosing::choosing::grant_all;
 use shared_choosing::claims::{Claim, HolderClaim, fill_twice};
-use shared_choosing::row_choice::{RowChoice, choose_row};
+use shared_choosing::row_choice::RowChoice;
 
 /// Local jobs claim their task's processor, unless a job spins there.
 #[derive(Drop)]
@@ -47,7 +41,7 @@ impl<'a> Claim for CalmClaim<'a> {
 
 /// Requests are granted in the order of issue. Then holders run. On a processor without a holder and without a spinner Local jobs run.
 #[derive(Drop)]
-struct SpinChoice;
+pub(crate) struct SpinChoice;
 
 impl RowChoice for SpinChoice {
     ghost needs = { λ c m. Unit {0} };
@@ -71,14 +65,4 @@ impl RowChoice for SpinChoice {
             running,
         );
     }
-}
-
-/// Makes the lent row the chosen one, after rows that keep the rules.
-pub(crate) fn choose_spin(machine: &Machine, row: &mut Row)
-    requires sized { IsSized machine.now.list.set (row_seen row.old) }
-    ensures sized { IsSized machine.now.list.set (row_seen row.new) }
-    ensures chosen { (rows : ℕ → RowDef) → Shows machine.now rows → rows machine.now.tick ≡ row_seen row.new
-        → KeepsBefore spin_rule (under machine.now rows) machine.now.tick → IsSpinChoice (under machine.now rows) machine.now.tick }
-{
-    choose_row(&SpinChoice, machine, row);
 }

@@ -19,9 +19,9 @@ ghost use Rattle.spin_charging.proofs.SpinPrograms.{spin_is_program, spin_rises,
 ghost use Rattle.spin_charging.proofs.SpinPoints.{spin_point, spin_interferes_within};
 
 use crate::Spin;
-use crate::charging::charged_spin;
-use crate::choosing::choose_spin;
-use crate::judging::judge_spin;
+use crate::charging::{Tick, charged_spin};
+use crate::choosing::SpinChoice;
+use crate::judging::SpinTests;
 use charged_protocols::ChargedProtocol;
 use fragments::Class;
 use phase_machine::{Judge, Machine};
@@ -29,7 +29,9 @@ use program_form::{Program, SparseProgram};
 use program_sources::ProgramSource;
 use protocol_programs::{interference, keeps_jobs, limits_with, program_with, sparse_program_with};
 use schedule_model::{BlockingProtocol, JobId, Row, Rule};
+use shared_choosing::row_choice::choose_row;
 use shared_rules::blocked_shared;
+use shared_rules::rule_tests::first_failed;
 use sporadic_model::{Protocol, TaskId, TaskSet};
 use std::alloc::{AllocError, Global};
 
@@ -51,11 +53,14 @@ impl BlockingProtocol for Spin {
 
 impl Judge for Spin {
     fn judge(&self, machine: &Machine, row: &Row) -> Result<(), Rule> {
-        judge_spin(machine, row)
+        match first_failed(&SpinTests, machine, row) {
+            Some(rule) => Err(rule),
+            None => Ok(()),
+        }
     }
 
     fn choose(&self, machine: &Machine, row: &mut Row) {
-        choose_spin(machine, row);
+        choose_row(&SpinChoice, machine, row);
     }
 
     fn blocked(&self, machine: &Machine, row: &Row, j: JobId) -> bool {
@@ -132,7 +137,7 @@ impl ChargedProtocol for Spin {
     ghost charges = { λ p. spin_charge };
 
     fn charged(&self, machine: &Machine, row: &Row, j: JobId) -> Option<(JobId, Class)> {
-        charged_spin(machine, row, j)
+        charged_spin(&Tick { machine, row }, j)
     }
 
     ghost served = { λ p set suits. suits };

@@ -1,15 +1,10 @@
 //! The tests of the rules over a machine and the next row.
 
-ghost use Rattle.std.specs.Prelude.{◌≡◌, ℕ, ◌<◌, length, map, IfSome, None};
-ghost use Rattle.schedule_model.specs.RowDef.{RowDef};
+ghost use Rattle.std.specs.Prelude.{◌≡◌, ◌<◌, length, map, IfSome};
 ghost use Rattle.schedule_model.specs.Seen.{row_seen, place_seen};
-ghost use Rattle.phase_machine.specs.MachineDef.{under};
-ghost use Rattle.phase_machine.specs.Shows.{Shows};
 ghost use Rattle.phase_machine.specs.Taking.{IsRowFor};
-ghost use Rattle.phase_machine.specs.Judged.{Judged};
 ghost use Rattle.fmlp_rules.specs.IssueOrder.{issue_now};
 ghost use Rattle.shared_choosing.specs.Scene.{place_in};
-ghost use Rattle.spin_rules.specs.SpinRules.{spin_rule};
 ghost use Rattle.spin_protocol.specs.SpinTests.{is_request_now, spins_now, is_quiet, has_spinner_now, idle_passes};
 ghost use Rattle.spin_protocol.specs.SpinTests.{passes_idle, may_run_beside, priority_passes, passes_priority};
 ghost use Rattle.shared_rules.specs.RowTests.{passes_run, passes_keep, passes_grant, by_rule};
@@ -20,7 +15,7 @@ use phase_machine::columns::OwnProcessors;
 use phase_machine::lookup::{holds, is_local, may_run, processor_of, running_beside, task_of};
 use schedule_model::{JobId, Row, Rule};
 use shared_rules::judging::{each_stands, passes_grant, passes_keep};
-use shared_rules::rule_tests::{RuleTests, first_failed};
+use shared_rules::rule_tests::RuleTests;
 use shared_rules::walking::{JobTest, each_passes};
 
 /// Is the job in a request, if it is active?
@@ -66,18 +61,7 @@ pub(crate) fn has_spinner(machine: &Machine, holders: &[Option<JobId>], processo
     !each_passes(&QuietTest { holders, processor }, machine)
 }
 
-/// Idle, for one job: if it is ready, does its processor run something, or does a job there spin?
-fn idle_passes(machine: &Machine, row: &Row, j: JobId) -> bool
-    requires fits { IsRowFor machine.now.list (row_seen row.now) }
-    requires listed { j.0 < length machine.now.list.jobs }
-    ensures { result ≡ idle_passes machine.now (row_seen row.now) j.0 }
-{
-    !may_run(machine, &row.holders, j)
-        || (running_beside(machine, row, j).is_some()
-            || has_spinner(machine, &row.holders, processor_of(machine, j)))
-}
-
-/// The test of Idle for active jobs.
+/// The test of Idle for active jobs: if the job is ready, does its processor run something, or does a job there spin?
 #[derive(Drop)]
 struct IdleTest<'a> {
     row: &'a Row,
@@ -89,17 +73,10 @@ impl<'a> JobTest for IdleTest<'a> {
     ghost passes = { λ t m. idle_passes m (row_seen t.row.now) };
 
     fn test(&self, machine: &Machine, j: JobId) -> bool {
-        idle_passes(machine, self.row, j)
+        !may_run(machine, &self.row.holders, j)
+            || (running_beside(machine, self.row, j).is_some()
+                || has_spinner(machine, &self.row.holders, processor_of(machine, j)))
     }
-}
-
-/// Idle: does each processor that has a ready job and no spinner run something?
-#[tactic(auto, unfolding(crate::specs::SpinTests::passes_idle))]
-fn passes_idle(machine: &Machine, row: &Row) -> bool
-    requires fits { IsRowFor machine.now.list (row_seen row.now) }
-    ensures { result ≡ passes_idle machine.now (row_seen row.now) }
-{
-    each_passes(&IdleTest { row }, machine)
 }
 
 /// Priority, for one job and what runs on its processor.
@@ -118,15 +95,6 @@ fn may_run_beside(machine: &Machine, j: JobId, running: Option<JobId>) -> bool
     }
 }
 
-/// The same in a row.
-fn priority_passes(machine: &Machine, row: &Row, j: JobId) -> bool
-    requires fits { IsRowFor machine.now.list (row_seen row.now) }
-    requires listed { j.0 < length machine.now.list.jobs }
-    ensures { result ≡ priority_passes machine.now (row_seen row.now) j.0 }
-{
-    may_run_beside(machine, j, running_beside(machine, row, j))
-}
-
 /// The test of Priority for active jobs.
 #[derive(Drop)]
 struct PriorityTest<'a> {
@@ -139,23 +107,14 @@ impl<'a> JobTest for PriorityTest<'a> {
     ghost passes = { λ t m. priority_passes m (row_seen t.row.now) };
 
     fn test(&self, machine: &Machine, j: JobId) -> bool {
-        priority_passes(machine, self.row, j)
+        may_run_beside(machine, j, running_beside(machine, self.row, j))
     }
 }
 
-/// Priority: if a job is in a request, does nothing else run on its processor? If none is, does no job run there that is lower than an
-/// active Local job?
-#[tactic(auto, unfolding(crate::specs::SpinTests::passes_priority))]
-fn passes_priority(machine: &Machine, row: &Row) -> bool
-    requires fits { IsRowFor machine.now.list (row_seen row.now) }
-    ensures { result ≡ passes_priority machine.now (row_seen row.now) }
-{
-    each_passes(&PriorityTest { row }, machine)
-}
-
-/// The tests of the rules.
+/// The tests of the rules. Idle: does each processor that has a ready job and no spinner run something? Priority: if a job is in a request,
+/// does nothing else run on its processor? If none is, does no job run there that is lower than an active Local job?
 #[derive(Drop)]
-struct SpinTests;
+pub(crate) struct SpinTests;
 
 impl RuleTests for SpinTests {
     ghost needs = { λ t m. Unit {0} };
@@ -163,25 +122,14 @@ impl RuleTests for SpinTests {
     ghost passes = { λ t m row. by_rule (passes_run m row) (passes_keep m row) (passes_grant m (issue_now m) row)
         (passes_idle m row) (passes_priority m row) };
 
+    #[tactic(auto, unfolding(crate::specs::SpinTests::passes_idle, crate::specs::SpinTests::passes_priority))]
     fn test(&self, machine: &Machine, row: &Row, rule: Rule) -> bool {
         match rule {
             Rule::Run => each_stands(&OwnProcessors, machine, row),
             Rule::Keep => passes_keep(machine, row),
             Rule::Grant => passes_grant(&FmlpPlus, machine, row),
-            Rule::Idle => passes_idle(machine, row),
-            Rule::Priority => passes_priority(machine, row),
+            Rule::Idle => each_passes(&IdleTest { row }, machine),
+            Rule::Priority => each_passes(&PriorityTest { row }, machine),
         }
-    }
-}
-
-/// Ok if the row keeps all five rules. Else the first rule that it breaks.
-pub(crate) fn judge_spin(machine: &Machine, row: &Row) -> Result<(), Rule>
-    requires fits { IsRowFor machine.now.list (row_seen row.now) }
-    ensures { (rows : ℕ → RowDef) → Shows machine.now rows → rows machine.now.tick ≡ row_seen row.now
-        → Judged spin_rule (under machine.now rows) machine.now.tick result }
-{
-    match first_failed(&SpinTests, machine, row) {
-        Some(rule) => Err(rule),
-        None => Ok(()),
     }
 }

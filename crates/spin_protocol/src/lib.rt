@@ -16,7 +16,7 @@ mod rows;
 pub use laws::{each_lawful_schedule_has_a_next_row, programs_are_small};
 pub use origins::{is_origin, origins_of};
 pub use programs::{add_lower_requests, add_own_spinning, spin_fragments};
-pub use rows::{higher_requests, is_from, is_used_below, spinning_requests};
+pub use rows::{higher_requests, is_from, is_used_below, one_if, spinning_requests};
 
 /// Non-preemptive FIFO spin locks under partitioned fixed-priority scheduling. A job that waits for a resource spins: its processor runs
 /// nothing. Homes don't matter.

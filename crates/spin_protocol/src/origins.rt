@@ -1,9 +1,9 @@
 //! From which processors there are columns of which resources, as a table. A program looks at all its columns once for it, and not once
 //! for each pair of a processor and a resource.
 
-ghost use Rattle.std.specs.Prelude.{◌≡◌, ℕ, ◌<◌, ◌*◌, ◌+◌, true, false, length, slice_index_or, IfOk};
-ghost use Rattle.blocking_columns.specs.ColumnDef.{column_seen, AreKnown};
-ghost use Rattle.spin_protocol.specs.Origins.{origin_place, IsMarked, AreOrigins};
+ghost use Rattle.std.specs.Prelude.{◌≡◌, ℕ, ◌*◌, ◌+◌, true, false, length, slice_index_or, IfOk};
+ghost use Rattle.blocking_columns.specs.ColumnDef.{column_seen, IsKnown, AreKnown};
+ghost use Rattle.spin_protocol.specs.Origins.{origin_place, Marks, AreOrigins};
 
 use fragments::Fragment;
 use sporadic_model::{ResourceId, TaskSet};
@@ -18,12 +18,9 @@ fn origin_place(processor: u32, q: ResourceId) -> usize
 
 /// Marks where the column comes from, unless it is one of preemption.
 fn mark(set: &TaskSet, table: &mut [bool], column: Fragment)
-    requires task { column.task.0 < length set.now.tasks }
-    requires resource { column.resource.0 < length set.now.resources }
+    requires known { IsKnown (length set.now.tasks) (length set.now.resources) (column_seen column) }
     requires room { length table.old ≡ length set.now.resources * 64 + 1 }
-    ensures room { length table.new ≡ length table.old }
-    ensures marked { IsMarked set.now table.new (column_seen column) }
-    ensures kept { (n : ℕ) → slice_index_or table.old n false ≡ true → slice_index_or table.new n false ≡ true }
+    ensures { Marks set.now (column_seen column) table.old table.new }
 {
     // a set has at most 64 processors
     let _processors = set.processors();

@@ -2,15 +2,15 @@
 
 ghost use Rattle.std.specs.Prelude.{◌≡◌, ℕ, ◌<◌, ◌≤◌, ◌+◌, ◌&&◌, ◌==◌, not, length, map, [], ◌∷◌, IfOk, OnOk};
 ghost use Rattle.schedule_model.specs.Protocols.{EachSetSuits};
-ghost use Rattle.program_sources.specs.Bounds.{AreWithinDeadlines};
 ghost use Rattle.blocking_columns.specs.ColumnDef.{column_seen, AreKnown};
 ghost use Rattle.blocking_columns.specs.Stretches.{AreInOrder};
 ghost use Rattle.blocking_columns.specs.Columns.{have_one_processor};
 ghost use Rattle.fragments.specs.Constraints.{per_pair};
-ghost use Rattle.spin_charging.specs.SpinPrograms.{is_used_beside, blocks_by_spinning, is_spin_column};
-ghost use Rattle.spin_charging.specs.SpinPrograms.{spin_columns, lower_request_row, own_spinning_row, spinning_rows, spin_rows};
+ghost use Rattle.spin_charging.specs.SpinPrograms.{is_used_beside, is_spin_column};
+ghost use Rattle.spin_charging.specs.SpinPrograms.{spin_columns, lower_request_row, own_spinning_row, spin_rows};
 ghost use Rattle.spin_charging.proofs.SpinPrograms.{spin_is_program};
-ghost use Rattle.spin_protocol.specs.SpinRows.{row_of_kind};
+ghost use Rattle.spin_protocol.specs.SpinRows.{rows_of_kind};
+ghost use Rattle.spin_protocol.specs.Given.{CanMakeRows};
 ghost use Rattle.spin_protocol.specs.Used.{AreUsedBeside};
 
 use crate::Spin;
@@ -61,23 +61,6 @@ fn used_beside(alloc: Global, set: &TaskSet, i: TaskId) -> Result<Vec<bool>, All
     Ok(used)
 }
 
-/// May these requests block in this way?
-fn blocks_by_spinning(set: &TaskSet, i: TaskId, column: Fragment, used: &[bool]) -> bool
-    requires task { i.0 < length set.now.tasks }
-    requires column { column.task.0 < length set.now.tasks }
-    requires resource { column.resource.0 < length set.now.resources }
-    requires used { AreUsedBeside set.now i.0 used.now }
-    ensures { result ≡ blocks_by_spinning set.now i.0 column.task.0 column.resource.0 column.class }
-{
-    match column.class {
-        Class::Direct => !share_processor(set, column.task, i) && uses(set, i, column.resource),
-        Class::Indirect => {
-            !share_processor(set, column.task, i) && used[column.resource.0 as usize]
-        }
-        Class::Preemption => lower_local(set, i, column.task),
-    }
-}
-
 /// The test of a task's columns. It has a table that says of each resource whether another task of its processor uses it.
 #[derive(Drop)]
 struct SpinColumns {
@@ -95,7 +78,18 @@ impl ColumnTest for SpinColumns {
     ghost fits = { λ k set i x. AreUsedBeside set i k.used.items };
 
     fn test(&self, set: &TaskSet, i: TaskId, column: Fragment) -> bool {
-        column.task != i && blocks_by_spinning(set, i, column, &self.used)
+        if column.task == i {
+            return false;
+        }
+        match column.class {
+            Class::Direct => {
+                !share_processor(set, column.task, i) && uses(set, i, column.resource)
+            }
+            Class::Indirect => {
+                !share_processor(set, column.task, i) && self.used[column.resource.0 as usize]
+            }
+            Class::Preemption => lower_local(set, i, column.task),
+        }
     }
 }
 
@@ -109,12 +103,8 @@ fn add_spinning_rows<T: RowTaker>(
     bounds: &[u64],
     columns: &[Fragment],
 ) -> Result<(), AllocError>
-    requires task { i.0 < length set.now.tasks }
-    requires within { AreWithinDeadlines set.now bounds.now }
-    requires known { AreKnown (length set.now.tasks) (length set.now.resources) columns.now }
-    ensures { OnOk result (T.takes taker.old (map column_seen columns.now)
-        (per_pair set.now.processors (length set.now.resources) (λ k q. row_of_kind spinning set.now i.0 (k + 1) q)) bounds.now
-        taker.new) }
+    requires { CanMakeRows set.now i.0 bounds.now columns.now }
+    ensures { OnOk result (T.takes taker.old (map column_seen columns.now) (rows_of_kind spinning set.now i.0) bounds.now taker.new) }
 {
     let processors = set.processors();
     let origins = origins_of(alloc, set, columns)?;
@@ -135,9 +125,7 @@ pub fn add_own_spinning<T: RowTaker>(
     bounds: &[u64],
     columns: &[Fragment],
 ) -> Result<(), AllocError>
-    requires task { i.0 < length set.now.tasks }
-    requires within { AreWithinDeadlines set.now bounds.now }
-    requires known { AreKnown (length set.now.tasks) (length set.now.resources) columns.now }
+    requires { CanMakeRows set.now i.0 bounds.now columns.now }
     ensures { OnOk result (T.takes taker.old (map column_seen columns.now)
         (per_pair set.now.processors (length set.now.resources) (λ k q. own_spinning_row set.now i.0 (k + 1) q)) bounds.now taker.new) }
 {
@@ -154,31 +142,10 @@ pub fn add_lower_requests<T: RowTaker>(
     bounds: &[u64],
     columns: &[Fragment],
 ) -> Result<(), AllocError>
-    requires task { i.0 < length set.now.tasks }
-    requires within { AreWithinDeadlines set.now bounds.now }
-    requires known { AreKnown (length set.now.tasks) (length set.now.resources) columns.now }
+    requires { CanMakeRows set.now i.0 bounds.now columns.now }
     ensures { OnOk result (T.takes taker.old (map column_seen columns.now) (lower_request_row ∷ []) bounds.now taker.new) }
 {
     add_row(alloc, taker, &LowerRequestRow, set, i, bounds, columns)
-}
-
-/// Adds the rows of spinning and of own spinning behind those that the taker has.
-fn add_all_spinning_rows<T: RowTaker>(
-    alloc: Global,
-    taker: &mut T,
-    set: &TaskSet,
-    i: TaskId,
-    bounds: &[u64],
-    columns: &[Fragment],
-) -> Result<(), AllocError>
-    requires task { i.0 < length set.now.tasks }
-    requires within { AreWithinDeadlines set.now bounds.now }
-    requires known { AreKnown (length set.now.tasks) (length set.now.resources) columns.now }
-    ensures { OnOk result (T.takes taker.old (map column_seen columns.now) (spinning_rows set.now i.0) bounds.now taker.new) }
-{
-    add_spinning_rows(alloc, taker, set, Spinning::All, i, bounds, columns)?;
-    add_own_spinning(alloc, taker, set, i, bounds, columns)?;
-    Ok(())
 }
 
 /// Adds all rows, in their order, behind those that the taker has.
@@ -190,15 +157,14 @@ fn add_rows<T: RowTaker>(
     bounds: &[u64],
     columns: &[Fragment],
 ) -> Result<(), AllocError>
-    requires task { i.0 < length set.now.tasks }
-    requires within { AreWithinDeadlines set.now bounds.now }
-    requires known { AreKnown (length set.now.tasks) (length set.now.resources) columns.now }
+    requires can { CanMakeRows set.now i.0 bounds.now columns.now }
     requires order { AreInOrder columns.now }
     ensures { OnOk result (T.takes taker.old (map column_seen columns.now) (spin_rows set.now i.0) bounds.now taker.new) }
 {
     add_common(alloc, taker, set, i, bounds, columns)?;
     add_lower_requests(alloc, taker, set, i, bounds, columns)?;
-    add_all_spinning_rows(alloc, taker, set, i, bounds, columns)?;
+    add_spinning_rows(alloc, taker, set, Spinning::All, i, bounds, columns)?;
+    add_own_spinning(alloc, taker, set, i, bounds, columns)?;
     Ok(())
 }
 

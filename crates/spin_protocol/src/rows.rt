@@ -3,12 +3,12 @@
 ghost use Rattle.std.specs.Prelude.{◌≡◌, ℕ, ◌<◌, ◌≤◌, ◌*◌, ◌+◌, [], ◌∷◌, length, slice_index};
 ghost use Rattle.number_laws.specs.Sums.{flag};
 ghost use Rattle.sporadic_model.specs.Users.{count_of};
-ghost use Rattle.program_sources.specs.Bounds.{AreWithinDeadlines};
 ghost use Rattle.blocking_columns.specs.ColumnDef.{column_seen};
 ghost use Rattle.fragments.specs.Constraints.{per};
 ghost use Rattle.spin_charging.specs.SpinPrograms.{lower_request_row, is_from, is_used_below, higher_requests};
 ghost use Rattle.spin_protocol.specs.SpinRows.{row_of_kind};
 ghost use Rattle.spin_protocol.specs.Origins.{AreOrigins};
+ghost use Rattle.spin_protocol.specs.Given.{AreOfSet};
 
 use crate::origins::is_origin;
 use fragments::{
@@ -68,7 +68,7 @@ pub fn is_used_below(set: &TaskSet, i: TaskId, q: ResourceId) -> bool
 }
 
 /// 1 if the test passes, and else 0.
-fn one_if(test: bool) -> u64
+pub fn one_if(test: bool) -> u64
     ensures { result ≡ flag test }
 {
     if test { 1 } else { 0 }
@@ -76,9 +76,7 @@ fn one_if(test: bool) -> u64
 
 /// How many requests of the resource can the higher tasks of `i`'s processor make while a job of `i` runs?
 pub fn higher_requests(set: &TaskSet, i: TaskId, q: ResourceId, bounds: &[u64]) -> u64
-    requires task { i.0 < length set.now.tasks }
-    requires resource { q.0 < length set.now.resources }
-    requires within { AreWithinDeadlines set.now bounds.now }
+    requires { AreOfSet set.now i.0 q.0 bounds.now }
     ensures value { result ≡ higher_requests set.now (slice_index bounds.now) i.0 q.0 }
     ensures most { result ≤ i.0 * 2000000000000 }
 {
@@ -96,9 +94,7 @@ pub fn higher_requests(set: &TaskSet, i: TaskId, q: ResourceId, bounds: &[u64]) 
 /// How many requests of the resource from `i`'s processor can spin while a job of `i` runs? Three kinds count: its own, those of higher
 /// tasks, and one of a lower task.
 pub fn spinning_requests(set: &TaskSet, i: TaskId, q: ResourceId, bounds: &[u64]) -> u64
-    requires task { i.0 < length set.now.tasks }
-    requires resource { q.0 < length set.now.resources }
-    requires within { AreWithinDeadlines set.now bounds.now }
+    requires { AreOfSet set.now i.0 q.0 bounds.now }
     ensures { result ≡ count_of set.now i.0 q.0
         + (higher_requests set.now (slice_index bounds.now) i.0 q.0 + flag (is_used_below set.now i.0 q.0)) }
 {

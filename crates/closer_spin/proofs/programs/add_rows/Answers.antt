@@ -9,10 +9,17 @@ pub returns : goal.returns
 returns g c =
     let set = c.args.set.now in
     let i = c.args.i.0 in
+    let bounds = c.args.bounds.now in
     let seen = map column_seen c.args.columns.now in
+    let end = c.add_together_rows.new.taker in
     let behind = g.met.T.RowTaker.behind in
-    let rest = closer_spinning_rows set i ++ (own_spinning_rows set i ++ together_rows set i) in
-    behind c.args.taker.now c.add_common.new.taker c.add_all_spinning.new.taker seen (common_rows set i) (lower_request_row ∷ rest)
-    c.args.bounds.now c.in_ok-add_common.ensures.rows
-    (behind c.add_common.new.taker c.add_lower_requests.new.taker c.add_all_spinning.new.taker seen (lower_request_row ∷ []) rest
-    c.args.bounds.now c.in_ok-add_lower_requests.ensures c.in_ok-add_all_spinning.ensures)
+    let further = own_spinning_rows set i ++ together_rows set i in
+    let rest = closer_spinning_rows set i ++ further in
+    let first = rw (c.processors-processors.ensures.value) at c.in_ok-add_per_number.ensures in
+    behind c.args.taker.now c.add_common.new.taker end seen (common_rows set i) (lower_request_row ∷ rest) bounds
+    c.in_ok-add_common.ensures.rows
+    (behind c.add_common.new.taker c.add_lower_requests.new.taker end seen (lower_request_row ∷ []) rest bounds
+    c.in_ok-add_lower_requests.ensures
+    (behind c.add_lower_requests.new.taker c.add_per_number.new.taker end seen (closer_spinning_rows set i) further bounds first
+    (behind c.add_per_number.new.taker c.add_own_spinning.new.taker end seen (own_spinning_rows set i) (together_rows set i) bounds
+    c.in_ok-add_own_spinning.ensures c.in_ok-add_together_rows.ensures)))

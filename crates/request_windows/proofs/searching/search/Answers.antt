@@ -8,10 +8,10 @@ use Rattle.request_windows.proofs.searching.search.Goals as goal
 
 pub returns-then-there-from-clause-value : goal.returns-then-there-from-clause-value
 returns-then-there-from-clause-value c =
-    let there : ticks_there c.args.set.now (slice_index c.args.bounds.now) c.args.i.0 c.args.q.0 c.loop-span.span ≤ c.loop-span.span =
+    let there : ticks_there c.args.at.now.set.now (slice_index c.args.at.now.bounds.now) c.args.at.now.i.0 c.args.at.now.q.0 c.loop-span.span ≤ c.loop-span.span =
     omega (arith, c.ticks_there-there.ensures, c.from.ensures, c.if-there-from.true) in
-    sym (least_is (ticks_there c.args.set.now (slice_index c.args.bounds.now) c.args.i.0 c.args.q.0)
-    (suc (task_at c.args.set.now c.args.i.0).deadline) c.loop-span.span c.loop-span.invariant.none c.loop-span.invariant.from
+    sym (least_is (ticks_there c.args.at.now.set.now (slice_index c.args.at.now.bounds.now) c.args.at.now.i.0 c.args.at.now.q.0)
+    (suc (task_at c.args.at.now.set.now c.args.at.now.i.0).deadline) c.loop-span.span c.loop-span.invariant.none c.loop-span.invariant.from
     (omega (arith, c.loop-span-test.true, c.deadline-deadline.ensures.value)) there)
 
 pub loop-span-preserved : goal.loop-span-preserved
@@ -28,8 +28,8 @@ loop-span-preserved c = record {
     arith,
     c.min-span.ensures,
     c.ticks_there-there.ensures,
-    none_below_next (ticks_there c.args.set.now (slice_index c.args.bounds.now) c.args.i.0 c.args.q.0) c.loop-span.span
-        (λ v w more. ticks_there_rise c.args.set.now (slice_index c.args.bounds.now) (slice_index c.args.bounds.now) c.args.i.0 c.args.q.0
+    none_below_next (ticks_there c.args.at.now.set.now (slice_index c.args.at.now.bounds.now) c.args.at.now.i.0 c.args.at.now.q.0) c.loop-span.span
+        (λ v w more. ticks_there_rise c.args.at.now.set.now (slice_index c.args.at.now.bounds.now) (slice_index c.args.at.now.bounds.now) c.args.at.now.i.0 c.args.at.now.q.0
         v w more (λ x l. omega arith))
         c.loop-span.invariant.none m enough,
   );
@@ -37,6 +37,6 @@ loop-span-preserved c = record {
 
 pub returns-clause-value : goal.returns-clause-value
 returns-clause-value c =
-    sym (none_is (ticks_there c.args.set.now (slice_index c.args.bounds.now) c.args.i.0 c.args.q.0)
-    (suc (task_at c.args.set.now c.args.i.0).deadline) c.loop-span.span c.loop-span.invariant.none
+    sym (none_is (ticks_there c.args.at.now.set.now (slice_index c.args.at.now.bounds.now) c.args.at.now.i.0 c.args.at.now.q.0)
+    (suc (task_at c.args.at.now.set.now c.args.at.now.i.0).deadline) c.loop-span.span c.loop-span.invariant.none
     (omega (arith, c.loop-span-test.false, c.deadline-deadline.ensures.value)))

@@ -25,28 +25,25 @@ overflow_add-total c =
       c.time_of-total.ensures.most,
     )
 
-pub returns-clause-value : goal.returns-clause-value
-returns-clause-value c =
+pub returns : goal.returns
+returns c =
     let set = c.args.set.now in
     let x = c.args.x.0 in
     let k = c.args.k in
     let used = c.used_by-used.result.now in
+    let few : length used ≤ length set.resources = kept_few (λ (q : ResourceId). q.0) used (λ q. is_user set q x)
+    (length set.resources) c.used_by-used.ensures.value in
     let whole : c.loop-q.total + sum_by (λ (q : ResourceId). only_if (home_in set q.0 == k) (count_of set x q.0 * length_of set x q.0)) []
     ≡ sum_by (λ (q : ResourceId). only_if (home_in set q.0 == k) (count_of set x q.0 * length_of set x q.0)) used =
     rw (drop_all c.loop-q.q-index used (omega (arith, c.loop-q-test.false))) at c.loop-q.invariant.value in
-    omega (arith, whole, used_time set x k used c.used_by-used.ensures.value)
-
-pub returns-clause-most : goal.returns-clause-most
-returns-clause-most c =
-    let set = c.args.set.now in
-    let used = c.used_by-used.result.now in
-    let few : length used ≤ length set.resources = kept_few (λ (q : ResourceId). q.0) used (λ q. is_user set q c.args.x.0)
-    (length set.resources) c.used_by-used.ensures.value in
-    omega (
-      arith,
-      few,
-      c.loop-q.auto.q-index-end,
-      c.resources-resources.ensures.value,
-      c.resources-resources.ensures.most,
-      c.loop-q.invariant.most,
-    )
+    record {
+      value = omega (arith, whole, used_time set x k used c.used_by-used.ensures.value);
+      most = omega (
+        arith,
+        few,
+        c.loop-q.auto.q-index-end,
+        c.resources-resources.ensures.value,
+        c.resources-resources.ensures.most,
+        c.loop-q.invariant.most,
+      );
+    }

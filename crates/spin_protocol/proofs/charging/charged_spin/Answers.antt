@@ -7,11 +7,11 @@ use Rattle.spin_protocol.proofs.charging.charged_spin.Goals as goal
 
 pub returns-then-blocked_shared-clause-value : goal.returns-then-blocked_shared-clause-value
 returns-then-blocked_shared-clause-value c = λ rows shows e run.
-    c.charge_beside.ensures.value ∙ ap (λ row. beside_charge_now c.args.machine.now row c.args.j.0) (sym e)
-    ∙ spin_shown c.args.machine.now rows c.args.j.0 shows
+    c.charge_beside.ensures.value ∙ ap (λ row. beside_charge_now c.args.tick.now.machine.now row c.args.j.0) (sym e)
+    ∙ spin_shown c.args.tick.now.machine.now rows c.args.j.0 shows
     (sym (c.blocked_shared.ensures rows shows e run) ∙ c.if-blocked_shared.true)
 
 pub returns-clause-value : goal.returns-clause-value
 returns-clause-value c = λ rows shows e run.
-    sym (spin_uncharged (under c.args.machine.now rows) c.args.machine.now.tick c.args.j.0
+    sym (spin_uncharged (under c.args.tick.now.machine.now rows) c.args.tick.now.machine.now.tick c.args.j.0
     (sym (c.blocked_shared.ensures rows shows e run) ∙ c.if-blocked_shared.false))

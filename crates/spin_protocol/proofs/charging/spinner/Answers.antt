@@ -10,14 +10,14 @@ pub returns-then-is_spinning_task-clause-value : goal.returns-then-is_spinning_t
 unfolding spinner_now
 returns-then-is_spinning_task-clause-value c =
     c.current.ensures.value
-    ∙ sym (ap (option_and_then (current_now c.args.machine.now)) (found_below-first (length c.args.machine.now.list.set.tasks)
-    (is_spinning_task_now c.args.machine.now (row_seen c.args.row.now) c.args.processor) c.loop-x.x
+    ∙ sym (ap (option_and_then (current_now c.args.tick.now.machine.now)) (found_below-first (length c.args.tick.now.machine.now.list.set.tasks)
+    (is_spinning_task_now c.args.tick.now.machine.now (row_seen c.args.tick.now.row.now) c.args.processor) c.loop-x.x
     (omega (arith, c.loop-x-test.true, c.tasks_of-x-end.ensures.value))
     (sym c.is_spinning_task.ensures ∙ c.if-is_spinning_task.true) c.loop-x.invariant))
 
 pub returns-clause-value : goal.returns-clause-value
 unfolding spinner_now
 returns-clause-value c =
-    sym (ap (option_and_then (current_now c.args.machine.now)) (found_below-none_from (length c.args.machine.now.list.set.tasks)
-    (is_spinning_task_now c.args.machine.now (row_seen c.args.row.now) c.args.processor)
+    sym (ap (option_and_then (current_now c.args.tick.now.machine.now)) (found_below-none_from (length c.args.tick.now.machine.now.list.set.tasks)
+    (is_spinning_task_now c.args.tick.now.machine.now (row_seen c.args.tick.now.row.now) c.args.processor)
     (λ i l. c.loop-x.invariant i (omega (arith, l, c.loop-x-test.false, c.tasks_of-x-end.ensures.value)))))

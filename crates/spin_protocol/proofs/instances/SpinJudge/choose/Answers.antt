@@ -1,6 +1,6 @@
 use Rattle.schedule_model.specs.Seen.{row_seen}
 use Rattle.spin_protocol.proofs.SpinChosen.{spin_choice_made}
-use Rattle.spin_protocol.proofs.choosing.choose_spin.Goals as goal
+use Rattle.spin_protocol.proofs.instances.SpinJudge.choose.Goals as goal
 
 pub returns-clause-chosen : goal.returns-clause-chosen
 returns-clause-chosen c = λ rows shows e keeps.

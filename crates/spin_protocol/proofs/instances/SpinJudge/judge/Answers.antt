@@ -1,7 +1,7 @@
 use Rattle.std.proofs.Common.{sym}
 use Rattle.schedule_model.specs.Seen.{row_seen}
 use Rattle.spin_protocol.proofs.SpinVerdict.{judged_none, judged_some}
-use Rattle.spin_protocol.proofs.judging.judge_spin.Goals as goal
+use Rattle.spin_protocol.proofs.instances.SpinJudge.judge.Goals as goal
 
 pub returns-in-Some : goal.returns-in-Some
 returns-in-Some c = λ rows shows e.
