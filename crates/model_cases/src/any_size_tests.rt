@@ -1,6 +1,6 @@
 use crate::simplex_tests::{CHAINED, program_of};
 use free_search::{Found, round_down, search};
-use point_tests::is_worth;
+use point_tests::{is_worth, worth_sum};
 use program_form::{Dual, SparseProgram};
 use std::alloc::{AllocError, Global};
 use std::cmp::Ordering;
@@ -97,6 +97,7 @@ fn points_of_any_size_are_tested(rt: HostRuntime) -> Result<(), AllocError> {
     let best = [Whole::of_u128(alloc, 2 * LIMB)?];
     assert!(rt; is_worth(alloc, &program, &den, &best, 3)?);
     assert!(rt; !is_worth(alloc, &program, &den, &best, 4)?);
+    assert!(rt; is(alloc, &worth_sum(alloc, &program, &best)?, 10 * LIMB)?);
     let beyond = [Whole::of_u128(alloc, 2 * LIMB + 1)?];
     assert!(rt; !is_worth(alloc, &program, &den, &beyond, 3)?);
     let none = Whole::zero(alloc);

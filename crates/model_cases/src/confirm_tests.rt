@@ -1,9 +1,10 @@
 use crate::watched::{Flags, Watch, Watched};
 use program_form::Dual;
 use protocol_programs::Written;
-use refusal_confirm::{Fault, confirm, has_denominators};
+use refusal_confirm::{Fault, Part, confirm, fault_of_point, has_denominators};
 use refusal_laws::{Refusal, RefusalStep};
-use sporadic_model::{Protocol, TaskSet};
+use response_fixpoint::costs;
+use sporadic_model::{Protocol, TaskId, TaskSet};
 use std::alloc::{AllocError, Global};
 use std::test::Fail;
 use std::thread::Threads;
@@ -66,5 +67,27 @@ fn two_points_are_tested_at_the_same_time(rt: HostRuntime) -> Result<(), Fail> {
     assert!(rt; flags.have_met());
     let beyond = confirmed(&rt, alloc, &set, &source, &[(1, 5, 1), (2, 5, 2)])?;
     assert!(rt; beyond == Err(Fault::Row { step: 2, row: 1 }));
+    Ok(())
+}
+
+// The first task waits for the second one's request: 3 + 2.
+#[test]
+fn a_point_is_tested_at_bounds(rt: HostRuntime) -> Result<(), Fail> {
+    let alloc = rt.alloc();
+    let set = set_from(alloc, SECOND_SHORT)?;
+    let costs = costs(alloc, &set)?;
+    let mut step = RefusalStep {
+        task: 1,
+        value: 5,
+        point: Dual {
+            den: 1,
+            num: [1].to_vec(alloc)?,
+        },
+    };
+    let source = Written(Protocol::FmlpPlus);
+    assert!(rt; fault_of_point(alloc, &set, &source, TaskId(0), &costs, &step)?.is_none());
+    step.value = 6;
+    let found = fault_of_point(alloc, &set, &source, TaskId(0), &costs, &step)?;
+    assert!(rt; matches!(found, Some(Part::Low)));
     Ok(())
 }

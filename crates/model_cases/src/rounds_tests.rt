@@ -3,7 +3,7 @@ use crate::watched::{Flags, Watch, Watched};
 use program_form::{Certificate, Dual};
 use program_sources::ProgramSource;
 use protocol_programs::Written;
-use response_fixpoint::{Stop, Verdict, analyse_with, costs};
+use response_fixpoint::{Share, Stop, Verdict, analyse_with, costs, first_threads, is_in};
 use simplex::solve;
 use sporadic_model::{Protocol, TaskId, TaskSet};
 use std::alloc::Global;
@@ -19,6 +19,19 @@ fn has_bounds(verdict: &Result<Verdict, Stop>, bounds: &[u64]) -> bool {
         Ok(Verdict::Schedulable(found)) => found.bounds.as_slice() == bounds,
         _ => false,
     }
+}
+
+// So small a set gets two threads. The second one has each odd number.
+#[test]
+fn threads_share_a_round(rt: HostRuntime) -> Result<(), Fail> {
+    let set = set_of(rt.alloc(), PAIR)?;
+    assert_eq!(rt; first_threads(&rt, &set), 2);
+    let second = Share {
+        thread: 1,
+        threads: 2,
+    };
+    assert!(rt; is_in(second, 3) && !is_in(second, 2));
+    Ok(())
 }
 
 // The first round of any set in which two tasks have columns is solved by two threads.

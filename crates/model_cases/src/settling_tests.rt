@@ -1,7 +1,11 @@
 use crate::refusal_tests::SHORT_THREE;
+use crate::watched::{Flags, Watch, Watched};
 use mpcp_rules::Mpcp;
 use program_form::Dual;
-use settling::{SettleStop, Settled, settle_with};
+use protocol_programs::Written;
+use response_fixpoint::costs;
+use settling::{SettleStop, Settled, settle_by, settle_with};
+use sporadic_model::Protocol;
 use std::alloc::Global;
 use std::test::Fail;
 use std::thread::Threads;
@@ -122,5 +126,29 @@ fn answers_as_the_rounds_do(rt: HostRuntime) -> Result<(), Fail> {
     assert!(rt; has_certificate(&fitting, &[5, 5], &[(1, &[2, 0, 0]), (1, &[1, 0])]));
     let late = answered(&rt, alloc, SHORT_THREE)?;
     assert!(rt; has_steps(&late, &[(1, 8, (3, &[2, 3, 1]))]));
+    Ok(())
+}
+
+// The analysis is wide in its first round. In the walk each bound rises, so its second round is at other bounds.
+#[test]
+fn two_programs_of_a_walk_are_searched_at_the_same_time(rt: HostRuntime) -> Result<(), Fail> {
+    let alloc = rt.alloc();
+    let set = set_from(alloc, WIDE)?;
+    let costs = costs(alloc, &set)?;
+    let flags = Flags::new();
+    let source = Watched {
+        written: Written(Protocol::Mpcp),
+        watch: Watch::Later(flags.meeting(), &costs),
+    };
+    match settle_by(&rt, alloc, &set, &source, MOST) {
+        Ok(Settled::Schedulable(found)) => {
+            assert_eq!(rt;
+                found.bounds.as_slice(),
+                [24617120, 26689594, 26689594].as_slice()
+            );
+        }
+        _ => return Err("not settled".into()),
+    }
+    assert!(rt; flags.have_met());
     Ok(())
 }
