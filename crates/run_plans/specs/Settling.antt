@@ -66,7 +66,7 @@ IsSettlement protocol digest set allowance answer =
     ⊎ ((MayWantMore (source_of protocol set) allowance) × (answer ≡ short_answer))))
 
 -- It has status 0 or 1 if units may not be too few, and if no task may be left wide. If the rounds don't leave the set open, there is one
--- answer. If they do, there may be several: any valid certificate of the least bounds, or any refusal that holds.
+-- answer. If they do, there may be several, since a walk may refuse a set by any refusal that holds.
 abbrev pub settlement_of : ProtocolName → List ℕ → SetDef → ℕ → Work
 settlement_of protocol digest set allowance = record {
   answers = IsSettlement protocol digest set allowance;

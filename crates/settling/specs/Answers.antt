@@ -115,7 +115,7 @@ IsRefusedSo f (settled.Schedulable certificate) = ⊥
 IsRefusedSo f (settled.Refused refusal) = (IsRight (settled.Refused refusal) f) × HasSmallPoints (steps_seen refusal)
 
 -- Where an answer comes from. If the rounds don't leave the set open, it is that of the analysis, or that of the rounds of refusals. If
--- they do, it is that of a walk. Running out of memory says nothing.
+-- they do, a certificate is that of the walk with exact points, and a refusal has small points. Running out of memory says nothing.
 abbrev pub Settles : Result Settled SettleStop → SourceDef → ℕ → Type 0
 Settles (Ok (settled.Schedulable certificate)) f allowance =
     (EndsIn (rounds_of f) allowance (Schedulable certificate.bounds.items (map dual_seen certificate.duals.items)))
