@@ -18,7 +18,7 @@ use Rattle.spin_charging.specs.SpinPrograms.{is_from, higher_requests, upper_req
 use Rattle.closer_spin_laws.specs.CloserSpinRows.{is_spun_below, is_spun_beside, is_of_slot, together_row}
 use Rattle.closer_spin_laws.specs.CloserSpinRows.{closer_spinning_row, other_lower_spinning_row}
 use Rattle.spin_protocol.proofs.NoneFrom.{IsOnlyFrom}
-use Rattle.closer_spin.specs.Tables.{Tells}
+use Rattle.spin_protocol.specs.Tables.{Tells}
 
 -- As many pass the test as are told.
 pub told_several : (n : ℕ) (test : ℕ → Bool) (table : List Bool) → Tells n test table

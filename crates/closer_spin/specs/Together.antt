@@ -5,7 +5,7 @@ use Rattle.sporadic_model.specs.SetDef.{SetDef}
 use Rattle.sporadic_model.specs.declared.ids.ResourceId.{ResourceId}
 use Rattle.fragments.specs.Constraints.{ConstraintDef}
 use Rattle.closer_spin_laws.specs.CloserSpinRows.{is_spun_below, is_spun_beside, together_row}
-use Rattle.closer_spin.specs.Tables.{Tells}
+use Rattle.spin_protocol.specs.Tables.{Tells}
 
 -- All for which lower tasks may spin, or all but one.
 abbrev pub taken_together : SetDef → ℕ → ℕ → Option ResourceId → ℕ → Bool

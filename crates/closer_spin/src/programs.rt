@@ -11,11 +11,11 @@ ghost use Rattle.spin_protocol.specs.Given.{CanMakeRows};
 ghost use Rattle.closer_spin.specs.Tables.{TellsUsedBelow};
 
 use crate::rows::{CloserSpinningRows, LowerSpinningRows, OtherLowerSpinningRows};
-use crate::tables::{UsedBelow, table_of};
+use crate::tables::UsedBelow;
 use direct_constraints::add_common;
 use fragments::{Fragment, RowTaker, add_per_number};
 use protocol_programs::ProgramParts;
-use spin_protocol::{add_lower_requests, add_own_spinning, origins_of, spin_fragments};
+use spin_protocol::{add_lower_requests, add_own_spinning, origins_of, spin_fragments, table_of};
 use sporadic_model::{TaskId, TaskSet};
 use std::alloc::{AllocError, Global};
 

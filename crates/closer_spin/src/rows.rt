@@ -8,14 +8,15 @@ ghost use Rattle.closer_spin_laws.specs.CloserSpinRows.{is_spun_below, closer_sp
 ghost use Rattle.closer_spin_laws.specs.CloserSpinRows.{lower_spinning_row, other_lower_spinning_row};
 ghost use Rattle.spin_protocol.specs.Origins.{AreOrigins};
 ghost use Rattle.spin_protocol.specs.Given.{CanMakeRows};
-ghost use Rattle.closer_spin.specs.Tables.{Tells, TellsUsedBelow, TellsSpun};
+ghost use Rattle.spin_protocol.specs.Tables.{Tells};
+ghost use Rattle.closer_spin.specs.Tables.{TellsUsedBelow, TellsSpun};
 ghost use Rattle.closer_spin.specs.Together.{taken_together, row_together, AreTold};
 
-use crate::tables::{SpunBelow, SpunBeside, are_several, table_of, upper_requests};
+use crate::tables::{SpunBelow, SpunBeside, are_several, upper_requests};
 use fragments::{
     Constraint, Fragment, PerNumber, RowKind, RowTaker, add_per_number, add_row, add_row_limited,
 };
-use spin_protocol::{is_from, is_origin, one_if, spinning_requests};
+use spin_protocol::{is_from, is_origin, one_if, spinning_requests, table_of};
 use sporadic_model::{ResourceId, TaskId, TaskSet};
 use std::alloc::{AllocError, Global};
 

@@ -1,16 +1,14 @@
 //! Resources that pass a test, as tables, and sums over them.
 
-ghost use Rattle.std.specs.Prelude.{◌≡◌, ℕ, ◌<◌, ◌≤◌, Bool, false, nat_lt, length, slice_index, slice_index_or, IfOk};
+ghost use Rattle.std.specs.Prelude.{◌≡◌, ℕ, ◌<◌, ◌≤◌, false, nat_lt, length, slice_index, slice_index_or};
 ghost use Rattle.number_laws.specs.Tests.{count_below};
 ghost use Rattle.program_sources.specs.Bounds.{AreWithinDeadlines};
 ghost use Rattle.spin_charging.specs.SpinPrograms.{is_used_below, upper_requests};
 ghost use Rattle.closer_spin_laws.specs.CloserSpinRows.{is_used_on, is_spun_below, is_spun_beside};
-ghost use Rattle.sporadic_model.specs.SetDef.{SetDef};
-ghost use Rattle.closer_spin.specs.Tables.{Tells, TellsUsedBelow, TellsSpun};
+ghost use Rattle.closer_spin.specs.Tables.{TellsUsedBelow, TellsSpun};
 
-use spin_protocol::{higher_requests, is_used_below};
+use spin_protocol::{ResourceTest, higher_requests, is_used_below};
 use sporadic_model::{ResourceId, TaskId, TaskSet};
-use std::alloc::{AllocError, Global};
 
 /// Does a task of the processor use the resource?
 fn is_used_on(set: &TaskSet, processor: u32, q: ResourceId) -> bool
@@ -26,46 +24,12 @@ fn is_used_on(set: &TaskSet, processor: u32, q: ResourceId) -> bool
     false
 }
 
-/// A test of resources, for a set and an analysed task.
-pub(crate) trait ResourceTest {
-    /// What it needs of the set and the task.
-    ghost fits: { Self → SetDef → ℕ → Type 0 };
-
-    /// Which resources pass?
-    ghost passes: { Self → SetDef → ℕ → ℕ → Bool };
-
-    /// Does the resource pass?
-    fn test(&self, set: &TaskSet, i: TaskId, q: ResourceId) -> bool
-        requires task { i.0 < length set.now.tasks }
-        requires resource { q.0 < length set.now.resources }
-        requires fits { fits self.now set.now i.0 }
-        ensures { result ≡ passes self.now set.now i.0 q.0 };
-}
-
-/// By resource, whether it passes the test.
-pub(crate) fn table_of<R: ResourceTest>(
-    alloc: Global,
-    set: &TaskSet,
-    i: TaskId,
-    test: &R,
-) -> Result<Vec<bool>, AllocError>
-    requires task { i.0 < length set.now.tasks }
-    requires fits { R.fits test.now set.now i.0 }
-    ensures { IfOk result (λ v. Tells (length set.now.resources) (R.passes test.now set.now i.0) v.items) }
-{
-    let mut table = Vec::with_capacity(alloc, set.resources() as usize)?;
-    for q in 0..set.resources() {
-        table.push(test.test(set, i, ResourceId(q)))?;
-    }
-    Ok(table)
-}
-
 /// Does a lower task of `i`'s processor use the resource?
 #[derive(Drop)]
 pub(crate) struct UsedBelow;
 
 impl ResourceTest for UsedBelow {
-    ghost fits = { λ t set i. Unit {0} };
+    ghost fits = { λ t set i. i < length set.tasks };
 
     ghost passes = { λ t. is_used_below };
 
@@ -83,7 +47,7 @@ pub(crate) struct SpunBelow<'a> {
 }
 
 impl<'a> ResourceTest for SpunBelow<'a> {
-    ghost fits = { λ t set i. TellsUsedBelow set i t.below.now };
+    ghost fits = { λ t set i. (i < length set.tasks) × TellsUsedBelow set i t.below.now };
 
     ghost passes = { λ t set i. is_spun_below set i t.processor };
 

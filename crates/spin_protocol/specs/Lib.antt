@@ -6,3 +6,4 @@ pub mod NextRow
 pub mod Used
 pub mod Origins
 pub mod Given
+pub mod Tables

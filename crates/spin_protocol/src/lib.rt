@@ -12,11 +12,13 @@ mod laws;
 mod origins;
 mod programs;
 mod rows;
+mod tables;
 
 pub use laws::{each_lawful_schedule_has_a_next_row, programs_are_small};
 pub use origins::{is_origin, origins_of};
 pub use programs::{add_lower_requests, add_own_spinning, spin_fragments};
 pub use rows::{higher_requests, is_from, is_used_below, one_if, spinning_requests};
+pub use tables::{ResourceTest, table_of};
 
 /// Non-preemptive FIFO spin locks under partitioned fixed-priority scheduling. A job that waits for a resource spins: its processor runs
 /// nothing. Homes don't matter.

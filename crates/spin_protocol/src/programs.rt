@@ -16,6 +16,7 @@ ghost use Rattle.spin_protocol.specs.Used.{AreUsedBeside};
 use crate::Spin;
 use crate::origins::origins_of;
 use crate::rows::{LowerRequestRow, Spinning, SpinningRows};
+use crate::tables::{ResourceTest, table_of};
 use direct_constraints::add_common;
 use fragments::{
     Class, ColumnTest, Fragment, RowTaker, add_per_number, add_row, fragments_where, lower_local,
@@ -35,30 +36,23 @@ fn is_beside(set: &TaskSet, i: TaskId, z: TaskId) -> bool
 }
 
 /// Does another task of `i`'s processor use the resource?
-fn is_used_beside(set: &TaskSet, i: TaskId, q: ResourceId) -> bool
-    requires task { i.0 < length set.now.tasks }
-    requires resource { q.0 < length set.now.resources }
-    ensures { result ≡ is_used_beside set.now i.0 q.0 }
-{
-    let users = set.users(q);
-    for z in users {
-        if is_beside(set, i, *z) {
-            return true;
-        }
-    }
-    false
-}
+#[derive(Drop)]
+struct UsedBeside;
 
-/// For each resource, whether another task of `i`'s processor uses it.
-fn used_beside(alloc: Global, set: &TaskSet, i: TaskId) -> Result<Vec<bool>, AllocError>
-    requires { i.0 < length set.now.tasks }
-    ensures { IfOk result (λ v. AreUsedBeside set.now i.0 v.items) }
-{
-    let mut used = Vec::with_capacity(alloc, set.resources() as usize)?;
-    for q in 0..set.resources() {
-        used.push(is_used_beside(set, i, ResourceId(q)))?;
+impl ResourceTest for UsedBeside {
+    ghost fits = { λ t set i. i < length set.tasks };
+
+    ghost passes = { λ t. is_used_beside };
+
+    fn test(&self, set: &TaskSet, i: TaskId, q: ResourceId) -> bool {
+        let users = set.users(q);
+        for z in users {
+            if is_beside(set, i, *z) {
+                return true;
+            }
+        }
+        false
     }
-    Ok(used)
 }
 
 /// The test of a task's columns. It has a table that says of each resource whether another task of its processor uses it.
@@ -176,7 +170,7 @@ pub fn spin_fragments(alloc: Global, set: &TaskSet, i: TaskId) -> Result<Vec<Fra
     ensures order { IfOk result (λ v. AreInOrder v.items) }
 {
     let test = SpinColumns {
-        used: used_beside(alloc, set, i)?,
+        used: table_of(alloc, set, i, &UsedBeside)?,
     };
     let columns = fragments_where(alloc, &test, set, i)?;
     passing_stand_in_order(set, &test, i, &columns);

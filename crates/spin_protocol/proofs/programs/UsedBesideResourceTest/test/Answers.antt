@@ -4,7 +4,7 @@ use Rattle.std.proofs.lemmas.List.Folds.{list_any_at}
 use Rattle.sporadic_model.specs.declared.ids.TaskId.{TaskId}
 use Rattle.blocking_columns.specs.Columns.{have_one_processor}
 use Rattle.spin_protocol.proofs.UsersBeside.{used_beside}
-use Rattle.spin_protocol.proofs.programs.is_used_beside.Goals as goal
+use Rattle.spin_protocol.proofs.programs.UsedBesideResourceTest.test.Goals as goal
 
 pub returns-then-is_beside : goal.returns-then-is_beside
 returns-then-is_beside c =

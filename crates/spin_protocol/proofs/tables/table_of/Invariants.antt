@@ -1,6 +1,6 @@
 use Rattle.std.proofs.Common.{◌≡◌, ℕ, ◌<◌, false, length}
 use Rattle.std.specs.Prelude.{slice_index_or}
-use Rattle.closer_spin.proofs.tables.table_of.Given as goal
+use Rattle.spin_protocol.proofs.tables.table_of.Given as goal
 
 abbrev pub invariant-loop-q : goal.invariant-loop-q
 invariant-loop-q g l = record {

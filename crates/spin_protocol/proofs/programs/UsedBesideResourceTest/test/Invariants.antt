@@ -1,7 +1,7 @@
 use Rattle.std.proofs.Common.{◌≡◌, ◌==◌, ◌&&◌, not, false, take}
 use Rattle.std.specs.List.{list_any}
 use Rattle.blocking_columns.specs.Columns.{have_one_processor}
-use Rattle.spin_protocol.proofs.programs.is_used_beside.Given as goal
+use Rattle.spin_protocol.proofs.programs.UsedBesideResourceTest.test.Given as goal
 
 abbrev pub invariant-loop-z : goal.invariant-loop-z
 invariant-loop-z l =
