@@ -69,8 +69,7 @@ fn requests_met(at: &Meeting) -> u64
 /// The limit of the row of windows for these requests. This many jobs of `x` can run while a job of `i` runs. The limit is how many requests
 /// these can make, and no more than run within the windows of that job's requests there.
 pub(crate) fn limit(at: &Meeting, jobs: u64) -> u64
-    requires jobs { jobs ≡ jobs_in at.now.set.now (slice_index at.now.bounds.now) at.now.i.0 at.now.x.0 }
-    requires most { jobs ≤ 2000000000 }
+    requires { IsAmount jobs (jobs_in at.now.set.now (slice_index at.now.bounds.now) at.now.i.0 at.now.x.0) 2000000000 }
     ensures { result ≡ (window_row at.now.set.now at.now.i.0 at.now.x.0 at.now.r.0).limit (slice_index at.now.bounds.now) }
 {
     (at.set.count(at.x, at.r) * jobs).min(requests_met(at))
