@@ -29,14 +29,6 @@ pub(crate) struct Meeting<'a> {
     ghost told: { AreWindows set.now (slice_index bounds.now) i.0 windows.now } by { Prim.hlevel props },
 }
 
-// Does `i` request `q`, and is its home that of `r`?
-fn meets(at: &Meeting, q: ResourceId) -> bool
-    requires { q.0 < length at.now.set.now.resources }
-    ensures { result ≡ meets_there at.now.set.now at.now.i.0 at.now.r.0 q.0 }
-{
-    uses(at.set, at.i, q) && home(at.set, q) == home(at.set, at.r)
-}
-
 // How many of them can run within the window of a request of `q` by `i`? If that has no window, the bound of the job takes its place.
 fn requests_there(at: &Meeting, q: ResourceId) -> u64
     requires own { q.0 < length at.now.set.now.resources }
@@ -56,7 +48,7 @@ fn requests_by(at: &Meeting, q: ResourceId) -> u64
     ensures { IsAmount result (only_if (meets_there at.now.set.now at.now.i.0 at.now.r.0 q.0) (count_of at.now.set.now at.now.i.0 q.0
         * requests_there at.now.set.now (slice_index at.now.bounds.now) at.now.i.0 at.now.x.0 at.now.r.0 q.0)) 2000000000000000 }
 {
-    if meets(at, q) {
+    if uses(at.set, at.i, q) && home(at.set, q) == home(at.set, at.r) {
         at.set.count(at.i, q) * requests_there(at, q)
     } else {
         0
@@ -77,8 +69,7 @@ fn requests_met(at: &Meeting) -> u64
 /// The limit of the row of windows for these requests. This many jobs of `x` can run while a job of `i` runs. The limit is how many requests
 /// these can make, and no more than run within the windows of that job's requests there.
 pub(crate) fn limit(at: &Meeting, jobs: u64) -> u64
-    requires jobs { jobs ≡ jobs_in at.now.set.now (slice_index at.now.bounds.now) at.now.i.0 at.now.x.0 }
-    requires most { jobs ≤ 2000000000 }
+    requires { IsAmount jobs (jobs_in at.now.set.now (slice_index at.now.bounds.now) at.now.i.0 at.now.x.0) 2000000000 }
     ensures { result ≡ (window_row at.now.set.now at.now.i.0 at.now.x.0 at.now.r.0).limit (slice_index at.now.bounds.now) }
 {
     (at.set.count(at.x, at.r) * jobs).min(requests_met(at))

@@ -9,7 +9,7 @@ ghost use Rattle.schedule_model.specs.Measures.{greatest_below};
 ghost use Rattle.program_sources.specs.Bounds.{AreWithinDeadlines};
 ghost use Rattle.blocking_columns.specs.Windows.{jobs_during};
 ghost use Rattle.window_laws.specs.Windows.{time_at, may_hold_up, longest_lower, ticks_by, ticks_there};
-ghost use Rattle.request_windows.specs.Times.{AreTimes};
+ghost use Rattle.request_windows.specs.Times.{AreTimes, own_and_lower};
 ghost use Rattle.request_windows.specs.Amounts.{IsAmount};
 
 use fragments::{ceiling_place, home, uses};
@@ -105,8 +105,7 @@ pub(crate) struct Request<'a> {
 
 /// How many ticks may the request last, and the longest lower request that may hold it up? This doesn't depend on the span.
 pub(crate) fn own_and_lower(at: &Request) -> u64
-    ensures { IsAmount result (length_of at.now.set.now at.now.i.0 at.now.q.0
-        + longest_lower at.now.set.now at.now.i.0 (home_in at.now.set.now at.now.q.0)) 2000000000 }
+    ensures { IsAmount result (own_and_lower at.now.set.now at.now.i.0 at.now.q.0) 2000000000 }
 {
     at.set.length(at.i, at.q) + longest_lower(at.set, at.i, home(at.set, at.q))
 }
@@ -145,8 +144,7 @@ fn ticks_by_higher(at: &Request, k: u32, times: &[u64], span: u64) -> u128
 
 /// Let the request be open. How many ticks may requests run at its resource's home in this span from its issue on?
 pub(crate) fn ticks_there(at: &Request, own: u64, times: &[u64], span: u64) -> u128
-    requires own { own ≡ length_of at.now.set.now at.now.i.0 at.now.q.0
-        + longest_lower at.now.set.now at.now.i.0 (home_in at.now.set.now at.now.q.0) }
+    requires own { own ≡ own_and_lower at.now.set.now at.now.i.0 at.now.q.0 }
     requires times { AreTimes at.now.set.now at.now.i.0 (home_in at.now.set.now at.now.q.0) times.now }
     requires span { span ≤ 1000000000 }
     ensures { result ≡ ticks_there at.now.set.now (slice_index at.now.bounds.now) at.now.i.0 at.now.q.0 span }

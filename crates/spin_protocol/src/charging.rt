@@ -84,17 +84,6 @@ fn charge_by_spinner(tick: &Tick, j: JobId, s: JobId) -> Option<(JobId, Class)>
     }
 }
 
-/// The charge for a job whose processor runs nothing.
-fn charge_of_spinning(tick: &Tick, j: JobId) -> Option<(JobId, Class)>
-    requires { j.0 < length tick.now.machine.now.list.jobs }
-    ensures { Names tick.now.machine.now.list (spinning_charge_now tick.now.machine.now (row_seen tick.now.row.now) j.0) result }
-{
-    match spinner(tick, processor_of(tick.machine, j)) {
-        Some(s) => charge_by_spinner(tick, j, s),
-        None => None,
-    }
-}
-
 /// The charge of a blocked job: what runs on its processor, or the request for which a job there spins.
 fn charge_beside(tick: &Tick, j: JobId) -> Option<(JobId, Class)>
     requires { j.0 < length tick.now.machine.now.list.jobs }
@@ -102,7 +91,10 @@ fn charge_beside(tick: &Tick, j: JobId) -> Option<(JobId, Class)>
 {
     match running_beside(tick.machine, tick.row, j) {
         Some(r) => Some((r, Class::Preemption)),
-        None => charge_of_spinning(tick, j),
+        None => match spinner(tick, processor_of(tick.machine, j)) {
+            Some(s) => charge_by_spinner(tick, j, s),
+            None => None,
+        },
     }
 }
 
