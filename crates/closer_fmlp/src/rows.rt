@@ -1,20 +1,18 @@
 //! The closer rows.
 
-ghost use Rattle.std.specs.Prelude.{◌≡◌, ◌<◌, ◌+◌, ◌==◌, ◌&&◌, not, [], ◌∷◌, ◌++◌, map, length, slice_index, OnOk, if◌then◌else◌};
+ghost use Rattle.std.specs.Prelude.{◌≡◌, ◌<◌, ◌+◌, ◌==◌, ◌&&◌, not, [], ◌∷◌, ◌++◌, map, length, OnOk, if◌then◌else◌};
 ghost use Rattle.std.proofs.Common.{ap};
 ghost use Rattle.number_laws.specs.Sums.{flag};
-ghost use Rattle.program_sources.specs.Bounds.{AreWithinDeadlines};
 ghost use Rattle.blocking_columns.specs.declared.columns.Class.TheVariants.{Indirect, Preemption};
-ghost use Rattle.blocking_columns.specs.ColumnDef.{column_seen, is_class, AreKnown};
+ghost use Rattle.blocking_columns.specs.ColumnDef.{column_seen, is_class};
 ghost use Rattle.blocking_columns.specs.Columns.{is_lower_local};
-ghost use Rattle.fragments.specs.Constraints.{per, per_pair, per_where};
-ghost use Rattle.blocking_columns.specs.Stretches.{AreInOrder};
-ghost use Rattle.blocking_columns.specs.TaskPlaces.{ArePlaces};
 ghost use Rattle.closer_laws.specs.CloserRows.{is_shared_out, requests_where, closer_rows};
 ghost use Rattle.closer_laws.specs.CloserRows.{holder_row, other_holder_row, lower_row};
-ghost use Rattle.closer_laws.specs.CloserRows.{local_preemption_row, local_wait_row, local_runner_row};
+ghost use Rattle.closer_laws.specs.CloserRows.{local_wait_row, local_runner_row};
 ghost use Rattle.shared_requests.specs.Held.{AreSharedOut, AreHeldUp};
 ghost use Rattle.shared_requests.specs.declared.holders.Holders.TheVariants as holders;
+ghost use Rattle.closer_fmlp.specs.Given.{AreKnownAt, AreLaidOut, AreSharedLaidOut};
+ghost use Rattle.closer_fmlp.specs.Rows.{holder_rows, other_holder_rows, lower_rows, local_rows};
 
 use fragments::{
     Constraint, EachTask, Fragment, PerRequest, PerTask, RowKind, RowTaker, TaskPlace, TaskRow,
@@ -231,14 +229,8 @@ fn add_holder_rows<T: RowTaker>(
     places: &[TaskPlace],
     shared: &[bool],
 ) -> Result<(), AllocError>
-    requires task { i.0 < length set.now.tasks }
-    requires within { AreWithinDeadlines set.now bounds.now }
-    requires known { AreKnown (length set.now.tasks) (length set.now.resources) columns.now }
-    requires order { AreInOrder columns.now }
-    requires places { ArePlaces set.now (slice_index bounds.now) i.0 (length set.now.tasks) columns.now places.now }
-    requires shared { AreSharedOut set.now i.0 shared.now }
-    ensures { OnOk result (T.takes taker.old (map column_seen columns.now)
-        (per (length set.now.tasks) (holder_row set.now i.0)) bounds.now taker.new) }
+    requires { AreSharedLaidOut set.now bounds.now i.0 shared.now columns.now places.now }
+    ensures { OnOk result (T.takes taker.old (map column_seen columns.now) (holder_rows set.now i.0) bounds.now taker.new) }
 {
     let counts = held_up(alloc, set, Holders::There, i, shared)?;
     let rows = EachTask(HolderRow { counts });
@@ -256,14 +248,8 @@ fn add_other_holder_rows<T: RowTaker>(
     places: &[TaskPlace],
     shared: &[bool],
 ) -> Result<(), AllocError>
-    requires task { i.0 < length set.now.tasks }
-    requires within { AreWithinDeadlines set.now bounds.now }
-    requires known { AreKnown (length set.now.tasks) (length set.now.resources) columns.now }
-    requires order { AreInOrder columns.now }
-    requires places { ArePlaces set.now (slice_index bounds.now) i.0 (length set.now.tasks) columns.now places.now }
-    requires shared { AreSharedOut set.now i.0 shared.now }
-    ensures { OnOk result (T.takes taker.old (map column_seen columns.now)
-        (per_pair (length set.now.tasks) (length set.now.resources) (other_holder_row set.now i.0)) bounds.now taker.new) }
+    requires { AreSharedLaidOut set.now bounds.now i.0 shared.now columns.now places.now }
+    ensures { OnOk result (T.takes taker.old (map column_seen columns.now) (other_holder_rows set.now i.0) bounds.now taker.new) }
 {
     let counts = held_up(alloc, set, Holders::Beside, i, shared)?;
     let rows = OtherHolderRows { counts, shared };
@@ -282,14 +268,9 @@ fn add_lower_rows<T: RowTaker>(
     places: &[TaskPlace],
     intervals: u64,
 ) -> Result<(), AllocError>
-    requires task { i.0 < length set.now.tasks }
-    requires within { AreWithinDeadlines set.now bounds.now }
-    requires known { AreKnown (length set.now.tasks) (length set.now.resources) columns.now }
-    requires order { AreInOrder columns.now }
-    requires places { ArePlaces set.now (slice_index bounds.now) i.0 (length set.now.tasks) columns.now places.now }
+    requires columns { AreLaidOut set.now bounds.now i.0 columns.now places.now }
     requires intervals { intervals ≡ 1 + requests_where set.now i.0 (is_shared_out set.now i.0) }
-    ensures { OnOk result (T.takes taker.old (map column_seen columns.now)
-        (per_where (is_lower_local set.now i.0) (length set.now.tasks) (lower_row set.now i.0)) bounds.now taker.new) }
+    ensures { OnOk result (T.takes taker.old (map column_seen columns.now) (lower_rows set.now i.0) bounds.now taker.new) }
 {
     let rows = LowerRows(LowerRow { intervals });
     add_per_lower_task(alloc, taker, &rows, set, i, bounds, columns, places)
@@ -305,12 +286,9 @@ fn add_local_rows<T: RowTaker>(
     columns: &[Fragment],
     intervals: u64,
 ) -> Result<(), AllocError>
-    requires task { i.0 < length set.now.tasks }
-    requires within { AreWithinDeadlines set.now bounds.now }
-    requires known { AreKnown (length set.now.tasks) (length set.now.resources) columns.now }
+    requires columns { AreKnownAt set.now bounds.now i.0 columns.now }
     requires intervals { intervals ≡ 1 + requests_where set.now i.0 (is_shared_out set.now i.0) }
-    ensures { OnOk result (T.takes taker.old (map column_seen columns.now)
-        (local_preemption_row set.now i.0 ∷ local_wait_row set.now i.0 ∷ local_runner_row set.now i.0 ∷ []) bounds.now taker.new) }
+    ensures { OnOk result (T.takes taker.old (map column_seen columns.now) (local_rows set.now i.0) bounds.now taker.new) }
 {
     let all = (0, columns.len());
     add_row_limited(
@@ -339,11 +317,7 @@ pub(crate) fn add_closer_rows<T: RowTaker>(
     columns: &[Fragment],
     places: &[TaskPlace],
 ) -> Result<(), AllocError>
-    requires task { i.0 < length set.now.tasks }
-    requires within { AreWithinDeadlines set.now bounds.now }
-    requires known { AreKnown (length set.now.tasks) (length set.now.resources) columns.now }
-    requires order { AreInOrder columns.now }
-    requires places { ArePlaces set.now (slice_index bounds.now) i.0 (length set.now.tasks) columns.now places.now }
+    requires { AreLaidOut set.now bounds.now i.0 columns.now places.now }
     ensures { OnOk result (T.takes taker.old (map column_seen columns.now) (closer_rows set.now i.0) bounds.now taker.new) }
 {
     let shared = shared_out(alloc, set, i)?;
