@@ -1,2 +1,4 @@
 pub mod RowTests
 pub mod NextRow
+pub mod Given
+pub mod Queues

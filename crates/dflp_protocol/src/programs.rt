@@ -1,13 +1,12 @@
 //! The protocol's programs. So its sets can be analysed, and its certificates checked.
 
-ghost use Rattle.std.specs.Prelude.{◌<◌, map, length, OnOk};
+ghost use Rattle.std.specs.Prelude.{map, OnOk};
 ghost use Rattle.sporadic_model.specs.Homes.{EachHasHome};
-ghost use Rattle.program_sources.specs.Bounds.{AreWithinDeadlines};
-ghost use Rattle.blocking_columns.specs.ColumnDef.{column_seen, AreKnown};
+ghost use Rattle.blocking_columns.specs.ColumnDef.{column_seen};
 ghost use Rattle.blocking_columns.specs.Asked.{AreAskedBeside};
-ghost use Rattle.blocking_columns.specs.Stretches.{AreInOrder};
 ghost use Rattle.dflp_laws.specs.Programs.{is_dflp_column, dflp_columns, dflp_rows, dflp_source};
 ghost use Rattle.dflp_laws.proofs.Programs.{dflp_covered, dflp_rises, dflp_is_program};
+ghost use Rattle.dflp_protocol.specs.Given.{AreInOrderAt};
 
 use crate::Dflp;
 use crate::queues::add_queues;
@@ -55,10 +54,7 @@ fn add_rows<T: RowTaker>(
     bounds: &[u64],
     columns: &[Fragment],
 ) -> Result<(), AllocError>
-    requires task { i.0 < length set.now.tasks }
-    requires within { AreWithinDeadlines set.now bounds.now }
-    requires known { AreKnown (length set.now.tasks) (length set.now.resources) columns.now }
-    requires order { AreInOrder columns.now }
+    requires { AreInOrderAt set.now bounds.now i.0 columns.now }
     ensures { OnOk result (T.takes taker.old (map column_seen columns.now) (dflp_rows set.now i.0) bounds.now taker.new) }
 {
     let places = add_common(alloc, taker, set, i, bounds, columns)?;

@@ -1,14 +1,11 @@
 //! The rows of queues at each processor.
 
-ghost use Rattle.std.specs.Prelude.{◌≡◌, ◌<◌, ◌+◌, [], ◌∷◌, map, length, slice_index, OnOk};
-ghost use Rattle.std.specs.List.{AllWithin};
-ghost use Rattle.program_sources.specs.Bounds.{AreWithinDeadlines};
-ghost use Rattle.blocking_columns.specs.ColumnDef.{column_seen, AreKnown};
-ghost use Rattle.fragments.specs.Constraints.{per, per_pair};
-ghost use Rattle.blocking_columns.specs.Stretches.{AreInOrder};
-ghost use Rattle.fragments.specs.RowStretch.{IsStretch};
-ghost use Rattle.blocking_columns.specs.TaskPlaces.{ArePlaces};
+ghost use Rattle.std.specs.Prelude.{◌≡◌, ◌<◌, ◌+◌, [], ◌∷◌, map, length, OnOk};
+ghost use Rattle.blocking_columns.specs.ColumnDef.{column_seen};
+ghost use Rattle.fragments.specs.Constraints.{per};
 ghost use Rattle.dflp_laws.specs.Programs.{home_queue_row};
+ghost use Rattle.dflp_protocol.specs.Given.{AreLaidOut};
+ghost use Rattle.dflp_protocol.specs.Queues.{home_queue_rows, IsQueueWith};
 
 use fragments::{
     Constraint, Fragment, PerNumber, PerTask, RowKind, RowTaker, TaskPlace, add_per_number,
@@ -56,9 +53,7 @@ struct QueuesWith {
 impl PerNumber for QueuesWith {
     ghost rows_of = { λ k set i n. home_queue_row set i k.task.0 (n + 1) ∷ [] };
 
-    ghost fits = { λ k set i columns n. (k.task.0 < length set.tasks) × (n < set.processors)
-        × IsStretch (home_queue_row set i k.task.0 (n + 1)) columns k.stretch.0 k.stretch.1
-        × AllWithin (λ c. (column_seen c).task ≡ k.task.0) columns k.stretch.0 k.stretch.1 };
+    ghost fits = { λ k set i columns n. IsQueueWith set i k.task.0 n columns k.stretch.0 k.stretch.1 };
 
     fn add<T: RowTaker>(
         &self,
@@ -119,13 +114,8 @@ pub(crate) fn add_queues<T: RowTaker>(
     columns: &[Fragment],
     places: &[TaskPlace],
 ) -> Result<(), AllocError>
-    requires task { i.0 < length set.now.tasks }
-    requires within { AreWithinDeadlines set.now bounds.now }
-    requires known { AreKnown (length set.now.tasks) (length set.now.resources) columns.now }
-    requires order { AreInOrder columns.now }
-    requires places { ArePlaces set.now (slice_index bounds.now) i.0 (length set.now.tasks) columns.now places.now }
-    ensures { OnOk result (T.takes taker.old (map column_seen columns.now)
-        (per_pair (length set.now.tasks) set.now.processors (λ x k. home_queue_row set.now i.0 x (k + 1))) bounds.now taker.new) }
+    requires { AreLaidOut set.now bounds.now i.0 columns.now places.now }
+    ensures { OnOk result (T.takes taker.old (map column_seen columns.now) (home_queue_rows set.now i.0) bounds.now taker.new) }
 {
     add_per_task(alloc, taker, &Queues, set, i, bounds, columns, places)
 }
