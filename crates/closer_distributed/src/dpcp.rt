@@ -1,15 +1,15 @@
 //! DPCP with windows of requests, and the closer rows behind its own.
 
-ghost use Rattle.std.specs.Prelude.{◌≡◌, ◌<◌, ◌++◌, [], ◌∷◌, map, length, refl, OnOk};
+ghost use Rattle.std.specs.Prelude.{◌≡◌, map, refl, OnOk};
 ghost use Rattle.sporadic_model.specs.Homes.{EachHasHome};
 ghost use Rattle.sporadic_model.specs.declared.ids.Protocol.TheVariants as protocol;
-ghost use Rattle.program_sources.specs.Bounds.{AreWithinDeadlines};
-ghost use Rattle.blocking_columns.specs.ColumnDef.{column_seen, AreKnown};
+ghost use Rattle.blocking_columns.specs.ColumnDef.{column_seen};
 ghost use Rattle.blocking_columns.specs.Columns.{columns_of as written_columns};
-ghost use Rattle.blocking_columns.specs.Stretches.{AreInOrder};
-ghost use Rattle.closer_distributed_laws.specs.CloserRows.{lower_wait_row, home_rows, dpcp_closer_rows, dpcp_closer_source};
+ghost use Rattle.closer_distributed_laws.specs.CloserRows.{lower_wait_row, dpcp_closer_rows, dpcp_closer_source};
 ghost use Rattle.closer_distributed_laws.proofs.Points.{dpcp_closer_point};
 ghost use Rattle.closer_distributed_laws.proofs.Programs.{dpcp_closer_covered, dpcp_closer_rises, dpcp_closer_is_program};
+ghost use Rattle.closer_distributed.specs.Given.{AreInOrderAt};
+ghost use Rattle.closer_distributed.specs.Rows.{dpcp_further_rows};
 
 use crate::rows::add_home_rows;
 use dpcp_rules::Dpcp;
@@ -56,12 +56,8 @@ fn add_rows<T: RowTaker>(
     bounds: &[u64],
     columns: &[Fragment],
 ) -> Result<(), AllocError>
-    requires task { i.0 < length set.now.tasks }
-    requires within { AreWithinDeadlines set.now bounds.now }
-    requires known { AreKnown (length set.now.tasks) (length set.now.resources) columns.now }
-    requires order { AreInOrder columns.now }
-    ensures { OnOk result (T.takes taker.old (map column_seen columns.now)
-        (home_rows set.now i.0 ++ lower_wait_row set.now i.0 ∷ []) bounds.now taker.new) }
+    requires { AreInOrderAt set.now bounds.now i.0 columns.now }
+    ensures { OnOk result (T.takes taker.old (map column_seen columns.now) (dpcp_further_rows set.now i.0) bounds.now taker.new) }
 {
     add_home_rows(alloc, taker, set, i, bounds, columns)?;
     add_row(alloc, taker, &LowerWaits, set, i, bounds, columns)

@@ -1,15 +1,13 @@
 //! The rows that both closer analyses have.
 
-ghost use Rattle.std.specs.Prelude.{◌≡◌, ◌<◌, ◌+◌, [], ◌∷◌, if◌then◌else◌, map, length, slice_index, OnOk};
+ghost use Rattle.std.specs.Prelude.{◌≡◌, ◌<◌, ◌+◌, [], ◌∷◌, if◌then◌else◌, map, OnOk};
 ghost use Rattle.std.proofs.Common.{ap};
 ghost use Rattle.number_laws.specs.Sums.{flag};
-ghost use Rattle.program_sources.specs.Bounds.{AreWithinDeadlines};
-ghost use Rattle.blocking_columns.specs.ColumnDef.{column_seen, AreKnown};
+ghost use Rattle.blocking_columns.specs.ColumnDef.{column_seen};
 ghost use Rattle.blocking_columns.specs.Columns.{is_lower_local};
-ghost use Rattle.fragments.specs.Constraints.{per, per_where};
-ghost use Rattle.blocking_columns.specs.Stretches.{AreInOrder};
-ghost use Rattle.blocking_columns.specs.TaskPlaces.{ArePlaces};
 ghost use Rattle.closer_distributed_laws.specs.CloserRows.{requests_away, home_task_row, lower_task_row, lower_preemption_row, home_rows};
+ghost use Rattle.closer_distributed.specs.Given.{AreKnownAt, AreInOrderAt, AreLaidOut};
+ghost use Rattle.closer_distributed.specs.Rows.{home_task_rows, lower_task_rows};
 
 use crate::counting::requests_away;
 use fragments::{
@@ -170,11 +168,8 @@ fn add_home_tasks<T: RowTaker>(
     bounds: &[u64],
     columns: &[Fragment],
 ) -> Result<(), AllocError>
-    requires task { i.0 < length set.now.tasks }
-    requires within { AreWithinDeadlines set.now bounds.now }
-    requires known { AreKnown (length set.now.tasks) (length set.now.resources) columns.now }
-    ensures { OnOk result (T.takes taker.old (map column_seen columns.now)
-        (per set.now.processors (λ k. home_task_row set.now i.0 (k + 1))) bounds.now taker.new) }
+    requires { AreKnownAt set.now bounds.now i.0 columns.now }
+    ensures { OnOk result (T.takes taker.old (map column_seen columns.now) (home_task_rows set.now i.0) bounds.now taker.new) }
 {
     let processors = set.processors();
     add_per_number(
@@ -192,13 +187,8 @@ fn add_lower_tasks<T: RowTaker>(
     columns: &[Fragment],
     places: &[TaskPlace],
 ) -> Result<(), AllocError>
-    requires task { i.0 < length set.now.tasks }
-    requires within { AreWithinDeadlines set.now bounds.now }
-    requires known { AreKnown (length set.now.tasks) (length set.now.resources) columns.now }
-    requires order { AreInOrder columns.now }
-    requires places { ArePlaces set.now (slice_index bounds.now) i.0 (length set.now.tasks) columns.now places.now }
-    ensures { OnOk result (T.takes taker.old (map column_seen columns.now)
-        (per_where (is_lower_local set.now i.0) (length set.now.tasks) (lower_task_row set.now i.0)) bounds.now taker.new) }
+    requires { AreLaidOut set.now bounds.now i.0 columns.now places.now }
+    ensures { OnOk result (T.takes taker.old (map column_seen columns.now) (lower_task_rows set.now i.0) bounds.now taker.new) }
 {
     let rows = LowerTasks(LowerTask {
         most: 1 + requests_away(set, i),
@@ -215,10 +205,7 @@ pub(crate) fn add_home_rows<T: RowTaker>(
     bounds: &[u64],
     columns: &[Fragment],
 ) -> Result<(), AllocError>
-    requires task { i.0 < length set.now.tasks }
-    requires within { AreWithinDeadlines set.now bounds.now }
-    requires known { AreKnown (length set.now.tasks) (length set.now.resources) columns.now }
-    requires order { AreInOrder columns.now }
+    requires { AreInOrderAt set.now bounds.now i.0 columns.now }
     ensures { OnOk result (T.takes taker.old (map column_seen columns.now) (home_rows set.now i.0) bounds.now taker.new) }
 {
     let places = task_places(alloc, set, i, bounds, columns)?;
