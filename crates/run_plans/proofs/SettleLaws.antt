@@ -12,9 +12,7 @@ use Rattle.refusal_laws.specs.Steps.{StepDef}
 use Rattle.refusal_cert.specs.Refuting.{refuting}
 use Rattle.refusal_cert.specs.Steps.{refusal_of}
 use Rattle.refusal_cert.proofs.OneEnding.{refuting_once}
-use Rattle.settling.specs.Answers.{IsNotShown, IsWideToAnalyse, IsLeftOpen, IsToRefuse, MayBeWide, MayWantMore}
-use Rattle.settling.specs.Walks.{walk}
-use Rattle.settling.specs.declared.finding.Points.TheVariants.{Exact}
+use Rattle.settling.specs.Answers.{IsNotShown, IsLeftOpen, IsWalkedTo, IsToRefuse, MayBeWide, MayWantMore}
 use Rattle.settling.proofs.AnswerLaws.{open_of, open_if_wide}
 use Rattle.named_laws.specs.Named.{source_of}
 use Rattle.command_inputs.specs.Known.{Answer}
@@ -96,8 +94,8 @@ IsClosed p digest set n a =
 
 close_certified : (p : ProtocolName) (digest : List ℕ) (set : SetDef) (n : ℕ) (c : CertificateDef) (a : Answer)
     → (IsLeftOpen (source_of p set) n → ⊥) → a ≡ settled_answer p digest c
-    → (EndsIn (rounds_of (source_of p set)) n (Schedulable c.bounds c.duals)) ⊎ ((IsWideToAnalyse (source_of p set) n)
-    × EndsIn (walk Exact (source_of p set)) n (Schedulable c.bounds c.duals)) → IsClosed p digest set n a
+    → (EndsIn (rounds_of (source_of p set)) n (Schedulable c.bounds c.duals)) ⊎ IsWalkedTo (source_of p set) n c.bounds c.duals
+    → IsClosed p digest set n a
 close_certified p digest set n c a closed is (inl ends) = inl (Schedulable c.bounds c.duals, ends, tt, is)
 close_certified p digest set n c a closed is (inr (wide, ends)) = absurd (closed (inl wide))
 

@@ -11,10 +11,8 @@ use Rattle.refusal_laws.specs.Steps.{StepDef, Holds}
 use Rattle.refusal_cert.specs.Refuting.{refuting}
 use Rattle.refusal_cert.specs.Steps.{refusal_of}
 use Rattle.settling.specs.Rising.{IsProvedLeast}
-use Rattle.settling.specs.Answers.{IsNotShown, IsWideToAnalyse, IsLeftOpen, IsToRefuse, MayBeWide, MayWantMore}
-use Rattle.settling.specs.Walks.{walk}
+use Rattle.settling.specs.Answers.{IsNotShown, IsLeftOpen, IsWalkedTo, IsToRefuse, MayBeWide, MayWantMore}
 use Rattle.settling.specs.Ways.{NoneNeedsMore}
-use Rattle.settling.specs.declared.finding.Points.TheVariants.{Exact}
 use Rattle.cert_json.specs.Text.{certificate_text}
 use Rattle.refusal_json.specs.Ranges.{IsWritable}
 use Rattle.refusal_json.specs.Text.{refusal_text}
@@ -29,7 +27,7 @@ pub record IsSettledBy (f : SourceDef) (allowance : ℕ) (c : CertificateDef) : 
   pub proved : IsProvedLeast f c
   pub enough : NoneNeedsMore f
   pub from : EndsIn (rounds_of f) allowance (Schedulable c.bounds c.duals)
-      ⊎ ((IsWideToAnalyse f allowance) × EndsIn (walk Exact f) allowance (Schedulable c.bounds c.duals))
+      ⊎ IsWalkedTo f allowance c.bounds c.duals
 
 -- Are these the steps of the rounds of refusals?
 abbrev pub AreStepsOfRounds : SourceDef → ℕ → List StepDef → Type 0

@@ -1,6 +1,6 @@
 -- What the answers of settling mean.
 use Rattle.std.specs.Prelude.{◌≡◌, ◌⊎◌, ◌↔◌, ℕ, ◌<◌, ◌≤◌, ◌^◌, Bool, List, All, length, map, Result, Ok, Err, IfOk}
-use Rattle.program_form.specs.Certificate.{dual_seen, certificate_seen}
+use Rattle.program_form.specs.Certificate.{DualDef, dual_seen, certificate_seen}
 use Rattle.sporadic_model.specs.SetDef.{SetDef}
 use Rattle.schedule_model.specs.RowDef.{Trace}
 use Rattle.schedule_model.specs.declared.rule.Rule.{Rule}
@@ -90,6 +90,10 @@ IsWideToRefute f allowance = (i : ℕ) × EndsIn (refuting f) allowance (Wide i)
 abbrev pub IsLeftOpen : SourceDef → ℕ → Type 0
 IsLeftOpen f allowance = (IsWideToAnalyse f allowance) ⊎ ((IsNotShown f allowance) × IsWideToRefute f allowance)
 
+-- Is the analysis wide, and does the walk with exact points end with these bounds and duals?
+abbrev pub IsWalkedTo : SourceDef → ℕ → List ℕ → List DualDef → Type 0
+IsWalkedTo f allowance bounds duals = (IsWideToAnalyse f allowance) × EndsIn (walk Exact f) allowance (Schedulable bounds duals)
+
 -- Is it left to a walk to refuse the set? Nothing fits. Either the analysis ends wide, and the walk with exact points ends late. Or the
 -- analysis ends at a task that isn't shown, and the rounds of refusals end wide.
 pub record IsToRefuse (f : SourceDef) (allowance : ℕ) : Type 0 where
@@ -119,8 +123,7 @@ IsRefusedSo f (settled.Refused refusal) = (IsRight (settled.Refused refusal) f) 
 abbrev pub Settles : Result Settled SettleStop → SourceDef → ℕ → Type 0
 Settles (Ok (settled.Schedulable certificate)) f allowance =
     (EndsIn (rounds_of f) allowance (Schedulable certificate.bounds.items (map dual_seen certificate.duals.items)))
-    ⊎ ((IsWideToAnalyse f allowance)
-    × EndsIn (walk Exact f) allowance (Schedulable certificate.bounds.items (map dual_seen certificate.duals.items)))
+    ⊎ IsWalkedTo f allowance certificate.bounds.items (map dual_seen certificate.duals.items)
 Settles (Ok (settled.Refused refusal)) f allowance =
     ((IsNotShown f allowance) × Refutes (Ok (refutation.Refused refusal)) f allowance)
     ⊎ ((IsToRefuse f allowance) × HasSmallPoints (steps_seen refusal))
