@@ -85,6 +85,9 @@ fn a_point_is_tested_at_bounds(rt: HostRuntime) -> Result<(), Fail> {
         },
     };
     let source = Written(Protocol::FmlpPlus);
+    if set.tasks() == 0 {
+        return Err("out of range".into());
+    }
     assert!(rt; fault_of_point(alloc, &set, &source, TaskId(0), &costs, &step)?.is_none());
     step.value = 6;
     let found = fault_of_point(alloc, &set, &source, TaskId(0), &costs, &step)?;
