@@ -9,3 +9,4 @@ pub mod TaskPlaces
 pub mod Links
 pub mod ClassOrder
 pub mod Requested
+pub mod Given

@@ -8,7 +8,7 @@ ghost use Rattle.blocking_columns.specs.Columns.{columns_of as written_columns};
 ghost use Rattle.closer_distributed_laws.specs.CloserRows.{lower_wait_row, dpcp_closer_rows, dpcp_closer_source};
 ghost use Rattle.closer_distributed_laws.proofs.Points.{dpcp_closer_point};
 ghost use Rattle.closer_distributed_laws.proofs.Programs.{dpcp_closer_covered, dpcp_closer_rises, dpcp_closer_is_program};
-ghost use Rattle.closer_distributed.specs.Given.{AreInOrderAt};
+ghost use Rattle.blocking_columns.specs.Given.{AreInOrderAt};
 ghost use Rattle.closer_distributed.specs.Rows.{dpcp_further_rows};
 
 use crate::rows::add_home_rows;

@@ -6,7 +6,7 @@ ghost use Rattle.number_laws.specs.Sums.{flag};
 ghost use Rattle.blocking_columns.specs.ColumnDef.{column_seen};
 ghost use Rattle.blocking_columns.specs.Columns.{is_lower_local};
 ghost use Rattle.closer_distributed_laws.specs.CloserRows.{requests_away, home_task_row, lower_task_row, lower_preemption_row, home_rows};
-ghost use Rattle.closer_distributed.specs.Given.{AreKnownAt, AreInOrderAt, AreLaidOut};
+ghost use Rattle.blocking_columns.specs.Given.{AreKnownAt, AreInOrderAt, AreLaidOut};
 ghost use Rattle.closer_distributed.specs.Rows.{home_task_rows, lower_task_rows};
 
 use crate::counting::requests_away;

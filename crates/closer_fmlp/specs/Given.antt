@@ -1,37 +1,13 @@
--- What the functions here are given: a task, bounds, columns and places that belong together. In each, i is the analysed task.
-use Rattle.std.specs.Prelude.{◌≡◌, ℕ, ◌<◌, Bool, List, map, length, slice_index}
-use Rattle.program_sources.specs.Bounds.{AreWithinDeadlines}
+-- What functions that add rows are given: columns and places that belong together, and marks of the resources that are shared out.
+use Rattle.std.specs.Prelude.{ℕ, Bool, List}
 use Rattle.sporadic_model.specs.SetDef.{SetDef}
-use Rattle.sporadic_model.specs.declared.ids.Protocol.TheVariants as protocol
 use Rattle.blocking_columns.specs.declared.columns.Fragment.{Fragment}
 use Rattle.blocking_columns.specs.declared.stretches.TaskPlace.{TaskPlace}
-use Rattle.blocking_columns.specs.ColumnDef.{column_seen, AreKnown}
-use Rattle.blocking_columns.specs.Columns.{columns_of}
-use Rattle.blocking_columns.specs.Stretches.{AreInOrder}
-use Rattle.blocking_columns.specs.TaskPlaces.{ArePlaces}
+use Rattle.blocking_columns.specs.Given.{AreLaidOut}
 use Rattle.shared_requests.specs.Held.{AreSharedOut}
 
--- Is i a task of the set, where each task has a bound, at most its latest one, and are these its columns under FMLP+?
-pub record AreColumnsAt (set : SetDef) (bounds : List ℕ) (i : ℕ) (given : List Fragment) : Type 0 where
-  pub task : i < length set.tasks
-  pub within : AreWithinDeadlines set bounds
-  pub columns : map column_seen given ≡ columns_of protocol.FmlpPlus set i
-
--- Is i a task of the set, with such bounds, and is each column one of a task and a resource of the set?
-pub record AreKnownAt (set : SetDef) (bounds : List ℕ) (i : ℕ) (columns : List Fragment) : Type 0 where
-  pub task : i < length set.tasks
-  pub within : AreWithinDeadlines set bounds
-  pub known : AreKnown (length set.tasks) (length set.resources) columns
-
--- Are they such columns, and do they stand in order, so that those of each task begin where the entries say?
-pub record AreLaidOut (set : SetDef) (bounds : List ℕ) (i : ℕ) (columns : List Fragment) (entries : List TaskPlace) : Type 0 where
-  pub task : i < length set.tasks
-  pub within : AreWithinDeadlines set bounds
-  pub known : AreKnown (length set.tasks) (length set.resources) columns
-  pub order : AreInOrder columns
-  pub places : ArePlaces set (slice_index bounds) i (length set.tasks) columns entries
-
--- Do they, and does s say of each resource whether it is shared out?
+-- Do the columns stand in order, so that those of each task begin where the entries say? And does s say of each resource whether it is shared
+-- out?
 pub record AreSharedLaidOut (set : SetDef) (bounds : List ℕ) (i : ℕ) (s : List Bool) (columns : List Fragment) (entries : List TaskPlace)
     : Type 0 where
   pub laid : AreLaidOut set bounds i columns entries

@@ -8,7 +8,7 @@ ghost use Rattle.blocking_columns.specs.ColumnDef.{column_seen};
 ghost use Rattle.blocking_columns.specs.Columns.{columns_of};
 ghost use Rattle.closer_laws.specs.CloserRows.{fmlp_closer_rows, fmlp_closer_program};
 ghost use Rattle.closer_laws.proofs.Programs.{fmlp_closer_is_program};
-ghost use Rattle.closer_fmlp.specs.Given.{AreColumnsAt};
+ghost use Rattle.blocking_columns.specs.Given.{AreColumnsAt};
 
 use crate::rows::add_closer_rows;
 use fragments::{Fragment, RowTaker, columns_stand_in_order, fragments};
@@ -26,7 +26,7 @@ fn add_rows<T: RowTaker>(
     bounds: &[u64],
     columns: &[Fragment],
 ) -> Result<(), AllocError>
-    requires { AreColumnsAt set.now bounds.now i.0 columns.now }
+    requires { AreColumnsAt protocol.FmlpPlus set.now bounds.now i.0 columns.now }
     ensures { OnOk result (T.takes taker.old (map column_seen columns.now) (fmlp_closer_rows set.now i.0) bounds.now taker.new) }
 {
     columns_stand_in_order(set, Protocol::FmlpPlus, i, columns);

@@ -11,7 +11,8 @@ ghost use Rattle.closer_laws.specs.CloserRows.{holder_row, other_holder_row, low
 ghost use Rattle.closer_laws.specs.CloserRows.{local_wait_row, local_runner_row};
 ghost use Rattle.shared_requests.specs.Held.{AreSharedOut, AreHeldUp};
 ghost use Rattle.shared_requests.specs.declared.holders.Holders.TheVariants as holders;
-ghost use Rattle.closer_fmlp.specs.Given.{AreKnownAt, AreLaidOut, AreSharedLaidOut};
+ghost use Rattle.blocking_columns.specs.Given.{AreKnownAt, AreLaidOut};
+ghost use Rattle.closer_fmlp.specs.Given.{AreSharedLaidOut};
 ghost use Rattle.closer_fmlp.specs.Rows.{holder_rows, other_holder_rows, lower_rows, local_rows};
 
 use fragments::{

@@ -1,4 +1,3 @@
 pub mod RowTests
 pub mod NextRow
-pub mod Given
 pub mod Queues

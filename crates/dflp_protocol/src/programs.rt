@@ -6,7 +6,7 @@ ghost use Rattle.blocking_columns.specs.ColumnDef.{column_seen};
 ghost use Rattle.blocking_columns.specs.Asked.{AreAskedBeside};
 ghost use Rattle.dflp_laws.specs.Programs.{is_dflp_column, dflp_columns, dflp_rows, dflp_source};
 ghost use Rattle.dflp_laws.proofs.Programs.{dflp_covered, dflp_rises, dflp_is_program};
-ghost use Rattle.dflp_protocol.specs.Given.{AreInOrderAt};
+ghost use Rattle.blocking_columns.specs.Given.{AreInOrderAt};
 
 use crate::Dflp;
 use crate::queues::add_queues;

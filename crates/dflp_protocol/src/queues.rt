@@ -4,7 +4,7 @@ ghost use Rattle.std.specs.Prelude.{◌≡◌, ◌<◌, ◌+◌, [], ◌∷◌, 
 ghost use Rattle.blocking_columns.specs.ColumnDef.{column_seen};
 ghost use Rattle.fragments.specs.Constraints.{per};
 ghost use Rattle.dflp_laws.specs.Programs.{home_queue_row};
-ghost use Rattle.dflp_protocol.specs.Given.{AreLaidOut};
+ghost use Rattle.blocking_columns.specs.Given.{AreLaidOut};
 ghost use Rattle.dflp_protocol.specs.Queues.{home_queue_rows, IsQueueWith};
 
 use fragments::{

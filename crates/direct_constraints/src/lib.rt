@@ -4,12 +4,11 @@
 
 ghost use Rattle.std.specs.Prelude.{◌≡◌, ◌<◌, map, length, slice_index, IfOk, OnOk};
 ghost use Rattle.program_form.specs.RowBlock.{block_seen};
-ghost use Rattle.program_sources.specs.Bounds.{AreWithinDeadlines};
 ghost use Rattle.sporadic_model.specs.Homes.{HasHomesFor};
-ghost use Rattle.blocking_columns.specs.ColumnDef.{column_seen, AreKnown};
+ghost use Rattle.blocking_columns.specs.Given.{AreColumnsAt, AreInOrderAt, AreLaidOut};
+ghost use Rattle.blocking_columns.specs.ColumnDef.{column_seen};
 ghost use Rattle.blocking_columns.specs.Columns.{columns_of};
 ghost use Rattle.fragments.specs.Constraints.{per, per_pair, block_of};
-ghost use Rattle.blocking_columns.specs.Stretches.{AreInOrder};
 ghost use Rattle.blocking_columns.specs.TaskPlaces.{ArePlaces};
 ghost use Rattle.direct_constraints.specs.Asked.{AreAskedFor};
 ghost use Rattle.direct_constraints.specs.Rows.{request_row, time_row, turn_row, lower_holder_row, common_rows, own_rows};
@@ -34,10 +33,7 @@ pub fn add_request_rows<T: RowTaker>(
     bounds: &[u64],
     columns: &[Fragment],
 ) -> Result<Vec<TaskPlace>, AllocError>
-    requires task { i.0 < length set.now.tasks }
-    requires within { AreWithinDeadlines set.now bounds.now }
-    requires known { AreKnown (length set.now.tasks) (length set.now.resources) columns.now }
-    requires order { AreInOrder columns.now }
+    requires ordered { AreInOrderAt set.now bounds.now i.0 columns.now }
     ensures rows { OnOk result (T.takes taker.old (map column_seen columns.now)
         (per_pair (length set.now.tasks) (length set.now.resources) (request_row set.now i.0)) bounds.now taker.new) }
     ensures places { IfOk result (λ v. ArePlaces set.now (slice_index bounds.now) i.0 (length set.now.tasks) columns.now v.items) }
@@ -64,11 +60,7 @@ pub fn add_time_rows<T: RowTaker>(
     columns: &[Fragment],
     places: &[TaskPlace],
 ) -> Result<(), AllocError>
-    requires task { i.0 < length set.now.tasks }
-    requires within { AreWithinDeadlines set.now bounds.now }
-    requires known { AreKnown (length set.now.tasks) (length set.now.resources) columns.now }
-    requires order { AreInOrder columns.now }
-    requires places { ArePlaces set.now (slice_index bounds.now) i.0 (length set.now.tasks) columns.now places.now }
+    requires laid { AreLaidOut set.now bounds.now i.0 columns.now places.now }
     ensures { OnOk result (T.takes taker.old (map column_seen columns.now)
         (per (length set.now.tasks) (time_row set.now i.0)) bounds.now taker.new) }
 {
@@ -94,11 +86,7 @@ pub fn add_turn_rows<T: RowTaker>(
     columns: &[Fragment],
     places: &[TaskPlace],
 ) -> Result<(), AllocError>
-    requires task { i.0 < length set.now.tasks }
-    requires within { AreWithinDeadlines set.now bounds.now }
-    requires known { AreKnown (length set.now.tasks) (length set.now.resources) columns.now }
-    requires order { AreInOrder columns.now }
-    requires places { ArePlaces set.now (slice_index bounds.now) i.0 (length set.now.tasks) columns.now places.now }
+    requires laid { AreLaidOut set.now bounds.now i.0 columns.now places.now }
     ensures { OnOk result (T.takes taker.old (map column_seen columns.now)
         (per_pair (length set.now.tasks) (length set.now.resources) (turn_row set.now i.0)) bounds.now taker.new) }
 {
@@ -125,12 +113,8 @@ fn add_lower_holder_rows<T: RowTaker>(
     columns: &[Fragment],
     places: &[TaskPlace],
 ) -> Result<(), AllocError>
-    requires task { i.0 < length set.now.tasks }
-    requires within { AreWithinDeadlines set.now bounds.now }
-    requires known { AreKnown (length set.now.tasks) (length set.now.resources) columns.now }
-    requires order { AreInOrder columns.now }
+    requires laid { AreLaidOut set.now bounds.now i.0 columns.now places.now }
     requires asked { AreAskedFor set.now i.0 columns.now }
-    requires places { ArePlaces set.now (slice_index bounds.now) i.0 (length set.now.tasks) columns.now places.now }
     ensures { OnOk result (T.takes taker.old (map column_seen columns.now)
         (per (length set.now.resources) (lower_holder_row set.now i.0)) bounds.now taker.new) }
 {
@@ -151,10 +135,7 @@ pub fn add_common<T: RowTaker>(
     bounds: &[u64],
     columns: &[Fragment],
 ) -> Result<Vec<TaskPlace>, AllocError>
-    requires task { i.0 < length set.now.tasks }
-    requires within { AreWithinDeadlines set.now bounds.now }
-    requires known { AreKnown (length set.now.tasks) (length set.now.resources) columns.now }
-    requires order { AreInOrder columns.now }
+    requires ordered { AreInOrderAt set.now bounds.now i.0 columns.now }
     ensures rows { OnOk result (T.takes taker.old (map column_seen columns.now) (common_rows set.now i.0) bounds.now taker.new) }
     ensures places { IfOk result (λ v. ArePlaces set.now (slice_index bounds.now) i.0 (length set.now.tasks) columns.now v.items) }
 {
@@ -174,9 +155,7 @@ pub fn add_own<T: RowTaker>(
     columns: &[Fragment],
     places: &[TaskPlace],
 ) -> Result<(), AllocError>
-    requires task { i.0 < length set.now.tasks }
-    requires within { AreWithinDeadlines set.now bounds.now }
-    requires columns { map column_seen columns.now ≡ columns_of protocol set.now i.0 }
+    requires at { AreColumnsAt protocol set.now bounds.now i.0 columns.now }
     requires places { ArePlaces set.now (slice_index bounds.now) i.0 (length set.now.tasks) columns.now places.now }
     ensures { OnOk result (T.takes taker.old (map column_seen columns.now) (own_rows protocol set.now i.0) bounds.now taker.new) }
 {
@@ -200,10 +179,8 @@ pub fn common(
     bounds: &[u64],
     columns: &[Fragment],
 ) -> Result<RowBlock, AllocError>
-    requires task { i.0 < length set.now.tasks }
     requires suits { HasHomesFor protocol set.now }
-    requires within { AreWithinDeadlines set.now bounds.now }
-    requires columns { map column_seen columns.now ≡ columns_of protocol set.now i.0 }
+    requires at { AreColumnsAt protocol set.now bounds.now i.0 columns.now }
     ensures { IfOk result (λ b. block_seen b ≡ block_of (columns_of protocol set.now i.0) (common_rows set.now i.0) bounds.now) }
 {
     let mut block = RowBlock {
@@ -226,10 +203,8 @@ pub fn own(
     bounds: &[u64],
     columns: &[Fragment],
 ) -> Result<RowBlock, AllocError>
-    requires task { i.0 < length set.now.tasks }
     requires suits { HasHomesFor protocol set.now }
-    requires within { AreWithinDeadlines set.now bounds.now }
-    requires columns { map column_seen columns.now ≡ columns_of protocol set.now i.0 }
+    requires at { AreColumnsAt protocol set.now bounds.now i.0 columns.now }
     ensures { IfOk result (λ b. block_seen b ≡ block_of (columns_of protocol set.now i.0) (own_rows protocol set.now i.0) bounds.now) }
 {
     let mut block = RowBlock {

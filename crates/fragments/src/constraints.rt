@@ -3,9 +3,10 @@ ghost use Rattle.std.specs.List.{AllWithin, list_any};
 ghost use Rattle.program_form.specs.RowBlock.{block_seen};
 ghost use Rattle.sporadic_model.specs.SetDef.{SetDef};
 ghost use Rattle.program_sources.specs.Bounds.{AreWithinDeadlines};
+ghost use Rattle.blocking_columns.specs.Given.{AreKnownAt};
 ghost use Rattle.blocking_columns.specs.ColumnDef.{ColumnDef, column_seen, AreKnown};
 ghost use Rattle.fragments.specs.Constraints.{ConstraintDef, pushed_row};
-ghost use Rattle.fragments.specs.RowStretch.{IsStretch};
+ghost use Rattle.fragments.specs.RowStretch.{IsRowOver, IsStretch};
 
 use crate::taking::RowTaker;
 use blocking_columns::Fragment;
@@ -53,10 +54,7 @@ fn holds<K: RowKind>(
     stretch: (usize, usize),
 ) -> bool
     requires fits { K.fits kind.now set.now }
-    requires task { i.0 < length set.now.tasks }
-    requires known { AreKnown (length set.now.tasks) (length set.now.resources) columns.now }
-    requires stretch { IsStretch (K.row_of kind.now set.now i.0) columns.now stretch.0 stretch.1 }
-    requires over { AllWithin (λ c. K.over kind.now set.now i.0 (column_seen c)) columns.now stretch.0 stretch.1 }
+    requires row { IsRowOver set.now i.0 (K.row_of kind.now set.now i.0) (K.over kind.now set.now i.0) columns.now stretch.0 stretch.1 }
     ensures { result ≡ list_any (λ c. nat_lt 0 ((K.row_of kind.now set.now i.0).coefficient (column_seen c))) columns.now }
 {
     let (from, to) = stretch;
@@ -78,10 +76,7 @@ fn coefficients<K: RowKind>(
     stretch: (usize, usize),
 ) -> Result<Vec<u64>, AllocError>
     requires fits { K.fits kind.now set.now }
-    requires task { i.0 < length set.now.tasks }
-    requires known { AreKnown (length set.now.tasks) (length set.now.resources) columns.now }
-    requires stretch { IsStretch (K.row_of kind.now set.now i.0) columns.now stretch.0 stretch.1 }
-    requires over { AllWithin (λ c. K.over kind.now set.now i.0 (column_seen c)) columns.now stretch.0 stretch.1 }
+    requires row { IsRowOver set.now i.0 (K.row_of kind.now set.now i.0) (K.over kind.now set.now i.0) columns.now stretch.0 stretch.1 }
     ensures { IfOk result (λ v. v.items ≡ map (λ c. (K.row_of kind.now set.now i.0).coefficient (column_seen c)) columns.now) }
 {
     let (from, to) = stretch;
@@ -113,10 +108,7 @@ pub(crate) fn push_kind<K: RowKind>(
     limit: u64,
 ) -> Result<(), AllocError>
     requires fits { K.fits kind.now set.now }
-    requires task { i.0 < length set.now.tasks }
-    requires known { AreKnown (length set.now.tasks) (length set.now.resources) columns.now }
-    requires stretch { IsStretch (K.row_of kind.now set.now i.0) columns.now stretch.0 stretch.1 }
-    requires over { AllWithin (λ c. K.over kind.now set.now i.0 (column_seen c)) columns.now stretch.0 stretch.1 }
+    requires row { IsRowOver set.now i.0 (K.row_of kind.now set.now i.0) (K.over kind.now set.now i.0) columns.now stretch.0 stretch.1 }
     ensures { OnOk result (block_seen block.new ≡ pushed_row (block_seen block.old)
         (map (K.row_of kind.now set.now i.0).coefficient (map column_seen columns.now)) limit) }
 {
@@ -164,9 +156,7 @@ pub fn add_row_within<T: RowTaker, K: Constraint>(
     stretch: (usize, usize),
 ) -> Result<(), AllocError>
     requires fits { K.fits kind.now set.now }
-    requires task { i.0 < length set.now.tasks }
-    requires within { AreWithinDeadlines set.now bounds.now }
-    requires known { AreKnown (length set.now.tasks) (length set.now.resources) columns.now }
+    requires at { AreKnownAt set.now bounds.now i.0 columns.now }
     requires stretch { IsStretch (K.row_of kind.now set.now i.0) columns.now stretch.0 stretch.1 }
     requires over { AllWithin (λ c. K.over kind.now set.now i.0 (column_seen c)) columns.now stretch.0 stretch.1 }
     ensures { OnOk result (T.takes taker.old (map column_seen columns.now) (K.row_of kind.now set.now i.0 ∷ []) bounds.now taker.new) }
@@ -189,9 +179,7 @@ pub fn add_row<T: RowTaker, K: Constraint>(
     columns: &[Fragment],
 ) -> Result<(), AllocError>
     requires fits { K.fits kind.now set.now }
-    requires task { i.0 < length set.now.tasks }
-    requires within { AreWithinDeadlines set.now bounds.now }
-    requires known { AreKnown (length set.now.tasks) (length set.now.resources) columns.now }
+    requires at { AreKnownAt set.now bounds.now i.0 columns.now }
     requires over { (c : ColumnDef) → K.over kind.now set.now i.0 c }
     ensures { OnOk result (T.takes taker.old (map column_seen columns.now) (K.row_of kind.now set.now i.0 ∷ []) bounds.now taker.new) }
 {

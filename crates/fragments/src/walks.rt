@@ -4,6 +4,7 @@ ghost use Rattle.std.specs.Prelude.{◌≡◌, ℕ, ◌<◌, ◌≤◌, ◌+◌,
 ghost use Rattle.number_laws.specs.Sums.{collect_below};
 ghost use Rattle.sporadic_model.specs.SetDef.{SetDef};
 ghost use Rattle.program_sources.specs.Bounds.{AreWithinDeadlines};
+ghost use Rattle.blocking_columns.specs.Given.{AreKnownAt, AreInOrderAt, AreLaidOut};
 ghost use Rattle.blocking_columns.specs.ColumnDef.{ColumnDef, column_seen, AreKnown};
 ghost use Rattle.fragments.specs.Constraints.{ConstraintDef, per, per_pair};
 ghost use Rattle.blocking_columns.specs.Stretches.{slot, AreInOrder, BeginsAt, IsTaskStretch, IsRequestStretch, IsNextRequest, ArePast};
@@ -60,11 +61,7 @@ pub fn add_per_task<T: RowTaker, R: PerTask>(
     places: &[TaskPlace],
 ) -> Result<(), AllocError>
     requires fits { R.fits rows.now set.now i.0 bounds.now }
-    requires task { i.0 < length set.now.tasks }
-    requires within { AreWithinDeadlines set.now bounds.now }
-    requires known { AreKnown (length set.now.tasks) (length set.now.resources) columns.now }
-    requires order { AreInOrder columns.now }
-    requires places { ArePlaces set.now (slice_index bounds.now) i.0 (length set.now.tasks) columns.now places.now }
+    requires laid { AreLaidOut set.now bounds.now i.0 columns.now places.now }
     ensures { OnOk result (T.takes taker.old (map column_seen columns.now)
         (collect_below (length set.now.tasks) (R.rows_of rows.now set.now i.0)) bounds.now taker.new) }
 {
@@ -99,11 +96,7 @@ pub fn add_per_lower_task<T: RowTaker, R: PerTask>(
 ) -> Result<(), AllocError>
     requires fits { R.fits rows.now set.now i.0 bounds.now }
     requires none { (x : ℕ) → x ≤ i.0 → R.rows_of rows.now set.now i.0 x ≡ [] }
-    requires task { i.0 < length set.now.tasks }
-    requires within { AreWithinDeadlines set.now bounds.now }
-    requires known { AreKnown (length set.now.tasks) (length set.now.resources) columns.now }
-    requires order { AreInOrder columns.now }
-    requires places { ArePlaces set.now (slice_index bounds.now) i.0 (length set.now.tasks) columns.now places.now }
+    requires laid { AreLaidOut set.now bounds.now i.0 columns.now places.now }
     ensures { OnOk result (T.takes taker.old (map column_seen columns.now)
         (collect_below (length set.now.tasks) (R.rows_of rows.now set.now i.0)) bounds.now taker.new) }
 {
@@ -196,13 +189,10 @@ fn add_requests_from<T: RowTaker, R: PerRequest>(
     from: usize,
 ) -> Result<usize, AllocError>
     requires fits { R.fits rows.now set.now i.0 bounds.now }
-    requires task { i.0 < length set.now.tasks }
+    requires ordered { AreInOrderAt set.now bounds.now i.0 columns.now }
     requires other { x.0 < length set.now.tasks }
     requires jobs { jobs ≡ jobs_in set.now (slice_index bounds.now) i.0 x.0 }
     requires most { jobs ≤ 2000000000 }
-    requires within { AreWithinDeadlines set.now bounds.now }
-    requires known { AreKnown (length set.now.tasks) (length set.now.resources) columns.now }
-    requires order { AreInOrder columns.now }
     requires from { BeginsAt (slot x.0 0) columns.now from }
     ensures rows { OnOk result (T.takes taker.old (map column_seen columns.now)
         (per (length set.now.resources) (R.row_of rows.now set.now i.0 x.0)) bounds.now taker.new) }
@@ -244,10 +234,7 @@ pub fn add_per_request<T: RowTaker, R: PerRequest>(
 ) -> Result<Vec<TaskPlace>, AllocError>
     requires fits { R.fits rows.now set.now i.0 bounds.now }
     requires tasks { tasks ≤ length set.now.tasks }
-    requires task { i.0 < length set.now.tasks }
-    requires within { AreWithinDeadlines set.now bounds.now }
-    requires known { AreKnown (length set.now.tasks) (length set.now.resources) columns.now }
-    requires order { AreInOrder columns.now }
+    requires ordered { AreInOrderAt set.now bounds.now i.0 columns.now }
     ensures rows { OnOk result (T.takes taker.old (map column_seen columns.now)
         (per_pair tasks (length set.now.resources) (R.row_of rows.now set.now i.0)) bounds.now taker.new) }
     ensures places { IfOk result (λ v. ArePlaces set.now (slice_index bounds.now) i.0 tasks columns.now v.items) }
@@ -291,11 +278,7 @@ pub fn add_per_request_at<T: RowTaker, R: PerRequest>(
 ) -> Result<(), AllocError>
     requires fits { R.fits rows.now set.now i.0 bounds.now }
     requires tasks { tasks ≤ length set.now.tasks }
-    requires task { i.0 < length set.now.tasks }
-    requires within { AreWithinDeadlines set.now bounds.now }
-    requires known { AreKnown (length set.now.tasks) (length set.now.resources) columns.now }
-    requires order { AreInOrder columns.now }
-    requires places { ArePlaces set.now (slice_index bounds.now) i.0 (length set.now.tasks) columns.now places.now }
+    requires laid { AreLaidOut set.now bounds.now i.0 columns.now places.now }
     ensures { OnOk result (T.takes taker.old (map column_seen columns.now)
         (per_pair tasks (length set.now.resources) (R.row_of rows.now set.now i.0)) bounds.now taker.new) }
 {
@@ -355,9 +338,7 @@ pub fn add_per_number<T: RowTaker, R: PerNumber>(
     columns: &[Fragment],
 ) -> Result<(), AllocError>
     requires fits { (n : ℕ) → n < count → R.fits rows.now set.now i.0 columns.now n }
-    requires task { i.0 < length set.now.tasks }
-    requires within { AreWithinDeadlines set.now bounds.now }
-    requires known { AreKnown (length set.now.tasks) (length set.now.resources) columns.now }
+    requires at { AreKnownAt set.now bounds.now i.0 columns.now }
     ensures { OnOk result (T.takes taker.old (map column_seen columns.now)
         (collect_below count (R.rows_of rows.now set.now i.0)) bounds.now taker.new) }
 {

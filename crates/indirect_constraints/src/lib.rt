@@ -3,12 +3,11 @@
 
 ghost use Rattle.std.specs.Prelude.{◌≡◌, ◌<◌, ◌+◌, map, length, slice_index, IfOk, OnOk};
 ghost use Rattle.program_form.specs.RowBlock.{block_seen};
-ghost use Rattle.program_sources.specs.Bounds.{AreWithinDeadlines};
 ghost use Rattle.sporadic_model.specs.Homes.{HasHomesFor};
-ghost use Rattle.blocking_columns.specs.ColumnDef.{column_seen, AreKnown};
+ghost use Rattle.blocking_columns.specs.Given.{AreColumnsAt, AreLaidOut};
+ghost use Rattle.blocking_columns.specs.ColumnDef.{column_seen};
 ghost use Rattle.blocking_columns.specs.Columns.{columns_of};
 ghost use Rattle.fragments.specs.Constraints.{per, block_of};
-ghost use Rattle.blocking_columns.specs.Stretches.{AreInOrder};
 ghost use Rattle.blocking_columns.specs.TaskPlaces.{ArePlaces};
 ghost use Rattle.indirect_constraints.specs.Asked.{AreAskedAtHome};
 ghost use Rattle.indirect_constraints.specs.Rows.{queue_row, holding_row, home_row, indirect_rows};
@@ -37,11 +36,7 @@ fn add_queue_rows<T: RowTaker>(
     columns: &[Fragment],
     places: &[TaskPlace],
 ) -> Result<(), AllocError>
-    requires task { i.0 < length set.now.tasks }
-    requires within { AreWithinDeadlines set.now bounds.now }
-    requires known { AreKnown (length set.now.tasks) (length set.now.resources) columns.now }
-    requires order { AreInOrder columns.now }
-    requires places { ArePlaces set.now (slice_index bounds.now) i.0 (length set.now.tasks) columns.now places.now }
+    requires laid { AreLaidOut set.now bounds.now i.0 columns.now places.now }
     ensures { OnOk result (T.takes taker.old (map column_seen columns.now)
         (per (length set.now.tasks) (queue_row set.now i.0)) bounds.now taker.new) }
 {
@@ -60,11 +55,7 @@ fn add_holding_rows<T: RowTaker>(
     columns: &[Fragment],
     places: &[TaskPlace],
 ) -> Result<(), AllocError>
-    requires task { i.0 < length set.now.tasks }
-    requires within { AreWithinDeadlines set.now bounds.now }
-    requires known { AreKnown (length set.now.tasks) (length set.now.resources) columns.now }
-    requires order { AreInOrder columns.now }
-    requires places { ArePlaces set.now (slice_index bounds.now) i.0 (length set.now.tasks) columns.now places.now }
+    requires laid { AreLaidOut set.now bounds.now i.0 columns.now places.now }
     ensures { OnOk result (T.takes taker.old (map column_seen columns.now)
         (per (length set.now.tasks) (holding_row set.now i.0)) bounds.now taker.new) }
 {
@@ -83,12 +74,8 @@ fn add_home_rows<T: RowTaker>(
     columns: &[Fragment],
     places: &[TaskPlace],
 ) -> Result<(), AllocError>
-    requires task { i.0 < length set.now.tasks }
-    requires within { AreWithinDeadlines set.now bounds.now }
-    requires known { AreKnown (length set.now.tasks) (length set.now.resources) columns.now }
-    requires order { AreInOrder columns.now }
+    requires laid { AreLaidOut set.now bounds.now i.0 columns.now places.now }
     requires asked { AreAskedAtHome set.now i.0 columns.now }
-    requires places { ArePlaces set.now (slice_index bounds.now) i.0 (length set.now.tasks) columns.now places.now }
     ensures { OnOk result (T.takes taker.old (map column_seen columns.now)
         (per set.now.processors (λ k. home_row set.now i.0 (k + 1))) bounds.now taker.new) }
 {
@@ -110,9 +97,7 @@ pub fn add_rows<T: RowTaker>(
     columns: &[Fragment],
     places: &[TaskPlace],
 ) -> Result<(), AllocError>
-    requires task { i.0 < length set.now.tasks }
-    requires within { AreWithinDeadlines set.now bounds.now }
-    requires columns { map column_seen columns.now ≡ columns_of protocol set.now i.0 }
+    requires at { AreColumnsAt protocol set.now bounds.now i.0 columns.now }
     requires places { ArePlaces set.now (slice_index bounds.now) i.0 (length set.now.tasks) columns.now places.now }
     ensures { OnOk result (T.takes taker.old (map column_seen columns.now) (indirect_rows protocol set.now i.0) bounds.now taker.new) }
 {
@@ -139,10 +124,8 @@ pub fn rows(
     bounds: &[u64],
     columns: &[Fragment],
 ) -> Result<RowBlock, AllocError>
-    requires task { i.0 < length set.now.tasks }
     requires suits { HasHomesFor protocol set.now }
-    requires within { AreWithinDeadlines set.now bounds.now }
-    requires columns { map column_seen columns.now ≡ columns_of protocol set.now i.0 }
+    requires at { AreColumnsAt protocol set.now bounds.now i.0 columns.now }
     ensures { IfOk result (λ b. block_seen b ≡ block_of (columns_of protocol set.now i.0) (indirect_rows protocol set.now i.0) bounds.now) }
 {
     let mut block = RowBlock {

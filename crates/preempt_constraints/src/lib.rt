@@ -1,19 +1,17 @@
 //! The rows of preemption blocking: how often requests of lower tasks can preempt a job of the analysed task on its processor.
 #![tactic(auto)]
 
-ghost use Rattle.std.specs.Prelude.{◌≡◌, ◌<◌, ◌+◌, map, length, slice_index, IfOk, OnOk, [], ◌∷◌, if◌then◌else◌, ◌&&◌};
+ghost use Rattle.std.specs.Prelude.{◌≡◌, ◌<◌, ◌+◌, map, IfOk, OnOk, [], ◌∷◌, if◌then◌else◌, ◌&&◌};
 ghost use Rattle.std.proofs.Common.{ap};
 ghost use Rattle.number_laws.specs.Sums.{flag};
 ghost use Rattle.program_form.specs.RowBlock.{block_seen};
-ghost use Rattle.program_sources.specs.Bounds.{AreWithinDeadlines};
 ghost use Rattle.sporadic_model.specs.Homes.{HasHomesFor};
 ghost use Rattle.blocking_columns.specs.declared.columns.Class.TheVariants.{Preemption};
-ghost use Rattle.blocking_columns.specs.ColumnDef.{column_seen, is_class, AreKnown};
+ghost use Rattle.blocking_columns.specs.Given.{AreColumnsAt, AreLaidOut};
+ghost use Rattle.blocking_columns.specs.ColumnDef.{column_seen, is_class};
 ghost use Rattle.blocking_columns.specs.Columns.{columns_of, is_lower_local};
 ghost use Rattle.blocking_columns.specs.Windows.{all_requests};
 ghost use Rattle.fragments.specs.Constraints.{block_of};
-ghost use Rattle.blocking_columns.specs.Stretches.{AreInOrder};
-ghost use Rattle.blocking_columns.specs.TaskPlaces.{ArePlaces};
 ghost use Rattle.preempt_constraints.specs.Rows.{interval_row, preemption_rows};
 
 use fragments::{
@@ -88,11 +86,7 @@ pub fn add_interval_rows<T: RowTaker>(
     columns: &[Fragment],
     places: &[TaskPlace],
 ) -> Result<(), AllocError>
-    requires task { i.0 < length set.now.tasks }
-    requires within { AreWithinDeadlines set.now bounds.now }
-    requires known { AreKnown (length set.now.tasks) (length set.now.resources) columns.now }
-    requires order { AreInOrder columns.now }
-    requires places { ArePlaces set.now (slice_index bounds.now) i.0 (length set.now.tasks) columns.now places.now }
+    requires laid { AreLaidOut set.now bounds.now i.0 columns.now places.now }
     ensures { OnOk result (T.takes taker.old (map column_seen columns.now) (preemption_rows set.now i.0) bounds.now taker.new) }
 {
     let rows = Intervals(Interval {
@@ -110,10 +104,8 @@ pub fn rows(
     bounds: &[u64],
     columns: &[Fragment],
 ) -> Result<RowBlock, AllocError>
-    requires task { i.0 < length set.now.tasks }
     requires suits { HasHomesFor protocol set.now }
-    requires within { AreWithinDeadlines set.now bounds.now }
-    requires columns { map column_seen columns.now ≡ columns_of protocol set.now i.0 }
+    requires at { AreColumnsAt protocol set.now bounds.now i.0 columns.now }
     ensures { IfOk result (λ b. block_seen b ≡ block_of (columns_of protocol set.now i.0) (preemption_rows set.now i.0) bounds.now) }
 {
     let mut block = RowBlock {

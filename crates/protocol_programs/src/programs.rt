@@ -1,8 +1,8 @@
 ghost use Rattle.std.specs.Prelude.{◌≡◌, ◌<◌, map, length, slice_index, IfOk, OnOk};
 ghost use Rattle.sporadic_model.specs.Homes.{HasHomesFor};
 ghost use Rattle.program_sources.specs.Bounds.{AreWithinDeadlines};
+ghost use Rattle.blocking_columns.specs.Given.{AreColumnsAt};
 ghost use Rattle.blocking_columns.specs.ColumnDef.{column_seen};
-ghost use Rattle.blocking_columns.specs.Columns.{columns_of};
 ghost use Rattle.blocking_columns.specs.TaskPlaces.{ArePlaces};
 ghost use Rattle.program_laws.specs.Programs.{rows_of, program_of};
 
@@ -24,9 +24,7 @@ pub fn add_rows<T: RowTaker>(
     bounds: &[u64],
     columns: &[Fragment],
 ) -> Result<Vec<TaskPlace>, AllocError>
-    requires task { i.0 < length set.now.tasks }
-    requires within { AreWithinDeadlines set.now bounds.now }
-    requires columns { map column_seen columns.now ≡ columns_of protocol set.now i.0 }
+    requires at { AreColumnsAt protocol set.now bounds.now i.0 columns.now }
     ensures rows { OnOk result (T.takes taker.old (map column_seen columns.now) (rows_of protocol set.now i.0) bounds.now taker.new) }
     ensures places { IfOk result (λ v. ArePlaces set.now (slice_index bounds.now) i.0 (length set.now.tasks) columns.now v.items) }
 {

@@ -10,5 +10,5 @@ returns g c =
     list_is_map (λ x. row.coefficient (column_seen x)) c.loop-place.list.items c.args.columns.now
     c.loop-place.invariant.len (λ k d l. elim (cases_lt k c.loop-place.place) [
       | inl first ↦ c.loop-place.invariant.done k d first
-      | inr second ↦ c.loop-place.invariant.left k second l ∙ sym (c.requires.stretch.behind k d (omega arith) l)
+      | inr second ↦ c.loop-place.invariant.left k second l ∙ sym (c.requires.row.stretch.behind k d (omega arith) l)
     ])

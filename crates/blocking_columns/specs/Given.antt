@@ -1,0 +1,38 @@
+-- What functions that add rows are given: the task that is analysed, i, with bounds, columns and places that belong together.
+use Rattle.std.specs.Prelude.{◌≡◌, ℕ, ◌<◌, List, map, length, slice_index}
+use Rattle.sporadic_model.specs.SetDef.{SetDef}
+use Rattle.sporadic_model.specs.declared.ids.Protocol.{Protocol}
+use Rattle.program_sources.specs.Bounds.{AreWithinDeadlines}
+use Rattle.blocking_columns.specs.declared.columns.Fragment.{Fragment}
+use Rattle.blocking_columns.specs.declared.stretches.TaskPlace.{TaskPlace}
+use Rattle.blocking_columns.specs.ColumnDef.{column_seen, AreKnown}
+use Rattle.blocking_columns.specs.Columns.{columns_of}
+use Rattle.blocking_columns.specs.Stretches.{AreInOrder}
+use Rattle.blocking_columns.specs.TaskPlaces.{ArePlaces}
+
+-- Is i a task of the set, where each task has a bound, at most its latest one, and are these its columns under the protocol?
+pub record AreColumnsAt (protocol : Protocol) (set : SetDef) (bounds : List ℕ) (i : ℕ) (columns : List Fragment) : Type 0 where
+  pub task : i < length set.tasks
+  pub within : AreWithinDeadlines set bounds
+  pub columns : map column_seen columns ≡ columns_of protocol set i
+
+-- Is i such a task, with such bounds, and is each column one of a task and a resource of the set?
+pub record AreKnownAt (set : SetDef) (bounds : List ℕ) (i : ℕ) (columns : List Fragment) : Type 0 where
+  pub task : i < length set.tasks
+  pub within : AreWithinDeadlines set bounds
+  pub known : AreKnown (length set.tasks) (length set.resources) columns
+
+-- Are they such columns, and do they stand in order?
+pub record AreInOrderAt (set : SetDef) (bounds : List ℕ) (i : ℕ) (columns : List Fragment) : Type 0 where
+  pub task : i < length set.tasks
+  pub within : AreWithinDeadlines set bounds
+  pub known : AreKnown (length set.tasks) (length set.resources) columns
+  pub order : AreInOrder columns
+
+-- Do they stand so that those of each task begin where the places say?
+pub record AreLaidOut (set : SetDef) (bounds : List ℕ) (i : ℕ) (columns : List Fragment) (places : List TaskPlace) : Type 0 where
+  pub task : i < length set.tasks
+  pub within : AreWithinDeadlines set bounds
+  pub known : AreKnown (length set.tasks) (length set.resources) columns
+  pub order : AreInOrder columns
+  pub places : ArePlaces set (slice_index bounds) i (length set.tasks) columns places
