@@ -11,10 +11,10 @@ use Rattle.blocking_columns.specs.Stretches.{AreInOrder}
 use Rattle.blocking_columns.specs.TaskPlaces.{ArePlaces}
 
 -- Is i a task of the set, where each task has a bound, at most its latest one, and are these its columns under the protocol?
-pub record AreColumnsAt (protocol : Protocol) (set : SetDef) (bounds : List ℕ) (i : ℕ) (columns : List Fragment) : Type 0 where
+pub record AreColumnsAt (protocol : Protocol) (set : SetDef) (bounds : List ℕ) (i : ℕ) (given : List Fragment) : Type 0 where
   pub task : i < length set.tasks
   pub within : AreWithinDeadlines set bounds
-  pub columns : map column_seen columns ≡ columns_of protocol set i
+  pub columns : map column_seen given ≡ columns_of protocol set i
 
 -- Is i such a task, with such bounds, and is each column one of a task and a resource of the set?
 pub record AreKnownAt (set : SetDef) (bounds : List ℕ) (i : ℕ) (columns : List Fragment) : Type 0 where
@@ -29,10 +29,10 @@ pub record AreInOrderAt (set : SetDef) (bounds : List ℕ) (i : ℕ) (columns : 
   pub known : AreKnown (length set.tasks) (length set.resources) columns
   pub order : AreInOrder columns
 
--- Do they stand so that those of each task begin where the places say?
-pub record AreLaidOut (set : SetDef) (bounds : List ℕ) (i : ℕ) (columns : List Fragment) (places : List TaskPlace) : Type 0 where
+-- Do they stand so that those of each task begin where the entries say?
+pub record AreLaidOut (set : SetDef) (bounds : List ℕ) (i : ℕ) (columns : List Fragment) (entries : List TaskPlace) : Type 0 where
   pub task : i < length set.tasks
   pub within : AreWithinDeadlines set bounds
   pub known : AreKnown (length set.tasks) (length set.resources) columns
   pub order : AreInOrder columns
-  pub places : ArePlaces set (slice_index bounds) i (length set.tasks) columns places
+  pub places : ArePlaces set (slice_index bounds) i (length set.tasks) columns entries

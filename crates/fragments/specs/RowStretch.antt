@@ -15,8 +15,8 @@ pub record IsStretch (row : ConstraintDef) (columns : List Fragment) (a b : ℕ)
 
 -- Can the coefficients of task i's row be given over these columns? They are columns of the set, outside the stretch each has coefficient zero,
 -- and the row can give those inside it.
-pub record IsRowOver (set : SetDef) (i : ℕ) (row : ConstraintDef) (over : ColumnDef → Type 0) (columns : List Fragment) (a b : ℕ) : Type 0 where
+pub record IsRowOver (set : SetDef) (i : ℕ) (row : ConstraintDef) (gives : ColumnDef → Type 0) (columns : List Fragment) (a b : ℕ) : Type 0 where
   pub task : i < length set.tasks
   pub known : AreKnown (length set.tasks) (length set.resources) columns
   pub stretch : IsStretch row columns a b
-  pub over : AllWithin (λ c. over (column_seen c)) columns a b
+  pub over : AllWithin (λ c. gives (column_seen c)) columns a b
