@@ -1,5 +1,5 @@
 -- The coefficients of a row as a list of its numbers that aren't zero.
-use Rattle.std.proofs.Common.{◌≡◌, ◌≢◌, ◌⊎◌, inl, inr, ℕ, ◌+◌, ◌-◌, ◌<◌, ◌≤◌, ◌^◌, min, List, [], ◌∷◌, ◌++◌, map, take, length, ℤ, pos}
+use Rattle.std.proofs.Common.{◌≡◌, ◌≢◌, inl, inr, ℕ, ◌+◌, ◌-◌, ◌<◌, ◌≤◌, ◌^◌, min, List, [], ◌∷◌, ◌++◌, map, take, length, ℤ, pos}
 use Rattle.std.proofs.Common.{unsigned_abs, refl, sym, ◌∙◌, ap, arith, get_or-take}
 use Rattle.std.proofs.lemmas.Bool.{cases_eq, cases_lt, eq-eqb, ne_eqb}
 use Rattle.std.proofs.lemmas.Int.{ints}
@@ -10,7 +10,7 @@ use Rattle.program_form.specs.SparseRows.{number_at, coefficient_at, AreCoeffici
 use Rattle.program_form.specs.declared.sparse_rows.Coefficient.{Coefficient}
 use Rattle.program_form.proofs.Coefficients.{number_past}
 use Rattle.whole_rows.specs.Rows.{PivotDef, coefficient_row, entry_at, listed_at, num_at, AreSparse, AreBelow, IsPivotOf}
-use Rattle.whole_rows.specs.Numbers.{entry_of, AreFirst, AreListedWithin}
+use Rattle.whole_rows.specs.Numbers.{entry_of, AreFirst, AreListedWithin, IsGreatestListed}
 use Rattle.whole_rows.specs.PivotView.{IsBoundedPivot}
 use Rattle.whole_rows.specs.declared.entries.Entry.{Entry}
 use Rattle.whole_rows.proofs.Listed.{nothing}
@@ -81,21 +81,18 @@ first_more m cs entries x l h is =
 -- What is kept of them.
 pub first_bounded : (n : ℕ) (cs : List Coefficient) (limit : ℕ) (pivot : PivotDef) (most : ℕ) → AreCoefficients n cs
     → ((j : ℕ) → j < length cs → (coefficient_at cs j).number < 2 ^ 63) → limit < 2 ^ 63
-    → ((m : ℕ) × AreFirst m cs pivot.entries) → pivot.limit ≡ pos limit → pivot.den ≡ pos 1 → limit ≤ most
-    → AreListedWithin most pivot.entries
-    → ((bound : ℕ) → limit ≤ bound → AreListedWithin bound pivot.entries → most ≤ bound)
-    → ((most ≡ limit) ⊎ ((j : ℕ) × (j < length pivot.entries) × (unsigned_abs (entry_at pivot.entries j).num ≡ most)))
-    → IsBoundedPivot pivot most
-first_bounded n cs limit pivot most h small small_limit first limit_is den above all least attained =
+    → ((m : ℕ) × AreFirst m cs pivot.entries) → pivot.limit ≡ pos limit → pivot.den ≡ pos 1
+    → IsGreatestListed pivot.entries limit most → IsBoundedPivot pivot most
+first_bounded n cs limit pivot most h small small_limit first limit_is den greatest =
     let sparse : AreSparse pivot.entries = rw first.1 (first_sparse n first.0 cs h) in
-    let within : most ≤ 2 ^ 63 - 1 = least (2 ^ 63 - 1) (omega arith) (rw first.1 (first_within first.0 cs small)) in
+    let within : most ≤ 2 ^ 63 - 1 = greatest.least (2 ^ 63 - 1) (omega arith) (rw first.1 (first_within first.0 cs small)) in
     record {
       sparse = sparse;
       positive = rw den (omega (arith, ints));
-      nums = all;
-      limit = rw limit_is above;
+      nums = greatest.all;
+      limit = rw limit_is greatest.first;
       fits = omega arith;
-      attained = attained_in_pivot pivot most limit sparse (sym (ap unsigned_abs limit_is)) attained;
+      attained = attained_in_pivot pivot most limit sparse (sym (ap unsigned_abs limit_is)) greatest.attained;
     }
 
 -- All of them are the row's.

@@ -3,7 +3,10 @@ pub mod RowView
 pub mod PivotView
 pub mod EntrySteps
 pub mod Numbers
+pub mod Given
+pub mod Listing
 pub mod Steps
 pub mod Large
+pub mod Bounds
 pub mod MarkWords
 pub mod Marks

@@ -1,5 +1,5 @@
 -- What do the steps on the numbers of a row answer?
-use Rattle.std.specs.Prelude.{◌≡◌, ◌≢◌, ℕ, ◌<◌, ◌≤◌, List, map, take, length, slice_index_or, slice_set, ℤ, pos}
+use Rattle.std.specs.Prelude.{◌≡◌, ◌≢◌, ◌⊎◌, ℕ, ◌<◌, ◌≤◌, List, map, take, length, slice_index_or, slice_set, ℤ, pos}
 use Rattle.std.specs.Prelude.{◌-ℤ◌, ◌*ℤ◌, ◌<ℤ◌, unsigned_abs}
 use Rattle.std.specs.Int.{◌∣◌}
 use Rattle.program_form.specs.declared.sparse_rows.Coefficient.{Coefficient}
@@ -17,6 +17,20 @@ AreWithin most nums = (k : ℕ) → unsigned_abs (number_at nums k) ≤ most
 -- Is no listed number greater in size than `most`?
 abbrev pub AreListedWithin : ℕ → List Entry → Type 0
 AreListedWithin most entries = (j : ℕ) → unsigned_abs (entry_at entries j).num ≤ most
+
+-- Is `most` the greatest size of the numbers, and of a first one?
+pub record IsGreatestSize (nums : List ℤ) (start most : ℕ) : Type 0 where
+  pub first : start ≤ most
+  pub all : AreWithin most nums
+  pub least : (n : ℕ) → start ≤ n → AreWithin n nums → most ≤ n
+  pub attained : (most ≡ start) ⊎ ((k : ℕ) × (unsigned_abs (number_at nums k) ≡ most))
+
+-- Is `most` the greatest size of the listed numbers, and of a first one?
+pub record IsGreatestListed (entries : List Entry) (start most : ℕ) : Type 0 where
+  pub first : start ≤ most
+  pub all : AreListedWithin most entries
+  pub least : (n : ℕ) → start ≤ n → AreListedWithin n entries → most ≤ n
+  pub attained : (most ≡ start) ⊎ ((j : ℕ) × (j < length entries) × (unsigned_abs (entry_at entries j).num ≡ most))
 
 -- Are these nonzero numbers of the list, in order of their places?
 pub record AreFrom (nums : List ℤ) (entries : List Entry) : Type 0 where
@@ -46,6 +60,11 @@ pub record AreListedTo (end : ℕ) (nums : List ℤ) (entries : List Entry) : Ty
 -- Are the numbers from place `first` up to place `last` zero?
 abbrev pub AreZeroBetween : List ℤ → ℕ → ℕ → Type 0
 AreZeroBetween nums first last = (k : ℕ) → first ≤ k → k < last → number_at nums k ≡ pos 0
+
+-- Do all these places have numbers, and are they zero?
+pub record IsZeroBlock (nums : List ℤ) (first last : ℕ) : Type 0 where
+  pub whole : last ≤ length nums
+  pub zero : AreZeroBetween nums first last
 
 -- Is f / p the fraction top / bottom with a common divisor removed?
 pub record IsCancelled (top bottom f p : ℤ) : Type 0 where

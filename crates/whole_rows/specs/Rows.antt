@@ -12,6 +12,10 @@ pub record RowDef : Type 0 where
   pub limit : ℤ
   pub den : ℤ
 
+-- The row of these numbers and this limit, over `den`.
+abbrev pub row_over : List ℤ → ℤ → ℤ → RowDef
+row_over nums limit den = record { nums = nums; limit = limit; den = den }
+
 -- The number at place k, and zero past the places.
 abbrev pub num_at : RowDef → ℕ → ℤ
 num_at row k = slice_index_or row.nums k (pos 0)

@@ -1,20 +1,17 @@
 //! Common divisors of the numbers of a row.
 
-ghost use Rattle.std.specs.Prelude.{ℕ, ◌<◌, ◌^◌, pos, ◌<ℤ◌, unsigned_abs};
-ghost use Rattle.std.specs.Int.{◌∣◌};
-ghost use Rattle.number_laws.specs.Divisors.{IsCoprime};
-ghost use Rattle.whole_rows.specs.Numbers.{IsCancelled, DividesEach, IsSameRow};
-ghost use Rattle.whole_rows.specs.Large.{IsReduced};
+ghost use Rattle.std.specs.Prelude.{◌<◌};
+ghost use Rattle.whole_rows.specs.Rows.{row_over};
+ghost use Rattle.whole_rows.specs.Given.{CanBeCancelled};
+ghost use Rattle.whole_rows.specs.Large.{AreLowestTerms, IsGreatestCommon, IsReducedTo};
 
 use crate::numbers::divide_all;
 use fraction128::greatest_common_divisor;
 
 // A fraction with all its common divisors removed.
 pub(crate) fn cancelled(num: i64, den: i64) -> (i64, i64)
-    requires positive { pos 0 <ℤ den }
-    requires small { unsigned_abs num < 2 ^ 63 }
-    ensures form { IsCancelled num den result.0 result.1 }
-    ensures apart { IsCoprime (unsigned_abs result.0) (unsigned_abs result.1) }
+    requires { CanBeCancelled num den }
+    ensures { AreLowestTerms num den result.0 result.1 }
 {
     // a whole number has none
     if den == 1 {
@@ -31,10 +28,7 @@ pub(crate) fn cancelled(num: i64, den: i64) -> (i64, i64)
 // The greatest common divisor of all numbers and of `first`. The walk ends once it is 1.
 pub(crate) fn common_divisor(nums: &[i64], first: u64) -> u64
     requires { 0 < first }
-    ensures positive { 0 < result }
-    ensures first { result ∣ first }
-    ensures all { DividesEach result nums.now }
-    ensures greatest { (d : ℕ) → d ∣ first → DividesEach d nums.now → d ∣ result }
+    ensures { IsGreatestCommon nums.now first result }
 {
     let mut common = first;
     for num in nums {
@@ -48,11 +42,8 @@ pub(crate) fn common_divisor(nums: &[i64], first: u64) -> u64
 
 // Divides the numbers of a row by the greatest common divisor of all its parts. Answers the limit and the denominator, divided by it.
 pub(crate) fn divide_parts(nums: &mut [i64], limit: i64, den: i64) -> (i64, i64)
-    requires positive { pos 0 <ℤ den }
-    requires small { unsigned_abs limit < 2 ^ 63 }
-    ensures same { IsSameRow (record { nums = nums.old; limit = limit; den = den })
-        (record { nums = nums.new; limit = result.0; den = result.1 }) }
-    ensures lowest { IsReduced (record { nums = nums.new; limit = result.0; den = result.1 }) }
+    requires { CanBeCancelled limit den }
+    ensures { IsReducedTo (row_over nums.old limit den) (row_over nums.new result.0 result.1) }
 {
     let first = greatest_common_divisor(limit.unsigned_abs(), den.unsigned_abs());
     let common = common_divisor(nums, first) as i64;

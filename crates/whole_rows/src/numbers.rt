@@ -1,9 +1,9 @@
 //! What is done to all numbers of a row. An exchange runs the loops of `multiply_all` and `take_listed` for each row that it changes. They
 //! have no call, no check and no branch. They aren't inlined, since in one function with the run they would lack registers.
 
-ghost use Rattle.std.specs.Prelude.{◌≡◌, ◌⊎◌, ℕ, ◌+◌, ◌*◌, ◌≤◌, ◌<◌, ◌^◌, length, pos, ◌-ℤ◌, ◌*ℤ◌, ◌<ℤ◌, unsigned_abs};
-ghost use Rattle.whole_rows.specs.Rows.{AreSparse, AreBelow, entry_at, listed_at};
-ghost use Rattle.whole_rows.specs.Numbers.{number_at, AreWithin, DividesEach, AreDivided, AreTimes, AreTimesBetween, AreLess, AreTaken};
+ghost use Rattle.std.specs.Prelude.{ℕ, ◌+◌, ◌<◌, ◌^◌, ◌*ℤ◌, unsigned_abs};
+ghost use Rattle.whole_rows.specs.Given.{CanDivideEach, CanMultiply, CanSubtract, CanTakeFrom};
+ghost use Rattle.whole_rows.specs.Numbers.{number_at, IsGreatestSize, AreDivided, AreTimes, AreTimesBetween, AreLess, AreTaken};
 
 use crate::entries::Entry;
 
@@ -12,10 +12,7 @@ const BLOCK: usize = 8;
 
 // The greatest size of the numbers, and of a first one.
 pub(crate) fn greatest_size(nums: &[i64], first: u64) -> u64
-    ensures first { first ≤ result }
-    ensures all { AreWithin result nums.now }
-    ensures least { (most : ℕ) → first ≤ most → AreWithin most nums.now → result ≤ most }
-    ensures attained { (result ≡ first) ⊎ ((k : ℕ) × (unsigned_abs (number_at nums.now k) ≡ result)) }
+    ensures { IsGreatestSize nums.now first result }
 {
     let mut most = first;
     for num in nums {
@@ -26,8 +23,7 @@ pub(crate) fn greatest_size(nums: &[i64], first: u64) -> u64
 
 // Divides each number by a common divisor.
 pub(crate) fn divide_all(nums: &mut [i64], by: i64)
-    requires positive { pos 0 <ℤ by }
-    requires divisor { DividesEach (unsigned_abs by) nums.old }
+    requires { CanDivideEach nums.old by }
     ensures { AreDivided nums.old by nums.new }
 {
     for k in 0..nums.len() {
@@ -38,8 +34,7 @@ pub(crate) fn divide_all(nums: &mut [i64], by: i64)
 // Multiplies a block of numbers, from place `first` on. Their count is fixed, so they are multiplied one by one, without a loop. A loop
 // would multiply two together, which takes longer than two products of 64 bits.
 fn multiply_block(nums: &mut [i64], first: usize, by: i64)
-    requires within { first + BLOCK ≤ length nums.old }
-    requires room { (k : ℕ) → first ≤ k → unsigned_abs (number_at nums.old k *ℤ by) < 2 ^ 63 }
+    requires { CanMultiply first (first + BLOCK) nums.old by }
     ensures { AreTimesBetween first (first + BLOCK) nums.old by nums.new }
 {
     for k in 0..BLOCK {
@@ -49,9 +44,7 @@ fn multiply_block(nums: &mut [i64], first: usize, by: i64)
 
 // Multiplies each number from place `first` up to place `last`.
 fn multiply_between(nums: &mut [i64], first: usize, last: usize, by: i64)
-    requires order { first ≤ last }
-    requires within { last ≤ length nums.old }
-    requires room { (k : ℕ) → first ≤ k → unsigned_abs (number_at nums.old k *ℤ by) < 2 ^ 63 }
+    requires { CanMultiply first last nums.old by }
     ensures { AreTimesBetween first last nums.old by nums.new }
 {
     for k in first..last {
@@ -81,10 +74,7 @@ fn multiply_all(nums: &mut [i64], by: i64)
 // Subtracts f times each listed number from the number at its place.
 #[inline(never)]
 fn take_listed(nums: &mut [i64], entries: &[Entry], f: i64)
-    requires sparse { AreSparse entries.now }
-    requires below { AreBelow (length nums.old) entries.now }
-    requires products { (j : ℕ) → unsigned_abs (f *ℤ (entry_at entries.now j).num) < 2 ^ 63 }
-    requires room { (k : ℕ) → unsigned_abs (number_at nums.old k -ℤ (f *ℤ listed_at entries.now k)) < 2 ^ 63 }
+    requires { CanSubtract nums.old f entries.now }
     ensures { AreLess nums.old f entries.now nums.new }
 {
     for entry in entries {
@@ -94,11 +84,7 @@ fn take_listed(nums: &mut [i64], entries: &[Entry], f: i64)
 
 // Multiplies the numbers by p and subtracts f times each listed number. The number at place k counts as 0 before.
 pub(crate) fn take_from(nums: &mut [i64], k: usize, p: i64, f: i64, entries: &[Entry])
-    requires place { k < length nums.old }
-    requires sparse { AreSparse entries.now }
-    requires below { AreBelow (length nums.old) entries.now }
-    requires room { (j : ℕ)
-        → unsigned_abs (number_at nums.old j) * unsigned_abs p + unsigned_abs f * unsigned_abs (listed_at entries.now j) < 2 ^ 63 }
+    requires { CanTakeFrom nums.old k p f entries.now }
     ensures { AreTaken nums.old k p f entries.now nums.new }
 {
     nums[k] = 0;

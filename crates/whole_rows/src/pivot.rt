@@ -1,10 +1,12 @@
 //! The row that is subtracted from the others in an exchange.
 
-ghost use Rattle.std.specs.Prelude.{◌≡◌, ◌⊎◌, ℕ, ◌+◌, ◌<◌, ◌≤◌, ◌^◌, [], length, pos, ◌<ℤ◌, unsigned_abs, IsTrue, IfOk};
+ghost use Rattle.std.specs.Prelude.{◌≡◌, ℕ, ◌+◌, ◌<◌, ◌≤◌, ◌^◌, [], length, pos, ◌<ℤ◌, IsTrue, IfOk};
 ghost use Rattle.program_form.specs.SparseRows.{coefficient_at, AreCoefficients};
-ghost use Rattle.whole_rows.specs.Numbers.{AreFirst, AreFrom, AreListed, AreListedTo, AreListedWithin, AreZeroBetween};
+ghost use Rattle.whole_rows.specs.Given.{CanListMore};
+ghost use Rattle.whole_rows.specs.Numbers.{AreListed, AreListedTo, IsGreatestListed, IsZeroBlock};
+ghost use Rattle.whole_rows.specs.Listing.{Lists, ListsCoefficients};
 ghost use Rattle.whole_rows.specs.PivotView.{IsBoundedPivot};
-ghost use Rattle.whole_rows.specs.Rows.{coefficient_row, entry_at, AreSparse, IsPivotOf};
+ghost use Rattle.whole_rows.specs.Rows.{coefficient_row, AreSparse, IsPivotOf};
 
 use crate::entries::Entry;
 use crate::row::WholeRow;
@@ -115,8 +117,7 @@ const BLOCK: usize = 8;
 // Whether there is a whole block of numbers from place `first` on, and all of it is zero.
 fn is_zero_block(nums: &[i64], first: usize) -> bool
     requires { first ≤ length nums.now }
-    ensures whole { IsTrue result → first + BLOCK ≤ length nums.now }
-    ensures zero { IsTrue result → AreZeroBetween nums.now first (first + BLOCK) }
+    ensures { IsTrue result → IsZeroBlock nums.now first (first + BLOCK) }
 {
     if nums.len() - first < BLOCK {
         return false;
@@ -135,11 +136,8 @@ fn list_between(
     first: usize,
     last: usize,
 ) -> Result<(), AllocError>
-    requires order { first ≤ last }
-    requires within { last ≤ length nums.now }
-    requires earlier { AreListedTo first nums.now list.old.items }
-    ensures from { AreFrom nums.now list.new.items }
-    ensures all { IfOk result (λ _. AreListedTo last nums.now list.new.items) }
+    requires { CanListMore first last nums.now list.old.items }
+    ensures { Lists result nums.now list.new.items (AreListedTo last nums.now) }
 {
     for place in first..last {
         let num = nums[place];
@@ -152,8 +150,7 @@ fn list_between(
 
 // Writes the nonzero numbers, at their places, into the memory of a list. If there isn't enough for all of them, it writes some.
 fn list_nums(list: &mut Vec<Entry>, nums: &[i64]) -> Result<(), AllocError>
-    ensures from { AreFrom nums.now list.new.items }
-    ensures all { IfOk result (λ _. AreListed nums.now list.new.items) }
+    ensures { Lists result nums.now list.new.items (AreListed nums.now) }
 {
     list.clear();
     let mut first = 0;
@@ -173,8 +170,7 @@ fn list_nums(list: &mut Vec<Entry>, nums: &[i64]) -> Result<(), AllocError>
 // Writes the coefficients into the memory of a list. If there isn't enough for all of them, it writes some.
 fn list_coefficients(list: &mut Vec<Entry>, coefficients: &[Coefficient]) -> Result<(), AllocError>
     requires { (j : ℕ) → j < length coefficients.now → (coefficient_at coefficients.now j).number < 2 ^ 63 }
-    ensures first { (m : ℕ) × AreFirst m coefficients.now list.new.items }
-    ensures all { IfOk result (λ _. AreFirst (length coefficients.now) coefficients.now list.new.items) }
+    ensures { ListsCoefficients result coefficients.now list.new.items }
 {
     list.clear();
     for coefficient in coefficients {
@@ -188,11 +184,7 @@ fn list_coefficients(list: &mut Vec<Entry>, coefficients: &[Coefficient]) -> Res
 
 // The greatest size of the listed numbers, and of a first one.
 fn greatest_listed(entries: &[Entry], first: u64) -> u64
-    ensures first { first ≤ result }
-    ensures all { AreListedWithin result entries.now }
-    ensures least { (most : ℕ) → first ≤ most → AreListedWithin most entries.now → result ≤ most }
-    ensures attained { (result ≡ first)
-        ⊎ ((j : ℕ) × (j < length entries.now) × (unsigned_abs (entry_at entries.now j).num ≡ result)) }
+    ensures { IsGreatestListed entries.now first result }
 {
     let mut most = first;
     for entry in entries {

@@ -1,11 +1,13 @@
 //! A row of whole numbers over one denominator.
 
-ghost use Rattle.std.specs.Prelude.{◌≡◌, ℕ, ◌+◌, ◌*◌, ◌<◌, ◌≤◌, ◌^◌, length, slice_index_or, IfSome, IfNone, OnErr};
+ghost use Rattle.std.specs.Prelude.{◌≡◌, ℕ, ◌+◌, ◌*◌, ◌<◌, ◌≤◌, ◌^◌, length, slice_index_or, OnErr};
 ghost use Rattle.std.specs.Prelude.{pos, ◌-ℤ◌, ◌*ℤ◌, ◌<ℤ◌, unsigned_abs};
 ghost use Rattle.whole_rows.specs.Rows.{RowDef, num_at, AreBelow, IsPivotOf};
-ghost use Rattle.whole_rows.specs.Numbers.{IsSameRow, swapped};
+ghost use Rattle.whole_rows.specs.Given.{CanEnter};
+ghost use Rattle.whole_rows.specs.Numbers.{swapped};
 ghost use Rattle.whole_rows.specs.RowView.{IsBounded};
-ghost use Rattle.whole_rows.specs.Large.{IsReduced, IsSizeIn, IsPast, IsTooLarge};
+ghost use Rattle.whole_rows.specs.Large.{IsReducedTo, IsTooLarge};
+ghost use Rattle.whole_rows.specs.Bounds.{IsTightened, CanTakeWithin, TakesWithin, IsBoundAfter};
 ghost use Rattle.whole_rows.specs.Steps.{AreSmallCells, IsDividedRow, LeavesRow};
 
 use crate::divisors::{cancelled, divide_parts};
@@ -116,8 +118,7 @@ impl WholeRow {
 
     // Swaps the number at place k and the denominator.
     fn swap_in(&mut self, k: usize)
-        requires place { k < length self.old.nums }
-        requires above { pos 0 <ℤ num_at self.old k }
+        requires { CanEnter self.old k }
         ensures swapped { self.new ≡ swapped self.old k }
         ensures small { AreSmallCells self.new }
     {
@@ -128,9 +129,8 @@ impl WholeRow {
 
     // Divides all numbers by their greatest common divisor. None becomes greater, so the bound stays.
     fn reduce(&mut self)
-        ensures same { IsSameRow self.old self.new }
+        ensures reduced { IsReducedTo self.old self.new }
         ensures small { AreSmallCells self.new }
-        ensures lowest { IsReduced self.new }
     {
         let (limit, den) = divide_parts(&mut self.nums, self.limit, self.den);
         self.limit = limit;
@@ -146,10 +146,7 @@ impl WholeRow {
 
     // The same, after all numbers are measured anew. Answers the greatest size.
     fn tighten(&mut self) -> u64
-        ensures same { IsSameRow self.old self.new }
-        ensures lowest { IsReduced self.new }
-        ensures bounded { IsBounded self.new result }
-        ensures attained { IsSizeIn self.new result }
+        ensures { IsTightened self.old self.new result }
     {
         self.reduce();
         let first = self.limit.unsigned_abs().max(self.den.unsigned_abs());
@@ -179,13 +176,8 @@ impl WholeRow {
 
     // The same if the bound on what is left fits, with `most` as a bound on the row. If it doesn't fit, the row stays.
     fn take_within(&mut self, k: usize, pivot: &Pivot, most: u64) -> Result<(), Large>
-        requires place { k < length self.old.nums }
-        requires below { AreBelow (length self.old.nums) pivot.now.entries }
-        requires bounded { IsBounded self.old most }
-        ensures left { (divided : RowDef) → IsPivotOf pivot.now divided → LeavesRow result self.old k divided self.new }
-        ensures as_many { length self.new.nums ≡ length self.old.nums }
-        ensures stays { OnErr result (self.new ≡ self.old) }
-        ensures large { OnErr result (IsPast self.old k most pivot.now) }
+        requires { CanTakeWithin self.old k most pivot.now }
+        ensures { TakesWithin result self.old k most pivot.now self.new }
     {
         let (f, p) = cancelled(self.nums[k], pivot.den());
         let bound = match bound_after(most, p, f, pivot.most()) {
@@ -211,9 +203,7 @@ fn less_times(num: i64, p: i64, f: i64, other: i64) -> i64
 
 // A bound on numbers times p, less f times others, if `most` and `others` bound both. None if it is above 2^63 - 1.
 fn bound_after(most: u64, p: i64, f: i64, others: u64) -> Option<u64>
-    ensures value { IfSome result (λ bound. bound ≡ most * unsigned_abs p + unsigned_abs f * others) }
-    ensures fits { IfSome result (λ bound. bound < 2 ^ 63) }
-    ensures large { IfNone result (2 ^ 63 ≤ most * unsigned_abs p + unsigned_abs f * others) }
+    ensures { IsBoundAfter result most p f others }
 {
     let first = most.checked_mul(p.unsigned_abs())?;
     let second = f.unsigned_abs().checked_mul(others)?;

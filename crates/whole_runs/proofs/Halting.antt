@@ -9,12 +9,12 @@ use Rattle.exchange_runs.specs.SmallRuns.{IsSmall, SmallReached}
 use Rattle.exchange_runs.proofs.SmallRuns.{small_run, has_ratio_of_lowest}
 use Rattle.whole_rows.specs.Rows.{RowDef, PivotDef, entry_at, AreSparse, AreBelow}
 use Rattle.whole_rows.specs.declared.entries.Entry.{Entry}
-use Rattle.whole_runs.specs.States.{row_at, stand_at, table_seen}
+use Rattle.whole_runs.specs.States.{row_at, stand_at}
 use Rattle.whole_runs.specs.Large.{IsTooLargeFor, IsSomeTooLarge, AreTooLarge}
-use Rattle.whole_runs.specs.Stepping.{Steps}
+use Rattle.whole_runs.specs.Stepping.{table_of, Steps}
 use Rattle.whole_runs.specs.Takings.{Divides, AreTakenTo}
 use Rattle.whole_runs.specs.Ends.{GivesOrStops}
-use Rattle.whole_runs.specs.declared.stands.Stand.{Stand}
+use Rattle.whole_runs.specs.declared.tableau.Tableau.{Tableau}
 use Rattle.whole_runs.specs.declared.stands.Stand.TheVariants.{Outside}
 use Rattle.whole_runs.specs.declared.stops.Halt.{Halt}
 use Rattle.whole_runs.specs.declared.stops.Halt.TheVariants.{Memory, Large, Units}
@@ -58,12 +58,11 @@ large_divided p rows k r pivot new divides some = record {
 }
 
 -- So the exchange of the run is too large for whole numbers.
-pub step_stop : {X : Type 0} (halt : Halt) (is : X → Type 0) (p : ProgramDef) (rows rows' : List (Option RowDef)) (basis basis' : List ℕ)
-    (stands stands' : List Stand) (e k r : ℕ)
-    → IsEntering p (table_seen p rows basis stands) e → stand_at stands e ≡ Outside k
-    → IsLeavingOver IsSmall p (table_seen p rows basis stands) e r → GivesOrStops (Err halt) is (AreTooLarge p rows k r)
-    → Steps (Err halt) p e rows basis stands rows' basis' stands'
-step_stop Memory is p rows rows' basis basis' stands stands' e k r enters place leaves h = tt
-step_stop Large is p rows rows' basis basis' stands stands' e k r enters place leaves h =
+pub step_stop : {X : Type 0} (halt : Halt) (is : X → Type 0) (p : ProgramDef) (before after : Tableau) (e k r : ℕ)
+    → IsEntering p (table_of p before) e → stand_at before.stands.items e ≡ Outside k
+    → IsLeavingOver IsSmall p (table_of p before) e r → GivesOrStops (Err halt) is (AreTooLarge p before.rows.items k r)
+    → Steps (Err halt) p e before after
+step_stop Memory is p before after e k r enters place leaves h = tt
+step_stop Large is p before after e k r enters place leaves h =
     record { entering = e; enters = enters; place = k; stands_so = place; leaving = r; leaves = leaves; large = h }
-step_stop Units is p rows rows' basis basis' stands stands' e k r enters place leaves h = absurd h
+step_stop Units is p before after e k r enters place leaves h = absurd h

@@ -12,10 +12,11 @@ use Rattle.whole_rows.specs.Rows.{RowDef}
 use Rattle.whole_runs.specs.States.{table_seen, HasSize, AreStands}
 use Rattle.whole_runs.specs.Exchanges.{AreSmallRows}
 use Rattle.whole_runs.specs.Starts.{AreFirstRows}
-use Rattle.whole_runs.specs.Stepping.{Steps}
+use Rattle.whole_runs.specs.Stepping.{table_of, IsTableau, Steps}
 use Rattle.whole_runs.specs.Ends.{Runs, Finishes}
 use Rattle.whole_runs.specs.declared.Ended.{Ended}
 use Rattle.whole_runs.specs.declared.stands.Stand.{Stand}
+use Rattle.whole_runs.specs.declared.tableau.Tableau.{Tableau}
 use Rattle.whole_runs.specs.declared.stops.Halt.{Halt}
 use Rattle.whole_runs.specs.declared.stops.Halt.TheVariants.{Memory, Large, Units}
 use Rattle.whole_runs.proofs.Smalls.{small_zero, small_whole}
@@ -77,19 +78,17 @@ finished (Err Units) p units k rows basis stands accepted l size fit reached las
     absurd (h run.0 run.1)
 
 -- an exchange that isn't made
-pub stopped : (halt : Halt) (p : ProgramDef) (units k e : ℕ) (rows rows' : List (Option RowDef)) (basis basis' : List ℕ)
-    (stands stands' : List Stand)
-    → k + 1 < units → HasSize p rows basis stands → AreStands p basis stands → SmallReached p k (table_seen p rows basis stands)
-    → Steps (Err halt) p e rows basis stands rows' basis' stands' → Runs (Err halt) p units
-stopped Memory p units k e rows rows' basis basis' stands stands' l size fit reached h = tt
-stopped Large p units k e rows rows' basis basis' stands stands' l size fit reached h = record {
+pub stopped : (halt : Halt) (p : ProgramDef) (units k e : ℕ) (before after : Tableau) → k + 1 < units → IsTableau p before
+    → SmallReached p k (table_of p before) → Steps (Err halt) p e before after → Runs (Err halt) p units
+stopped Memory p units k e before after l is reached h = tt
+stopped Large p units k e before after l is reached h = record {
   exchanges = k;
-  rows = rows;
-  basis = basis;
-  stands = stands;
-  size = size;
-  fit = fit;
+  rows = before.rows.items;
+  basis = before.basis.items;
+  stands = before.stands.items;
+  size = is.size;
+  fit = is.stands;
   reached = reached;
   large = inl (l, h);
 }
-stopped Units p units k e rows rows' basis basis' stands stands' l size fit reached h = absurd h
+stopped Units p units k e before after l is reached h = absurd h

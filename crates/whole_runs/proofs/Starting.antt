@@ -1,9 +1,9 @@
 -- The parts of the first table, and the table that they are.
-use Rattle.std.proofs.Common.{◌≡◌, ◌≢◌, ◌⊎◌, inl, inr, ℕ, ◌+◌, ◌<◌, ◌≤◌, ◌^◌, List, [], ◌∷◌, ◌++◌, length, take, drop, set}
+use Rattle.std.proofs.Common.{◌≡◌, ◌≢◌, ◌⊎◌, inl, inr, ℕ, ◌+◌, ◌<◌, ◌≤◌, ◌^◌, List, [], ◌∷◌, ◌++◌, length, replicate, take, drop, set}
 use Rattle.std.proofs.Common.{slice_index, slice_index_or, ℤ, pos}
 use Rattle.std.proofs.Common.{sym, ◌∙◌, ap, arith, get_or-set_same, get_or-set_other}
 use Rattle.std.proofs.lemmas.Bool.{cases_eq, cases_lt, eq-eqb, ne_eqb}
-use Rattle.std.proofs.lemmas.List.{append-nil, take_more, get_or_past}
+use Rattle.std.proofs.lemmas.List.{get_or-replicate, length-replicate, append-nil, take_more, get_or_past}
 use Rattle.std.proofs.Math.Seq.{take-length}
 use Rattle.std.proofs.Math.ListN.{drop_of_length-le}
 use Rattle.fraction128.specs.Fraction.{over}
@@ -18,6 +18,13 @@ pub refilled : (n : ℕ) (xs ws : List ℤ) → n ≡ length xs → length ws �
 refilled n xs ws long same =
     ap (λ (rest : List ℤ). take n (ws ++ rest)) (drop_of_length-le xs (omega arith))
     ∙ (ap (take n) (append-nil ws) ∙ (ap (λ (m : ℕ). take m ws) (sym same) ∙ take-length ws))
+
+-- a list of zeros has zero at each place, and past its end
+pub zero_at : (n v : ℕ) (xs : List ℤ) → xs ≡ replicate n (pos 0) → slice_index_or xs v (pos 0) ≡ pos 0
+zero_at n v xs h = elim (cases_lt v n) [
+  | inl within ↦ rw h (get_or-replicate n v (pos 0) (pos 0) within)
+  | inr past ↦ rw h (get_or_past (replicate n (pos 0)) v (pos 0) (omega (arith, length-replicate n (pos 0))))
+]
 
 -- one coefficient more, none of which is above a bound
 pub number_upto : (cs : List Coefficient) (c : Coefficient) (v m : ℕ) → number_at cs v ≤ m → c.number ≤ m → number_at (cs ++ c ∷ []) v ≤ m

@@ -7,7 +7,7 @@ use Rattle.program_form.specs.Program.{ProgramDef, height}
 use Rattle.exchange_runs.specs.Table.{Table}
 use Rattle.exchange_runs.specs.Exchange.{HasRatio, IsRatioOver, IsLeastOver}
 use Rattle.exchange_runs.specs.SmallRuns.{IsSmall}
-use Rattle.whole_rows.specs.Rows.{RowDef, num_at}
+use Rattle.whole_rows.specs.Rows.{RowDef, num_at, entry_at}
 use Rattle.whole_rows.specs.declared.entries.Entry.{Entry}
 use Rattle.whole_runs.specs.States.{row_at, limit_seen, stand_at}
 use Rattle.whole_runs.specs.declared.choice.Ratio.{Ratio}
@@ -27,6 +27,12 @@ abbrev pub IsFirstAbove : Option (ℕ × ℕ) → RowDef → List Stand → Type
 IsFirstAbove (Some e) row stands =
     (e.0 < length stands) × (stand_at stands e.0 ≡ Outside e.1) × (pos 0 <ℤ num_at row e.1) × AreNoneAbove row stands e.0
 IsFirstAbove None row stands = AreNoneAbove row stands (length stands)
+
+-- Is `least` at most `start`, and at most each variable that is at the place of an entry whose number in the row is above zero?
+pub record IsLeastAbove (row : RowDef) (outside : List ℕ) (entries : List Entry) (start least : ℕ) : Type 0 where
+  pub first : least ≤ start
+  pub each : (m : ℕ) → m < length entries → pos 0 <ℤ num_at row (entry_at entries m).place
+      → least ≤ slice_index outside (entry_at entries m).place
 
 -- The limit over the number: the denominator of the row cancels.
 abbrev pub value_of : Ratio → Fraction

@@ -1,16 +1,18 @@
 -- What does a whole run answer?
-use Rattle.std.specs.Prelude.{◌≡◌, ℕ, ◌<◌, List, length, Result, Ok, Err, Some, pos}
+use Rattle.std.specs.Prelude.{◌≡◌, ℕ, ◌<◌, List, length, Result, Ok, Err, Some, pos, ◌≤ℤ◌}
 use Rattle.std.specs.declared.option.Option.{Option}
 use Rattle.fraction128.specs.Fraction.{Fraction, whole}
 use Rattle.fraction128.specs.Scaling.{fraction_at}
 use Rattle.program_form.specs.Program.{ProgramDef, columns, height}
 use Rattle.program_form.specs.Certificate.{dual_seen}
-use Rattle.exchange_runs.specs.Table.{Table, slack}
-use Rattle.exchange_runs.specs.Readings.{minus, IsReadOff, IsWideEnd}
+use Rattle.program_form.specs.declared.certificate.Dual.{Dual}
+use Rattle.exchange_runs.specs.Table.{Table, variables, slack}
+use Rattle.exchange_runs.specs.Exchange.{IsLast}
+use Rattle.exchange_runs.specs.Readings.{minus, IsReadOff, IsWrittenDual, IsWideEnd}
 use Rattle.exchange_runs.specs.Outcomes.{EndsWithin, NeedsMoreThan}
-use Rattle.exchange_runs.specs.SmallRuns.{IsLowestOf}
+use Rattle.exchange_runs.specs.SmallRuns.{IsLowestOf, IsLowestTable}
 use Rattle.whole_rows.specs.Rows.{RowDef}
-use Rattle.whole_runs.specs.States.{row_at, limit_seen, stand_at, stand_cell}
+use Rattle.whole_runs.specs.States.{row_at, limit_seen, stand_at, stand_cell, table_seen, HasSize, AreStands}
 use Rattle.whole_runs.specs.Large.{IsLargeWithin}
 use Rattle.whole_runs.specs.declared.Ended.{Ended}
 use Rattle.whole_runs.specs.declared.stands.Stand.{Stand}
@@ -61,3 +63,36 @@ pub record AreLowestValues (p : ProgramDef) (rows : List (Option RowDef)) (stand
 abbrev pub IsStandOf : ProgramDef → Stand → Type 0
 IsStandOf p (Outside k) = k < columns p
 IsStandOf p (Basic j) = j < height p
+
+-- Has the objective row a place for each column, and each variable a stand?
+pub record CanReadDuals (p : ProgramDef) (objective : RowDef) (stands : List Stand) : Type 0 where
+  pub places : length objective.nums ≡ columns p
+  pub stand_each : length stands ≡ variables p
+  pub each : (v : ℕ) → v < variables p → IsStandOf p (stand_at stands v)
+
+-- And is no number of the objective row above zero?
+pub record CanGiveDual (p : ProgramDef) (objective : RowDef) (stands : List Stand) : Type 0 where
+  pub read : CanReadDuals p objective stands
+  pub last : (v : ℕ) → v < variables p → (objective_cell p objective (stand_at stands v)).num ≤ℤ pos 0
+
+-- The dual that the objective row gives. Or Large, if the end of the table in lowest terms is wide.
+abbrev pub GivesDual : Result Dual Halt → ProgramDef → RowDef → List Stand → Type 0
+GivesDual result p objective stands =
+    (t : Table) → ((v : ℕ) → v < variables p → IsLowestOf (objective_cell p objective (stand_at stands v)) (t.cell (height p) v))
+    → GivesOrStops result (λ d. IsWrittenDual p t (dual_seen d)) (IsWideEnd p t)
+
+-- Has the table the rows of the program and one more, and each variable a stand?
+pub record CanReadValues (p : ProgramDef) (rows : List (Option RowDef)) (stands : List Stand) : Type 0 where
+  pub objective : height p < length rows
+  pub stand_each : length stands ≡ variables p
+  pub each : (v : ℕ) → v < variables p → IsStandOf p (stand_at stands v)
+
+-- Are these, with some basis, the rows and stands of a last table?
+abbrev pub IsLastOfRun : ProgramDef → List (Option RowDef) → List Stand → Type 0
+IsLastOfRun p rows stands =
+    (basis : List ℕ) × (HasSize p rows basis stands) × (AreStands p basis stands) × IsLast p (table_seen p rows basis stands)
+
+-- What is read from their table in lowest terms.
+abbrev pub FinishesAt : Result Ended Halt → ProgramDef → List (Option RowDef) → List Stand → ℕ → Type 0
+FinishesAt result p rows stands k =
+    (basis : List ℕ) (t : Table) → AreStands p basis stands → IsLowestTable p (table_seen p rows basis stands) t → Finishes result p t k

@@ -1,8 +1,12 @@
 pub mod States
 pub mod Columns
+pub mod Given
+pub mod Readings
 pub mod Starts
+pub mod Writing
 pub mod Exchanges
 pub mod Choice
+pub mod Leaving
 pub mod Takings
 pub mod Large
 pub mod Stepping

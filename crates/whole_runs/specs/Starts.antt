@@ -10,6 +10,7 @@ use Rattle.whole_rows.specs.Rows.{RowDef, cell_at, limit_of}
 use Rattle.whole_runs.specs.States.{row_at, cell_seen, limit_seen, stand_at}
 use Rattle.whole_runs.specs.declared.stands.Stand.{Stand}
 use Rattle.whole_runs.specs.declared.stands.Stand.TheVariants.{Outside, Basic}
+use Rattle.whole_runs.specs.declared.tableau.Tableau.{Tableau}
 
 -- Has the row the numbers of row i of the program?
 pub record IsFirstRow (p : ProgramDef) (i : ℕ) (row : RowDef) : Type 0 where
@@ -52,3 +53,11 @@ pub record AreFirstMarks (p : ProgramDef) (marks : RowMarks) : Type 0 where
   pub room : HaveRoom (columns p) (height p + 1) marks
   pub entries : (k i : ℕ) → k < columns p → i < height p → entry p i k ≢ 0 → IsMarked marks k i
   pub costs : (k : ℕ) → k < columns p → cost p k ≢ 0 → IsMarked marks k (height p)
+
+-- Is it the first tableau?
+pub record IsFirstTableau (p : ProgramDef) (t : Tableau) : Type 0 where
+  pub rows : AreFirstRows p t.rows.items
+  pub marks : AreFirstMarks p t.marks
+  pub basis : IsFirstBasis p t.basis.items
+  pub stands : AreFirstStands p t.stands.items
+  pub outside : AreFirstOutside p t.outside.items

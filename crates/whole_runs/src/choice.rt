@@ -1,15 +1,13 @@
 //! Which variable enters the basis, and which row leaves it? The loops of `first_above`, `least_above` and `read_column` aren't inlined,
 //! since in one function with the run they would lack registers.
 
-ghost use Rattle.std.specs.Prelude.{◌≡◌, ℕ, ◌+◌, ◌<◌, ◌≤◌, List, length, slice_index, pos, ◌*ℤ◌, ◌<ℤ◌, IfOk, IfSome};
-ghost use Rattle.program_form.specs.Program.{height, columns};
-ghost use Rattle.exchange_runs.specs.Table.{Table, variables};
-ghost use Rattle.whole_rows.specs.Rows.{entry_at, num_at, AreBelow};
-ghost use Rattle.whole_runs.specs.States.{row_at, stand_at, table_seen, HasPlaces, HasSize, AreStands};
-ghost use Rattle.whole_runs.specs.Columns.{num_seen, IsColumn, AreMarked};
-ghost use Rattle.whole_runs.specs.Exchanges.{Enters, Leaves};
-ghost use Rattle.whole_runs.specs.Choice.{AreNoneAbove, IsFrom, IsFirstAbove, ReadsRatio, IsRatioOf, Comes, IsLeastOf, IsLeastSoFar};
-ghost use Rattle.whole_runs.specs.declared.stands.Stand.{Stand};
+ghost use Rattle.std.specs.Prelude.{◌≡◌, ℕ, ◌<◌, List, length, Some, ◌*ℤ◌};
+ghost use Rattle.whole_runs.specs.States.{stand_at, HasSize, AreStands};
+ghost use Rattle.whole_runs.specs.Given.{IsRowOf, HavePlaces, IsNumberAt, CanReadColumn, HaveBasics, IsLaterRatio, HasColumn};
+ghost use Rattle.whole_runs.specs.Columns.{AreMarked};
+ghost use Rattle.whole_runs.specs.Exchanges.{Enters};
+ghost use Rattle.whole_runs.specs.Choice.{AreNoneAbove, IsFrom, IsFirstAbove, IsLeastAbove, ReadsRatio, Comes};
+ghost use Rattle.whole_runs.specs.Leaving.{ReadsColumn, IsLeastThrough, IsLeastRatio, LeavesFor};
 ghost use Rattle.whole_runs.specs.declared.stands.Stand.TheVariants.{Outside};
 
 use crate::reading::{limit_of, num_of, objective};
@@ -58,11 +56,8 @@ pub(crate) fn least_above(
     entries: &[Entry],
     first: usize,
 ) -> usize
-    requires places { AreBelow (length row.now.nums) entries.now }
-    requires outside { AreBelow (length outside.now) entries.now }
-    ensures first { result ≤ first }
-    ensures each { (m : ℕ) → m < length entries.now → pos 0 <ℤ num_at row.now (entry_at entries.now m).place
-        → result ≤ slice_index outside.now (entry_at entries.now m).place }
+    requires { HavePlaces row.now outside.now entries.now }
+    ensures { IsLeastAbove row.now outside.now entries.now first result }
 {
     let mut least = first;
     for entry in entries {
@@ -82,9 +77,7 @@ fn unmark_zero(
     i: usize,
     num: i64,
 )
-    requires place { k < columns program.now }
-    requires row { i < length rows.now }
-    requires number { num ≡ num_seen program.now (row_at rows.now i) i k }
+    requires number { IsNumberAt program.now rows.now k i num }
     requires marked { AreMarked program.now rows.now marks.old }
     ensures { AreMarked program.now rows.now marks.new }
 {
@@ -102,11 +95,8 @@ pub(crate) fn read_column(
     marks: &mut RowMarks,
     k: usize,
 ) -> Result<(), AllocError>
-    requires places { (i : ℕ) → i < length rows.now → HasPlaces program.now i (row_at rows.now i) }
-    requires place { k < columns program.now }
-    requires marked { AreMarked program.now rows.now marks.old }
-    ensures column { IfOk result (λ _. IsColumn program.now rows.now k column.new.items) }
-    ensures marked { AreMarked program.now rows.now marks.new }
+    requires { CanReadColumn program.now rows.now marks.old k }
+    ensures { ReadsColumn result program.now rows.now k column.new.items marks.new }
 {
     column.clear();
     let mut i = marks.next(k, 0, rows.len());
@@ -129,8 +119,7 @@ struct Ratio {
 
 // The ratio of the row of a cell; none if the cell's number isn't above zero.
 fn ratio_of(program: &SparseProgram, rows: &[Option<WholeRow>], cell: Entry) -> Option<Ratio>
-    requires row { cell.place < length rows.now }
-    requires within { cell.place < height program.now }
+    requires { IsRowOf program.now rows.now cell.place }
     ensures { ReadsRatio result program.now rows.now cell }
 {
     if cell.num <= 0 {
@@ -152,8 +141,7 @@ fn cross(a: Ratio, b: Ratio) -> i128
 
 // Whether a ratio comes before another.
 fn comes_before(next: Ratio, best: Ratio, basis: &[usize]) -> bool
-    requires next { next.row < length basis.now }
-    requires best { best.row < length basis.now }
+    requires { HaveBasics next best basis.now }
     ensures { Comes result next best basis.now }
 {
     match cross(next, best).cmp(&cross(best, next)) {
@@ -165,11 +153,8 @@ fn comes_before(next: Ratio, best: Ratio, basis: &[usize]) -> bool
 
 // The lesser of the least ratio so far and that of a later row.
 fn better(best: Ratio, next: Ratio, basis: &[usize]) -> Ratio
-    requires earlier { best.row < next.row }
-    requires within { next.row < length basis.now }
-    ensures least { (t : Table) (place e : ℕ) → ((i : ℕ) → t.basic i ≡ slice_index basis.now i) → IsLeastOf place t e next.row best
-        → IsRatioOf place t e next → IsLeastOf place t e (next.row + 1) result }
-    ensures within { result.row < next.row + 1 }
+    requires { IsLaterRatio basis.now (Some best) next }
+    ensures { IsLeastThrough basis.now (Some best) next result }
 {
     if comes_before(next, best, basis) {
         next
@@ -180,11 +165,8 @@ fn better(best: Ratio, next: Ratio, basis: &[usize]) -> Ratio
 
 // The same, if there may be no ratio so far.
 fn better_or_first(best: Option<Ratio>, next: Ratio, basis: &[usize]) -> Ratio
-    requires earlier { IfSome best (λ b. b.row < next.row) }
-    requires within { next.row < length basis.now }
-    ensures least { (t : Table) (place e : ℕ) → ((i : ℕ) → t.basic i ≡ slice_index basis.now i) → IsLeastSoFar place t e next.row best
-        → IsRatioOf place t e next → IsLeastOf place t e (next.row + 1) result }
-    ensures within { result.row < next.row + 1 }
+    requires { IsLaterRatio basis.now best next }
+    ensures { IsLeastThrough basis.now best next result }
 {
     match best {
         Some(best) => better(best, next, basis),
@@ -199,13 +181,8 @@ fn least_ratio(
     basis: &[usize],
     column: &[Entry],
 ) -> Option<Ratio>
-    requires rows { length rows.now ≡ height program.now + 1 }
-    requires basis { length basis.now ≡ height program.now }
-    requires column { (k : ℕ) × IsColumn program.now rows.now k column.now }
-    ensures least { (e k : ℕ) (stands : List Stand) → IsColumn program.now rows.now k column.now → e < variables program.now
-        → stand_at stands e ≡ Outside k
-        → IsLeastSoFar (variables program.now) (table_seen program.now rows.now basis.now stands) e (height program.now) result }
-    ensures within { IfSome result (λ best. best.row < height program.now) }
+    requires { HasColumn program.now rows.now basis.now column.now }
+    ensures { IsLeastRatio result program.now rows.now basis.now column.now }
 {
     let mut best = None;
     for j in 0..column.len() {
@@ -227,12 +204,8 @@ pub(crate) fn leaving(
     basis: &[usize],
     column: &[Entry],
 ) -> Option<usize>
-    requires rows { length rows.now ≡ height program.now + 1 }
-    requires basis { length basis.now ≡ height program.now }
-    requires column { (k : ℕ) × IsColumn program.now rows.now k column.now }
-    ensures least { (e k : ℕ) (stands : List Stand) → IsColumn program.now rows.now k column.now → e < variables program.now
-        → stand_at stands e ≡ Outside k → Leaves result program.now (table_seen program.now rows.now basis.now stands) e }
-    ensures within { IfSome result (λ r. r < height program.now) }
+    requires { HasColumn program.now rows.now basis.now column.now }
+    ensures { LeavesFor result program.now rows.now basis.now column.now }
 {
     match least_ratio(program, rows, basis, column) {
         Some(best) => Some(best.row),

@@ -1,16 +1,12 @@
 //! What is read from the last table.
 
-ghost use Rattle.std.specs.Prelude.{◌≡◌, ℕ, ◌<◌, List, length, pos, ◌≤ℤ◌, IfOk};
+ghost use Rattle.std.specs.Prelude.{◌≡◌, ◌<◌, length, IfOk};
 ghost use Rattle.fraction128.specs.Fraction.{over};
 ghost use Rattle.program_form.specs.Program.{columns, height};
-ghost use Rattle.program_form.specs.Certificate.{dual_seen};
-ghost use Rattle.exchange_runs.specs.Table.{Table, variables, slack};
-ghost use Rattle.exchange_runs.specs.Exchange.{IsLast};
-ghost use Rattle.exchange_runs.specs.Readings.{minus, IsWrittenDual, IsWideEnd};
-ghost use Rattle.exchange_runs.specs.SmallRuns.{IsSmall, IsLowestOf, IsLowestTable};
-ghost use Rattle.whole_runs.specs.States.{row_at, stand_at, table_seen, HasSize, AreStands};
-ghost use Rattle.whole_runs.specs.Ends.{GivesOrStops, Finishes, objective_cell, AreLowestDuals, IsLowestValue, AreLowestValues};
-ghost use Rattle.whole_runs.specs.Ends.{IsStandOf};
+ghost use Rattle.exchange_runs.specs.Readings.{minus};
+ghost use Rattle.exchange_runs.specs.SmallRuns.{IsSmall, IsLowestOf};
+ghost use Rattle.whole_runs.specs.Ends.{objective_cell, IsStandOf, AreLowestDuals, IsLowestValue, AreLowestValues};
+ghost use Rattle.whole_runs.specs.Ends.{CanReadDuals, CanGiveDual, GivesDual, CanReadValues, IsLastOfRun, FinishesAt};
 
 use crate::Ended;
 use crate::reading::objective;
@@ -51,9 +47,7 @@ fn duals_of(
     objective: &WholeRow,
     stands: &[Stand],
 ) -> Result<Vec<Frac>, AllocError>
-    requires places { length objective.now.nums ≡ columns program.now }
-    requires stand_each { length stands.now ≡ variables program.now }
-    requires stands { (v : ℕ) → v < variables program.now → IsStandOf program.now (stand_at stands.now v) }
+    requires { CanReadDuals program.now objective.now stands.now }
     ensures { IfOk result (λ v. AreLowestDuals program.now objective.now stands.now v.items) }
 {
     let columns = program.columns() as usize;
@@ -72,15 +66,8 @@ fn dual_of(
     objective: &WholeRow,
     stands: &[Stand],
 ) -> Result<Dual, Halt>
-    requires places { length objective.now.nums ≡ columns program.now }
-    requires stand_each { length stands.now ≡ variables program.now }
-    requires stands { (v : ℕ) → v < variables program.now → IsStandOf program.now (stand_at stands.now v) }
-    requires last { (v : ℕ) → v < variables program.now
-        → (objective_cell program.now objective.now (stand_at stands.now v)).num ≤ℤ pos 0 }
-    ensures { (t : Table)
-        → ((v : ℕ) → v < variables program.now
-        → IsLowestOf (objective_cell program.now objective.now (stand_at stands.now v)) (t.cell (height program.now) v))
-        → GivesOrStops result (λ d. IsWrittenDual program.now t (dual_seen d)) (IsWideEnd program.now t) }
+    requires { CanGiveDual program.now objective.now stands.now }
+    ensures { GivesDual result program.now objective.now stands.now }
 {
     let duals = duals_of(alloc, program, objective, stands)?;
     match scale(alloc, &duals) {
@@ -112,9 +99,7 @@ fn primal_of(
     rows: &[Option<WholeRow>],
     stands: &[Stand],
 ) -> Result<Vec<Frac>, AllocError>
-    requires rows { height program.now < length rows.now }
-    requires stand_each { length stands.now ≡ variables program.now }
-    requires stands { (v : ℕ) → v < variables program.now → IsStandOf program.now (stand_at stands.now v) }
+    requires { CanReadValues program.now rows.now stands.now }
     ensures { IfOk result (λ v. AreLowestValues program.now rows.now stands.now v.items) }
 {
     let columns = program.columns() as usize;
@@ -133,10 +118,8 @@ pub(crate) fn finish(
     stands: &[Stand],
     exchanges: u64,
 ) -> Result<Ended, Halt>
-    requires { (basis : List ℕ) × (HasSize program.now rows.now basis stands.now) × (AreStands program.now basis stands.now)
-        × IsLast program.now (table_seen program.now rows.now basis stands.now) }
-    ensures { (basis : List ℕ) (t : Table) → AreStands program.now basis stands.now
-        → IsLowestTable program.now (table_seen program.now rows.now basis stands.now) t → Finishes result program.now t exchanges }
+    requires { IsLastOfRun program.now rows.now stands.now }
+    ensures { FinishesAt result program.now rows.now stands.now exchanges }
 {
     let objective = objective(program, rows);
     let value = lowest(objective.limit(), objective.den()).neg();

@@ -1,21 +1,10 @@
 //! One exchange of a table.
 
-ghost use Rattle.std.specs.Prelude.{◌≡◌, ◌≢◌, ℕ, ◌+◌, ◌<◌, ◌/◌, ◌%◌, List, length, pos, ◌<ℤ◌, IfOk};
-ghost use Rattle.std.specs.Int.{bit_at};
-ghost use Rattle.program_form.specs.Program.{IsProgram, columns, height};
-ghost use Rattle.whole_rows.specs.Marks.{words_of, HasWords, HasRow, IsMarked, AreKept};
-ghost use Rattle.whole_rows.specs.Rows.{entry_at, AreSparse, AreBelow};
-ghost use Rattle.exchange_runs.specs.Exchange.{IsEntering};
-ghost use Rattle.exchange_runs.specs.SmallRuns.{SmallReached};
-ghost use Rattle.whole_runs.specs.States.{row_at, stand_at, table_seen, HasPlaces, HasSize, AreStands, ArePlaced};
-ghost use Rattle.whole_runs.specs.Columns.{num_seen, IsColumn, AreMarked};
-ghost use Rattle.whole_runs.specs.Choice.{IsFrom};
-ghost use Rattle.whole_runs.specs.Exchanges.{AreSmallRows};
-ghost use Rattle.whole_runs.specs.Large.{IsTooLargeFor, IsSomeTooLarge, AreTooLarge};
-ghost use Rattle.whole_runs.specs.Stepping.{Steps};
-ghost use Rattle.whole_runs.specs.declared.stands.Stand.TheVariants.{Outside};
-ghost use Rattle.whole_runs.specs.Ends.{GivesOrStops};
-ghost use Rattle.whole_runs.specs.Takings.{Touches, Divides, IsTaken, AreTakenTo, ExchangesRows};
+ghost use Rattle.std.specs.Prelude.{IfOk};
+ghost use Rattle.whole_runs.specs.States.{HasPlaces};
+ghost use Rattle.whole_runs.specs.Given.{CanBeDivided, CanTakeFrom, CanTakeAll, CanExchange, CanJoinWord, CanJoinMarks};
+ghost use Rattle.whole_runs.specs.Takings.{Touches, Divides, TakesFrom, TakesAll, ExchangesOrStops, AreBitsJoined, AreMarksJoined};
+ghost use Rattle.whole_runs.specs.Stepping.{CanStep, Steps};
 
 use crate::choice::{least_above, leaving, read_column};
 use crate::reading::{coefficient_at, objective};
@@ -53,9 +42,7 @@ fn divide_touched(
     k: usize,
     pivot: &mut Pivot,
 ) -> Result<(), AllocError>
-    requires places { HasPlaces program.now r row.old }
-    requires place { k < columns program.now }
-    requires above { pos 0 <ℤ num_seen program.now row.old r k }
+    requires { CanBeDivided program.now row.old r k }
     ensures { IfOk result (λ _. Divides program.now r row.old k row.new pivot.new) }
 {
     touch(alloc, program, row, r)?;
@@ -79,10 +66,7 @@ fn divide(
     k: usize,
     pivot: &mut Pivot,
 ) -> Result<(), AllocError>
-    requires places { HasPlaces program.now r row.old }
-    requires row { r < height program.now }
-    requires place { k < columns program.now }
-    requires above { pos 0 <ℤ num_seen program.now row.old r k }
+    requires { CanBeDivided program.now row.old r k }
     ensures { IfOk result (λ _. Divides program.now r row.old k row.new pivot.new) }
 {
     if row.is_none() {
@@ -103,11 +87,8 @@ fn take_from(
     k: usize,
     pivot: &Pivot,
 ) -> Result<(), Halt>
-    requires places { HasPlaces program.now i row.old }
-    requires place { k < columns program.now }
-    requires below { AreBelow (columns program.now) pivot.now.entries }
-    ensures { GivesOrStops result (λ _. IsTaken program.now i row.old k pivot.now row.new)
-        (IsTooLargeFor program.now i row.old k pivot.now) }
+    requires { CanTakeFrom program.now row.old i k pivot.now }
+    ensures { TakesFrom result program.now i row.old k pivot.now row.new }
 {
     touch(alloc, program, row, i)?;
     match row {
@@ -126,14 +107,8 @@ fn take_all(
     k: usize,
     r: usize,
 ) -> Result<(), Halt>
-    requires sparse { AreSparse lines.now.column.items }
-    requires rows { AreBelow (length rows.old) lines.now.column.items }
-    requires places { (i : ℕ) → i < length rows.old → HasPlaces program.now i (row_at rows.old i) }
-    requires place { k < columns program.now }
-    requires below { AreBelow (columns program.now) lines.now.pivot.entries }
-    ensures { GivesOrStops result
-        (λ _. AreTakenTo (length lines.now.column.items) program.now rows.old rows.new lines.now.column.items k r lines.now.pivot)
-        (IsSomeTooLarge program.now rows.old k r lines.now.pivot) }
+    requires { CanTakeAll program.now rows.old lines.now.column.items k lines.now.pivot }
+    ensures { TakesAll result program.now rows.old rows.new lines.now.column.items k r lines.now.pivot }
 {
     for j in 0..lines.column.len() {
         let cell = lines.column[j];
@@ -160,15 +135,8 @@ fn exchange(
     k: usize,
     r: usize,
 ) -> Result<(), Halt>
-    requires row_each { length rows.old ≡ height program.now + 1 }
-    requires places { (i : ℕ) → i < length rows.old → HasPlaces program.now i (row_at rows.old i) }
-    requires small { AreSmallRows program.now rows.old }
-    requires column { IsColumn program.now rows.old k lines.old.column.items }
-    requires place { k < columns program.now }
-    requires row { r < height program.now }
-    requires above { pos 0 <ℤ num_seen program.now (row_at rows.old r) r k }
-    ensures { GivesOrStops result (λ _. ExchangesRows program.now rows.old rows.new k r lines.new.pivot)
-        (AreTooLarge program.now rows.old k r) }
+    requires { CanExchange program.now rows.old lines.old.column.items k r }
+    ensures { ExchangesOrStops result program.now rows.old rows.new k r lines.new.pivot }
 {
     divide(alloc, program, &mut rows[r], r, k, &mut lines.pivot)?;
     take_all(alloc, program, rows, lines, k, r)?;
@@ -179,11 +147,8 @@ fn exchange(
 // it would lack registers.
 #[inline(never)]
 fn join_word(marks: &mut RowMarks, entries: &[Entry], w: usize, bits: u64)
-    requires words { (m : ℕ) → m < length entries.now → HasWords marks.old (entry_at entries.now m).place }
-    requires word { w < words_of marks.old }
-    ensures kept { AreKept marks.old marks.new }
-    ensures joined { (m i : ℕ) → m < length entries.now → i / 64 ≡ w → bit_at bits (i % 64) ≡ 1
-        → IsMarked marks.new (entry_at entries.now m).place i }
+    requires { CanJoinWord marks.old entries.now w }
+    ensures { AreBitsJoined marks.old marks.new entries.now w bits }
 {
     for entry in entries {
         marks.join(entry.place, w, bits);
@@ -192,11 +157,8 @@ fn join_word(marks: &mut RowMarks, entries: &[Entry], w: usize, bits: u64)
 
 // Marks at the place of each entry the rows that are marked at k.
 fn join_marks(marks: &mut RowMarks, entries: &[Entry], k: usize)
-    requires words { (m : ℕ) → m < length entries.now → HasWords marks.old (entry_at entries.now m).place }
-    requires from { HasWords marks.old k }
-    ensures kept { AreKept marks.old marks.new }
-    ensures joined { (m i : ℕ) → m < length entries.now → HasRow marks.old i → IsMarked marks.old k i
-        → IsMarked marks.new (entry_at entries.now m).place i }
+    requires { CanJoinMarks marks.old entries.now k }
+    ensures { AreMarksJoined marks.old marks.new entries.now k }
 {
     for w in 0..marks.words() {
         let bits = marks.word(k, w);
@@ -217,23 +179,8 @@ pub(crate) fn step(
     e: usize,
     k: usize,
 ) -> Result<usize, Halt>
-    requires program { IsProgram program.now }
-    requires size { HasSize program.now tableau.old.rows.items tableau.old.basis.items tableau.old.stands.items }
-    requires stands { AreStands program.now tableau.old.basis.items tableau.old.stands.items }
-    requires small { AreSmallRows program.now tableau.old.rows.items }
-    requires marked { AreMarked program.now tableau.old.rows.items tableau.old.marks }
-    requires enters { IsEntering program.now
-        (table_seen program.now tableau.old.rows.items tableau.old.basis.items tableau.old.stands.items) e }
-    requires place { stand_at tableau.old.stands.items e ≡ Outside k }
-    requires placed { ArePlaced program.now tableau.old.outside.items tableau.old.stands.items }
-    requires reached { (n : ℕ)
-        × SmallReached program.now n (table_seen program.now tableau.old.rows.items tableau.old.basis.items tableau.old.stands.items) }
-    ensures next { Steps result program.now e tableau.old.rows.items tableau.old.basis.items tableau.old.stands.items
-        tableau.new.rows.items tableau.new.basis.items tableau.new.stands.items }
-    ensures small { IfOk result (λ _. AreSmallRows program.now tableau.new.rows.items) }
-    ensures marked { IfOk result (λ _. AreMarked program.now tableau.new.rows.items tableau.new.marks) }
-    ensures placed { IfOk result (λ _. ArePlaced program.now tableau.new.outside.items tableau.new.stands.items) }
-    ensures earlier { IfOk result (λ from. IsFrom program.now tableau.new.rows.items tableau.new.stands.items from) }
+    requires { CanStep program.now tableau.old e k }
+    ensures { Steps result program.now e tableau.old tableau.new }
 {
     read_column(
         &mut lines.column,

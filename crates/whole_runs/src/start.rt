@@ -1,13 +1,13 @@
 //! The first tableau: its rows, its basis, its stands and its marks.
 
-ghost use Rattle.std.specs.Prelude.{◌≡◌, ◌≢◌, ℕ, ◌<◌, ◌≤◌, ◌^◌, [], pos, length, slice_index_or, IfOk, OnOk};
-ghost use Rattle.program_form.specs.Program.{columns, height, cost};
-ghost use Rattle.program_form.specs.SparseRows.{number_at, coefficient_at, AreCoefficients};
-ghost use Rattle.whole_rows.specs.Marks.{HasWord, IsMarked, AreKept};
-ghost use Rattle.whole_runs.specs.States.{stand_at};
-ghost use Rattle.whole_runs.specs.declared.stands.Stand.TheVariants.{Outside};
+ghost use Rattle.std.specs.Prelude.{◌≡◌, ℕ, ◌<◌, [], length, IfOk, OnOk};
+ghost use Rattle.program_form.specs.Program.{columns, height};
+ghost use Rattle.program_form.specs.SparseRows.{coefficient_at};
+ghost use Rattle.whole_rows.specs.Marks.{HasWord};
+ghost use Rattle.whole_runs.specs.Writing.{CanWrite, AreWritten, AreAllSmall, IsGreatest, AreCosts, IsGreatestCost};
+ghost use Rattle.whole_runs.specs.Writing.{AreColumnStands, AreMarkedIn, AreCostsMarked};
 ghost use Rattle.whole_runs.specs.Starts.{IsFirstRow, IsCostRow, AreFirstRows, IsFirstBasis, AreFirstStands};
-ghost use Rattle.whole_runs.specs.Starts.{AreFirstOutside, AreFirstMarks};
+ghost use Rattle.whole_runs.specs.Starts.{AreFirstOutside, AreFirstMarks, IsFirstTableau};
 
 use crate::stands::Stand;
 use crate::tableau::Tableau;
@@ -17,11 +17,8 @@ use whole_rows::{RowMarks, WholeRow};
 
 // Writes the coefficients at their columns.
 fn write_all(nums: &mut [i64], coefficients: &[Coefficient])
-    requires listed { AreCoefficients (length nums.old) coefficients.now }
-    requires small { (k : ℕ) → k < length coefficients.now → (coefficient_at coefficients.now k).number < 2 ^ 63 }
-    requires zero { (v : ℕ) → slice_index_or nums.old v (pos 0) ≡ pos 0 }
-    ensures as_many { length nums.new ≡ length nums.old }
-    ensures each { (v : ℕ) → slice_index_or nums.new v (pos 0) ≡ pos (number_at coefficients.now v) }
+    requires { CanWrite nums.old coefficients.now }
+    ensures { AreWritten nums.old coefficients.now nums.new }
 {
     for coefficient in coefficients {
         nums[coefficient.column as usize] = coefficient.number as i64;
@@ -30,11 +27,8 @@ fn write_all(nums: &mut [i64], coefficients: &[Coefficient])
 
 // The greatest of the coefficients and another number.
 fn greatest(coefficients: &[Coefficient], first: u64) -> u64
-    requires small { (k : ℕ) → k < length coefficients.now → (coefficient_at coefficients.now k).number < 2 ^ 63 }
-    requires first { first < 2 ^ 63 }
-    ensures first { first ≤ result }
-    ensures all { (v : ℕ) → number_at coefficients.now v ≤ result }
-    ensures small { result < 2 ^ 63 }
+    requires { AreAllSmall coefficients.now first }
+    ensures { IsGreatest coefficients.now first result }
 {
     let mut most = first;
     for coefficient in coefficients {
@@ -63,8 +57,7 @@ pub(crate) fn first_row(
 
 // The costs, one for each column.
 fn cost_nums(alloc: Global, program: &SparseProgram) -> Result<Vec<i64>, AllocError>
-    ensures as_many { IfOk result (λ v. length v.items ≡ columns program.now) }
-    ensures each { IfOk result (λ v. (c : ℕ) → slice_index_or v.items c (pos 0) ≡ pos (cost program.now c)) }
+    ensures { IfOk result (λ v. AreCosts program.now v.items) }
 {
     let mut nums = Vec::with_capacity(alloc, program.columns() as usize)?;
     for c in 0..program.columns() {
@@ -75,9 +68,7 @@ fn cost_nums(alloc: Global, program: &SparseProgram) -> Result<Vec<i64>, AllocEr
 
 // The greatest of the costs and 1.
 fn greatest_cost(program: &SparseProgram) -> u64
-    ensures one { 1 ≤ result }
-    ensures all { (c : ℕ) → cost program.now c ≤ result }
-    ensures small { result < 2 ^ 63 }
+    ensures { IsGreatestCost program.now result }
 {
     let mut most = 1;
     for c in 0..program.columns() {
@@ -131,8 +122,7 @@ fn first_outside(alloc: Global, program: &SparseProgram) -> Result<Vec<usize>, A
 // Adds the columns, each at its own place.
 fn push_columns(stands: &mut Vec<Stand>, count: usize) -> Result<(), AllocError>
     requires { stands.old.items ≡ [] }
-    ensures as_many { OnOk result (length stands.new.items ≡ count) }
-    ensures each { OnOk result ((c : ℕ) → c < count → stand_at stands.new.items c ≡ Outside c) }
+    ensures { OnOk result (AreColumnStands count stands.new.items) }
 {
     for c in 0..count {
         stands.push(Stand::Outside(c))?;
@@ -157,8 +147,7 @@ fn first_stands(alloc: Global, program: &SparseProgram) -> Result<Vec<Stand>, Al
 // Marks row i at each column of its coefficients.
 fn mark_all(marks: &mut RowMarks, coefficients: &[Coefficient], i: usize)
     requires { (k : ℕ) → k < length coefficients.now → HasWord marks.old (coefficient_at coefficients.now k).column i }
-    ensures own { (v : ℕ) → number_at coefficients.now v ≢ 0 → IsMarked marks.new v i }
-    ensures kept { AreKept marks.old marks.new }
+    ensures { AreMarkedIn marks.old marks.new coefficients.now i }
 {
     for coefficient in coefficients {
         marks.mark(coefficient.column as usize, i);
@@ -168,8 +157,7 @@ fn mark_all(marks: &mut RowMarks, coefficients: &[Coefficient], i: usize)
 // Marks the objective row at each column with a nonzero cost.
 fn mark_costs(marks: &mut RowMarks, program: &SparseProgram)
     requires { (c : ℕ) → c < columns program.now → HasWord marks.old c (height program.now) }
-    ensures own { (c : ℕ) → c < columns program.now → cost program.now c ≢ 0 → IsMarked marks.new c (height program.now) }
-    ensures kept { AreKept marks.old marks.new }
+    ensures { AreCostsMarked program.now marks.old marks.new }
 {
     let objective = program.rows() as usize;
     for c in 0..program.columns() {
@@ -194,11 +182,7 @@ fn first_marks(alloc: Global, program: &SparseProgram) -> Result<RowMarks, Alloc
 
 // The first tableau.
 pub(crate) fn first_tableau(alloc: Global, program: &SparseProgram) -> Result<Tableau, AllocError>
-    ensures rows { IfOk result (λ t. AreFirstRows program.now t.rows.items) }
-    ensures marks { IfOk result (λ t. AreFirstMarks program.now t.marks) }
-    ensures basis { IfOk result (λ t. IsFirstBasis program.now t.basis.items) }
-    ensures stands { IfOk result (λ t. AreFirstStands program.now t.stands.items) }
-    ensures outside { IfOk result (λ t. AreFirstOutside program.now t.outside.items) }
+    ensures { IfOk result (IsFirstTableau program.now) }
 {
     Ok(Tableau {
         rows: first_rows(alloc, program)?,

@@ -7,14 +7,25 @@ use Rattle.whole_rows.proofs.Dividing.{cancelled_apart, common_positive, divisor
 use Rattle.whole_rows.proofs.Dividing.{quotient_read, quotient_fits_read}
 use Rattle.whole_rows.proofs.divisors.cancelled.Goals as goal
 
-pub returns-then-num-den-eq0-clause-form : goal.returns-then-num-den-eq0-clause-form
-returns-then-num-den-eq0-clause-form c =
+pub returns-then-den-eq1 : goal.returns-then-den-eq1
+returns-then-den-eq1 c =
+    let one : to_z w64 (of_z w64 c.args.den) ≡ pos 1 = ap (to_z w64) c.if-den-eq1.true in
+    record {
+      form = search rules;
+      apart = λ d p q. eq-one_of_dvd-one (subst (λ (z : ℤ). d ∣ unsigned_abs z) one q);
+    }
+
+pub returns-then-num-den-eq0 : goal.returns-then-num-den-eq0
+returns-then-num-den-eq0 c =
     let fits_num : FitsSigned w64 c.args.num = search rules in
     let fits_den : FitsSigned w64 c.args.den = search rules in
     let none : int_rem c.args.num c.args.den ≡ pos 0 =
     sym (rem_is w64 c.args.num c.args.den fits_num fits_den) ∙ ap (to_z w64) c.if-num-den-eq0.true in
-    rw (quotient_read c.args.num c.args.den fits_num fits_den c.requires.positive)
-    (whole_cancelled c.args.num c.args.den c.requires.positive none)
+    record {
+      form = rw (quotient_read c.args.num c.args.den fits_num fits_den c.requires.positive)
+          (whole_cancelled c.args.num c.args.den c.requires.positive none);
+      apart = λ d p q. eq-one_of_dvd-one q;
+    }
 
 pub overflow_cast-common : goal.overflow_cast-common
 overflow_cast-common c =
@@ -48,8 +59,8 @@ nonzero_div-result-3 c =
           (divisor_fits c.args.den _ c.requires.positive fits_den gcd.1) (above_zero _ above),
     )
 
-pub returns-clause-form : goal.returns-clause-form
-returns-clause-form c =
+pub returns : goal.returns
+returns c =
     let fits_num : FitsSigned w64 c.args.num = search rules in
     let fits_den : FitsSigned w64 c.args.den = search rules in
     let gcd = gcd_read c.args.num c.args.den _ _ _ fits_num fits_den c.unsigned_abs.ensures.value c.unsigned_abs-2.ensures.value
@@ -58,24 +69,7 @@ returns-clause-form c =
     let fits = divisor_fits c.args.den _ c.requires.positive fits_den gcd.1 in
     let above = above_zero _ (common_positive c.args.num c.args.den _ c.requires.positive gcd) in
     rw (quotient_read c.args.num (pos g) fits_num fits above, quotient_read c.args.den (pos g) fits_den fits above)
-    (is_cancelled c.args.num c.args.den g c.requires.positive gcd)
-
-pub returns-then-den-eq1-clause-apart : goal.returns-then-den-eq1-clause-apart
-returns-then-den-eq1-clause-apart c =
-    let one : to_z w64 (of_z w64 c.args.den) ≡ pos 1 = ap (to_z w64) c.if-den-eq1.true in
-    λ d p q. eq-one_of_dvd-one (subst (λ (z : ℤ). d ∣ unsigned_abs z) one q)
-
-pub returns-then-num-den-eq0-clause-apart : goal.returns-then-num-den-eq0-clause-apart
-returns-then-num-den-eq0-clause-apart c = λ d p q. eq-one_of_dvd-one q
-
-pub returns-clause-apart : goal.returns-clause-apart
-returns-clause-apart c =
-    let fits_num : FitsSigned w64 c.args.num = search rules in
-    let fits_den : FitsSigned w64 c.args.den = search rules in
-    let gcd = gcd_read c.args.num c.args.den _ _ _ fits_num fits_den c.unsigned_abs.ensures.value c.unsigned_abs-2.ensures.value
-    c.greatest_common_divisor-common.ensures in
-    let g = c.greatest_common_divisor-common.result in
-    let fits = divisor_fits c.args.den _ c.requires.positive fits_den gcd.1 in
-    let above = above_zero _ (common_positive c.args.num c.args.den _ c.requires.positive gcd) in
-    rw (quotient_read c.args.num (pos g) fits_num fits above, quotient_read c.args.den (pos g) fits_den fits above)
-    (cancelled_apart c.args.num c.args.den g c.requires.positive gcd)
+    (record {
+      form = is_cancelled c.args.num c.args.den g c.requires.positive gcd;
+      apart = cancelled_apart c.args.num c.args.den g c.requires.positive gcd;
+    })

@@ -7,11 +7,15 @@ use Rattle.whole_rows.specs.Numbers.{number_at}
 use Rattle.whole_rows.proofs.Dividing.{divides_more, divides_each}
 use Rattle.whole_rows.proofs.divisors.common_divisor.Goals as goal
 
-pub returns-then-common-eq1-clause-first : goal.returns-then-common-eq1-clause-first
-returns-then-common-eq1-clause-first c = one-dvd c.args.first
-
-pub returns-then-common-eq1-clause-all : goal.returns-then-common-eq1-clause-all
-returns-then-common-eq1-clause-all c k = one-dvd _
+pub returns-then-common-eq1 : goal.returns-then-common-eq1
+returns-then-common-eq1 c =
+    let one : c.loop-num.common ≡ 1 = search rules in
+    record {
+      positive = omega arith;
+      first = one-dvd c.args.first;
+      all = λ k. one-dvd _;
+      greatest = λ d in_first each. subst (λ (n : ℕ). d ∣ n) one (c.loop-num.invariant.greatest d in_first each);
+    }
 
 pub loop-num-preserved : goal.loop-num-preserved
 loop-num-preserved c =
@@ -25,11 +29,10 @@ loop-num-preserved c =
       greatest = λ d in_first each. gcd.2 d (each c.loop-num.num-index) (c.loop-num.invariant.greatest d in_first each);
     }
 
-pub returns-clause-all : goal.returns-clause-all
-returns-clause-all c =
-    divides_each c.args.nums.now c.loop-num.num-index c.loop-num.common (omega (arith, c.loop-num-test.false)) c.loop-num.invariant.all
-
-pub returns-then-common-eq1-clause-greatest : goal.returns-then-common-eq1-clause-greatest
-returns-then-common-eq1-clause-greatest c d in_first each =
-    let one : c.loop-num.common ≡ 1 = search rules in
-    subst (λ (n : ℕ). d ∣ n) one (c.loop-num.invariant.greatest d in_first each)
+pub returns : goal.returns
+returns c = record {
+  positive = c.loop-num.invariant.positive;
+  first = c.loop-num.invariant.first;
+  all = divides_each c.args.nums.now c.loop-num.num-index c.loop-num.common (omega (arith, c.loop-num-test.false)) c.loop-num.invariant.all;
+  greatest = c.loop-num.invariant.greatest;
+}

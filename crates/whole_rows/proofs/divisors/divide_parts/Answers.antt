@@ -1,7 +1,7 @@
 use Rattle.std.proofs.Common.{pos, FitsSigned, w64, rules}
 use Rattle.std.proofs.lemmas.Nat.Gcd.{dvd_trans}
 use Rattle.number_laws.proofs.Order.{above_zero}
-use Rattle.whole_rows.specs.Rows.{RowDef}
+use Rattle.whole_rows.specs.Rows.{row_over}
 use Rattle.whole_rows.proofs.Read.{read}
 use Rattle.whole_rows.proofs.Dividing.{common_positive, divisor_fits, gcd_read, quot_exact, quotient_read, parts_divided}
 use Rattle.whole_rows.proofs.Larger.{greatest_of_parts, reduced_already, reduced_row}
@@ -24,33 +24,33 @@ overflow_cast-common c =
     c.greatest_common_divisor-first.ensures in
     divisor_fits c.args.den _ c.requires.positive fits_den (dvd_trans _ c.common_divisor-common.ensures.first gcd.1)
 
-pub returns-then-common-eq1-clause-same : goal.returns-then-common-eq1-clause-same
-returns-then-common-eq1-clause-same c =
-    let fits_limit : FitsSigned w64 c.args.limit = search rules in
-    let fits_den : FitsSigned w64 c.args.den = search rules in
-    rw (read c.args.limit fits_limit, read c.args.den fits_den)
-    (same_row (record { nums = c.args.nums.now; limit = c.args.limit; den = c.args.den }))
-
-pub divide_all-requires-clause-positive : goal.divide_all-requires-clause-positive
-divide_all-requires-clause-positive c =
+pub divide_all-requires : goal.divide_all-requires
+divide_all-requires c =
     let fits_limit : FitsSigned w64 c.args.limit = search rules in
     let fits_den : FitsSigned w64 c.args.den = search rules in
     let gcd = gcd_read c.args.limit c.args.den _ _ _ fits_limit fits_den c.unsigned_abs.ensures.value c.unsigned_abs-2.ensures.value
     c.greatest_common_divisor-first.ensures in
     let fits = divisor_fits c.args.den _ c.requires.positive fits_den (dvd_trans _ c.common_divisor-common.ensures.first gcd.1) in
-    rw (read (pos c.common_divisor-common.result) fits) (above_zero _ c.common_divisor-common.ensures.positive)
+    rw (read (pos c.common_divisor-common.result) fits) (record {
+      positive = above_zero _ c.common_divisor-common.ensures.positive;
+      divisor = c.common_divisor-common.ensures.all;
+    })
 
-pub divide_all-requires-clause-divisor : goal.divide_all-requires-clause-divisor
-divide_all-requires-clause-divisor c =
+pub returns-then-common-eq1 : goal.returns-then-common-eq1
+returns-then-common-eq1 c =
     let fits_limit : FitsSigned w64 c.args.limit = search rules in
     let fits_den : FitsSigned w64 c.args.den = search rules in
     let gcd = gcd_read c.args.limit c.args.den _ _ _ fits_limit fits_den c.unsigned_abs.ensures.value c.unsigned_abs-2.ensures.value
     c.greatest_common_divisor-first.ensures in
-    let fits = divisor_fits c.args.den _ c.requires.positive fits_den (dvd_trans _ c.common_divisor-common.ensures.first gcd.1) in
-    rw (read (pos c.common_divisor-common.result) fits) c.common_divisor-common.ensures.all
+    let row = row_over c.args.nums.now c.args.limit c.args.den in
+    rw (read c.args.limit fits_limit, read c.args.den fits_den) (record {
+      same = same_row row;
+      lowest = reduced_already row c.common_divisor-common.result (search rules)
+          (greatest_of_parts row _ c.common_divisor-common.result gcd c.common_divisor-common.ensures.greatest);
+    })
 
-pub returns-clause-same : goal.returns-clause-same
-returns-clause-same c =
+pub returns : goal.returns
+returns c =
     let g = c.common_divisor-common.result in
     let fits_limit : FitsSigned w64 c.args.limit = search rules in
     let fits_den : FitsSigned w64 c.args.den = search rules in
@@ -60,35 +60,12 @@ returns-clause-same c =
     let in_den = dvd_trans _ c.common_divisor-common.ensures.first gcd.1 in
     let fits = divisor_fits c.args.den _ c.requires.positive fits_den in_den in
     let above = above_zero _ c.common_divisor-common.ensures.positive in
-    rw (quotient_read c.args.limit (pos g) fits_limit fits above, quotient_read c.args.den (pos g) fits_den fits above)
-    (parts_divided c.args.nums.now _ c.args.limit c.args.den g c.common_divisor-common.ensures.positive
-    (rw (read (pos g) fits) at c.divide_all.ensures) in_limit in_den)
-
-pub returns-then-common-eq1-clause-lowest : goal.returns-then-common-eq1-clause-lowest
-returns-then-common-eq1-clause-lowest c =
-    let fits_limit : FitsSigned w64 c.args.limit = search rules in
-    let fits_den : FitsSigned w64 c.args.den = search rules in
-    let gcd = gcd_read c.args.limit c.args.den _ _ _ fits_limit fits_den c.unsigned_abs.ensures.value c.unsigned_abs-2.ensures.value
-    c.greatest_common_divisor-first.ensures in
-    let row : RowDef = record { nums = c.args.nums.now; limit = c.args.limit; den = c.args.den } in
-    rw (read c.args.limit fits_limit, read c.args.den fits_den)
-    (reduced_already row c.common_divisor-common.result (search rules)
-    (greatest_of_parts row _ c.common_divisor-common.result gcd c.common_divisor-common.ensures.greatest))
-
-pub returns-clause-lowest : goal.returns-clause-lowest
-returns-clause-lowest c =
-    let g = c.common_divisor-common.result in
-    let fits_limit : FitsSigned w64 c.args.limit = search rules in
-    let fits_den : FitsSigned w64 c.args.den = search rules in
-    let gcd = gcd_read c.args.limit c.args.den _ _ _ fits_limit fits_den c.unsigned_abs.ensures.value c.unsigned_abs-2.ensures.value
-    c.greatest_common_divisor-first.ensures in
-    let in_limit = dvd_trans _ c.common_divisor-common.ensures.first gcd.0 in
-    let in_den = dvd_trans _ c.common_divisor-common.ensures.first gcd.1 in
-    let fits = divisor_fits c.args.den _ c.requires.positive fits_den in_den in
-    let above = above_zero _ c.common_divisor-common.ensures.positive in
-    let row : RowDef = record { nums = c.args.nums.now; limit = c.args.limit; den = c.args.den } in
+    let row = row_over c.args.nums.now c.args.limit c.args.den in
     let divided = rw (read (pos g) fits) at c.divide_all.ensures in
     rw (quotient_read c.args.limit (pos g) fits_limit fits above, quotient_read c.args.den (pos g) fits_den fits above)
-    (reduced_row row _ g c.common_divisor-common.ensures.positive
-    (λ k. divided.each k) (quot_exact c.args.limit (pos g) above in_limit) (quot_exact c.args.den (pos g) above in_den)
-    (greatest_of_parts row _ g gcd c.common_divisor-common.ensures.greatest))
+    (record {
+      same = parts_divided c.args.nums.now _ c.args.limit c.args.den g c.common_divisor-common.ensures.positive divided in_limit in_den;
+      lowest = reduced_row row _ g c.common_divisor-common.ensures.positive
+          (λ k. divided.each k) (quot_exact c.args.limit (pos g) above in_limit) (quot_exact c.args.den (pos g) above in_den)
+          (greatest_of_parts row _ g gcd c.common_divisor-common.ensures.greatest);
+    })

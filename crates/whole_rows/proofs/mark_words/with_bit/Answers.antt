@@ -3,11 +3,11 @@ use Rattle.std.proofs.lemmas.Bool.{cases_eq}
 use Rattle.std.proofs.lemmas.Nat.Bits.{bit_at_set_same, bit_at_set_other}
 use Rattle.whole_rows.proofs.mark_words.with_bit.Goals as goal
 
-pub returns-clause-own : goal.returns-clause-own
-returns-clause-own c = bit_at_set_same w64 c.args.word c.args.bit c.requires
-
-pub returns-clause-kept : goal.returns-clause-kept
-returns-clause-kept c k has = elim (cases_eq k c.args.bit) [
-  | inl here ↦ rw here (bit_at_set_same w64 c.args.word c.args.bit c.requires)
-  | inr other ↦ bit_at_set_other w64 c.args.word c.args.bit c.requires k other ∙ has
-]
+pub returns : goal.returns
+returns c = record {
+  own = bit_at_set_same w64 c.args.word c.args.bit c.requires;
+  kept = λ k has. elim (cases_eq k c.args.bit) [
+    | inl here ↦ rw here (bit_at_set_same w64 c.args.word c.args.bit c.requires)
+    | inr other ↦ bit_at_set_other w64 c.args.word c.args.bit c.requires k other ∙ has
+  ];
+}

@@ -7,21 +7,29 @@ use Rattle.whole_runs.specs.States.{table_seen}
 use Rattle.whole_runs.proofs.choice.least_ratio.Goals as goal
 use Rattle.whole_runs.proofs.choice.least_ratio.Goals.{in-Some, in_default}
 
-pub returns-then-cell-basis-clause-least : goal.returns-then-cell-basis-clause-least
-returns-then-cell-basis-clause-least c e k stands is l at =
+pub returns-then-cell-basis : goal.returns-then-cell-basis
+returns-then-cell-basis c =
     let p = c.args.program.now in
     let inv = c.loop-j.invariant in
-    none_before_next p c.args.rows.now c.args.basis.now stands c.args.column.now e k c.loop-j.j inv.0 (height p) c.loop-j.best is l at
-    inv.1 (inv.4 e k stands is l at) (omega (arith, inv.2, c.requires.basis)) (omega (arith, c.requires.rows))
-    (λ lj. omega (arith, c.if-cell-basis.true, c.requires.basis))
+    record {
+      least = λ e k stands is l at.
+          none_before_next p c.args.rows.now c.args.basis.now stands c.args.column.now e k c.loop-j.j inv.0 (height p) c.loop-j.best is l at
+          inv.1 (inv.4 e k stands is l at) (omega (arith, inv.2, c.requires.basic_each)) (omega (arith, c.requires.row_each))
+          (λ lj. omega (arith, c.if-cell-basis.true, c.requires.basic_each));
+      within = row_up c.loop-j.best inv.0 (height p) (omega (arith, inv.2, c.requires.basic_each)) inv.3;
+    }
 
-pub returns-clause-least : goal.returns-clause-least
-returns-clause-least c e k stands is l at =
+pub returns : goal.returns
+returns c =
     let p = c.args.program.now in
     let inv = c.loop-j.invariant in
-    none_before_next p c.args.rows.now c.args.basis.now stands c.args.column.now e k c.loop-j.j inv.0 (height p) c.loop-j.best is l at
-    inv.1 (inv.4 e k stands is l at) (omega (arith, inv.2, c.requires.basis)) (omega (arith, c.requires.rows))
-    (λ lj. absurd (omega (arith, c.loop-j-test.false)))
+    record {
+      least = λ e k stands is l at.
+          none_before_next p c.args.rows.now c.args.basis.now stands c.args.column.now e k c.loop-j.j inv.0 (height p) c.loop-j.best is l at
+          inv.1 (inv.4 e k stands is l at) (omega (arith, inv.2, c.requires.basic_each)) (omega (arith, c.requires.row_each))
+          (λ lj. absurd (omega (arith, c.loop-j-test.false)));
+      within = row_up c.loop-j.best inv.0 (height p) (omega (arith, inv.2, c.requires.basic_each)) inv.3;
+    }
 
 pub loop-j-preserved : goal.loop-j-preserved
 loop-j-preserved c =

@@ -33,7 +33,9 @@ loop-i-preserved c =
           c.num_of-num.ensures.value (rw num at c.in_ok-push_num.ensures));
     }
 
-pub returns-clause-column : goal.returns-clause-column
-returns-clause-column c =
-    all_read c.loop-i.i c.args.program.now c.args.rows.now c.args.k c.loop-i.column.items c.loop-i.invariant.within
-    (omega (arith, c.loop-i-test.false)) c.loop-i.invariant.read
+pub returns : goal.returns
+returns c = record {
+  column = all_read c.loop-i.i c.args.program.now c.args.rows.now c.args.k c.loop-i.column.items c.loop-i.invariant.within
+      (omega (arith, c.loop-i-test.false)) c.loop-i.invariant.read;
+  marked = c.loop-i.invariant.marked;
+}

@@ -1,4 +1,4 @@
-use Rattle.std.proofs.Common.{rules, refl, ◌∙◌}
+use Rattle.std.proofs.Common.{rules, refl, ◌∙◌, arith}
 use Rattle.std.proofs.lemmas.Result.{err_from_is_err_and}
 use Rattle.program_form.specs.Certificate.{dual_seen}
 use Rattle.program_form.specs.declared.certificate.Dual.{Dual}
@@ -9,8 +9,15 @@ use Rattle.whole_runs.proofs.Causes.{stop_of}
 use Rattle.whole_runs.proofs.Ending.{stand_of, objective_lowest, value_lowest, is_primal}
 use Rattle.whole_runs.proofs.end.finish.Goals as goal
 
-pub dual_of-requires-clause-stands : goal.dual_of-requires-clause-stands
-dual_of-requires-clause-stands c = stand_of c.args.program.now c.requires.0 c.args.stands.now c.requires.2
+pub dual_of-requires : goal.dual_of-requires
+dual_of-requires c = record {
+  read = record {
+    places = c.objective-objective.ensures.places;
+    stand_each = c.requires.1.stand_each;
+    each = stand_of c.args.program.now c.requires.0 c.args.stands.now c.requires.2;
+  };
+  last = search rules;
+}
 
 pub returns-in_err-dual : goal.returns-in_err-dual
 returns-in_err-dual c basis t are low =
@@ -22,8 +29,12 @@ returns-in_err-dual c basis t are low =
     (c.in_err-dual.ensures t (objective_lowest c.args.program.now c.args.rows.now basis c.args.stands.now objective t
     c.objective-objective.ensures.row low)))
 
-pub primal_of-requires-clause-stands : goal.primal_of-requires-clause-stands
-primal_of-requires-clause-stands c = stand_of c.args.program.now c.requires.0 c.args.stands.now c.requires.2
+pub primal_of-requires : goal.primal_of-requires
+primal_of-requires c = record {
+  objective = omega (arith, c.requires.1.row_each);
+  stand_each = c.requires.1.stand_each;
+  each = stand_of c.args.program.now c.requires.0 c.args.stands.now c.requires.2;
+}
 
 pub returns : goal.returns
 returns c basis t are low =

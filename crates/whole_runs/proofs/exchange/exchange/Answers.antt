@@ -1,4 +1,4 @@
-use Rattle.std.proofs.Common.{◌<◌, length, set, None, arith}
+use Rattle.std.proofs.Common.{◌<◌, length, length-set, set, None, arith}
 use Rattle.std.proofs.lemmas.List.{get_or_default}
 use Rattle.std.proofs.lemmas.Result.{err_from_is_err_and}
 use Rattle.whole_runs.specs.Large.{IsSomeTooLarge, AreTooLarge}
@@ -9,29 +9,30 @@ use Rattle.whole_runs.proofs.Halting.{large_divided}
 use Rattle.whole_runs.proofs.Taking.{exchanged_rows, places_divided, divided_below}
 use Rattle.whole_runs.proofs.exchange.exchange.Goals as goal
 
-pub divide-requires-clause-places : goal.divide-requires-clause-places
-divide-requires-clause-places c =
+pub divide-requires : goal.divide-requires
+divide-requires c =
     let inside : c.args.r < length c.args.rows.now = omega (arith, c.requires.row, c.requires.row_each) in
-    rw (get_or_default c.args.rows.now c.args.r c.index-rows-r.result None inside) (c.requires.places c.args.r inside)
+    rw (get_or_default c.args.rows.now c.args.r c.index-rows-r.result None inside) (record {
+      places = c.requires.places c.args.r inside;
+      within = c.requires.row;
+      place = c.requires.place;
+      above = c.requires.above;
+    })
 
-pub divide-requires-clause-above : goal.divide-requires-clause-above
-divide-requires-clause-above c =
-    let inside : c.args.r < length c.args.rows.now = omega (arith, c.requires.row, c.requires.row_each) in
-    rw (get_or_default c.args.rows.now c.args.r c.index-rows-r.result None inside) c.requires.above
-
-pub take_all-requires-clause-places : goal.take_all-requires-clause-places
-take_all-requires-clause-places c =
+pub take_all-requires : goal.take_all-requires
+take_all-requires c =
     let inside : c.args.r < length c.args.rows.now = omega (arith, c.requires.row, c.requires.row_each) in
     let divides : Divides c.args.program.now c.args.r (row_at c.args.rows.now c.args.r) c.args.k c.divide.new.row c.divide.new.pivot
     = rw (get_or_default c.args.rows.now c.args.r c.index-rows-r.result None inside) at c.in_ok-divide.ensures in
-    places_divided c.args.program.now c.args.rows.now c.args.k c.args.r c.divide.new.row c.divide.new.pivot divides c.requires.places
-
-pub take_all-requires-clause-below : goal.take_all-requires-clause-below
-take_all-requires-clause-below c =
-    let inside : c.args.r < length c.args.rows.now = omega (arith, c.requires.row, c.requires.row_each) in
-    let divides : Divides c.args.program.now c.args.r (row_at c.args.rows.now c.args.r) c.args.k c.divide.new.row c.divide.new.pivot
-    = rw (get_or_default c.args.rows.now c.args.r c.index-rows-r.result None inside) at c.in_ok-divide.ensures in
-    divided_below c.args.program.now c.args.r (row_at c.args.rows.now c.args.r) c.args.k c.divide.new.row c.divide.new.pivot divides
+    record {
+      sparse = c.requires.column.sparse;
+      within = λ j l. omega (arith, length-set c.args.rows.now c.args.r c.divide.new.row, c.requires.column.below j l);
+      places = places_divided c.args.program.now c.args.rows.now c.args.k c.args.r c.divide.new.row c.divide.new.pivot divides
+          c.requires.places;
+      place = c.requires.place;
+      below = divided_below c.args.program.now c.args.r (row_at c.args.rows.now c.args.r) c.args.k c.divide.new.row c.divide.new.pivot
+          divides;
+    }
 
 pub returns-in_err-take_all : goal.returns-in_err-take_all
 returns-in_err-take_all c =

@@ -8,6 +8,7 @@ use Rattle.whole_rows.proofs.Marking.{words_within}
 use Rattle.program_form.specs.Program.{columns}
 use Rattle.whole_rows.specs.Rows.{entry_at}
 use Rattle.whole_runs.specs.States.{table_seen}
+use Rattle.whole_runs.specs.Exchanges.{AreSmallRows}
 use Rattle.whole_runs.specs.Takings.{ExchangesRows}
 use Rattle.whole_runs.proofs.Halting.{some_leaves, step_stop}
 use Rattle.whole_runs.proofs.Following.{step_placed, step_from}
@@ -27,47 +28,43 @@ unreachable-requires c =
     c.args.e c.args.k c.args.tableau.now.stands.items (rw c.deref.ensures.value at c.in_ok-read_column.ensures.column)
     c.requires.enters.within c.requires.place)
 
-pub returns-in_err-exchange-clause-next : goal.returns-in_err-exchange-clause-next
-returns-in_err-exchange-clause-next c =
+pub returns-in_err-exchange : goal.returns-in_err-exchange
+returns-in_err-exchange c =
     let p = c.args.program.now in
-    let t = c.args.tableau.now in
     let stop = err_from_is_err_and c.from_residual-in_err-exchange.result c.from_residual-in_err-exchange.ensures.1 in
     rw (stop.1, stop.2)
     (step_stop c.in_err-exchange.field-0.0
     (λ (u : Unit {0}). ExchangesRows p c.args.tableau.now.rows.items c.exchange.new.rows c.args.k c.in-Some.r c.exchange.new.lines.pivot)
-    p t.rows.items _ t.basis.items t.basis.items t.stands.items t.stands.items
-    c.args.e c.args.k c.in-Some.r c.requires.enters c.requires.place
+    p c.args.tableau.now _ c.args.e c.args.k c.in-Some.r c.requires.enters c.requires.place
     ((rw (c.deref-2.ensures.value, c.deref-3.ensures.value, c.deref-4.ensures.value) at c.in-Some.ensures.least)
     c.args.e c.args.k c.args.tableau.now.stands.items (rw c.deref.ensures.value at c.in_ok-read_column.ensures.column)
     c.requires.enters.within c.requires.place)
     (rw c.deref_mut.ensures.value at c.in_err-exchange.ensures))
 
-pub join_marks-requires-clause-words : goal.join_marks-requires-clause-words
-join_marks-requires-clause-words c =
+pub join_marks-requires : goal.join_marks-requires
+join_marks-requires c =
     let p = c.args.program.now in
     let rows = c.args.tableau.now.rows.items in
-    rw c.entries.ensures.value
-    (λ m l. words_within (columns p) (length rows) (entry_at c.exchange.new.lines.pivot.entries m).place c.read_column.new.marks
-    (rw c.deref.ensures.value at c.in_ok-read_column.ensures.marked).room
-    (pivot_places p rows c.exchange.new.rows c.args.k c.in-Some.r c.exchange.new.lines.pivot
-    (rw c.deref_mut.ensures.value at c.in_ok-exchange.ensures) m l))
-
-pub join_marks-requires-clause-from : goal.join_marks-requires-clause-from
-join_marks-requires-clause-from c =
-    words_within (columns c.args.program.now) (length c.args.tableau.now.rows.items) c.args.k c.read_column.new.marks
-    (rw c.deref.ensures.value at c.in_ok-read_column.ensures.marked).room
-    (c.requires.stands.place c.args.e c.args.k c.requires.enters.within c.requires.place)
+    let room = (rw c.deref.ensures.value at c.in_ok-read_column.ensures.marked).room in
+    rw c.entries.ensures.value (record {
+      words = λ m l.
+          words_within (columns p) (length rows) (entry_at c.exchange.new.lines.pivot.entries m).place c.read_column.new.marks room
+          (pivot_places p rows c.exchange.new.rows c.args.k c.in-Some.r c.exchange.new.lines.pivot
+          (rw c.deref_mut.ensures.value at c.in_ok-exchange.ensures) m l);
+      from = words_within (columns p) (length rows) c.args.k c.read_column.new.marks room
+          (c.requires.tableau.stands.place c.args.e c.args.k c.requires.enters.within c.requires.place);
+    })
 
 pub index_mut-requires-2 : goal.index_mut-requires-2
 index_mut-requires-2 c =
     let left : c.index-left.result.now ≡ slice_index c.args.tableau.now.basis.items c.in-Some.r =
     c.index-left.ensures ∙ get_or_default c.args.tableau.now.basis.items c.in-Some.r c.index-left.result.now 0
-    (omega (arith, c.in-Some.ensures.within, c.requires.size.basic_each)) in
+    (omega (arith, c.in-Some.ensures.within, c.requires.tableau.size.basic_each)) in
     omega (
       arith,
       left,
-      c.requires.stands.basic_within c.in-Some.r c.in-Some.ensures.within,
-      c.requires.size.stand_each,
+      c.requires.tableau.stands.basic_within c.in-Some.r c.in-Some.ensures.within,
+      c.requires.tableau.size.stand_each,
     )
 
 -- Where the state is given back.
@@ -93,46 +90,39 @@ same_rows c = with_items_is c.args.tableau.now.rows c.exchange.new.rows
 
 left : (c : AtReturn) → c.index-left.result.now ≡ slice_index c.args.tableau.now.basis.items c.in-Some.r
 left c = c.index-left.ensures ∙ get_or_default c.args.tableau.now.basis.items c.in-Some.r c.index-left.result.now 0
-    (omega (arith, c.in-Some.ensures.within, c.requires.size.basic_each))
+    (omega (arith, c.in-Some.ensures.within, c.requires.tableau.size.basic_each))
 
-pub returns-clause-next : goal.returns-clause-next
-returns-clause-next c =
+small : (c : AtReturn) → AreSmallRows c.args.program.now c.exchange.new.rows
+small c = search rules
+
+pub returns : goal.returns
+returns c =
     let p = c.args.program.now in
     let t = c.args.tableau.now in
-    rw (same_rows c, left c)
-    (step_done p t.rows.items c.exchange.new.rows t.basis.items t.stands.items c.args.e c.args.k c.in-Some.r
-    c.requires.size c.requires.stands c.requires.small c.requires.enters c.requires.place (leaves c) (exchanged c).0)
-
-pub returns-clause-small : goal.returns-clause-small
-returns-clause-small c =
-    rw (same_rows c) (search rules)
-
-pub returns-clause-marked : goal.returns-clause-marked
-returns-clause-marked c =
-    let p = c.args.program.now in
-    let t = c.args.tableau.now in
-    rw (same_rows c)
-    (step_marked p t.rows.items c.exchange.new.rows t.basis.items t.stands.items c.read_column.new.marks c.join_marks.new.marks
-    c.exchange.new.lines.pivot c.args.e c.args.k c.in-Some.r
-    c.requires.size c.requires.stands c.requires.small c.requires.enters c.requires.place (leaves c) (exchanged c)
-    (rw c.deref.ensures.value at c.in_ok-read_column.ensures.marked) c.join_marks.ensures.kept
-    (rw (← c.entries.ensures.value) c.join_marks.ensures.joined))
-
-pub returns-clause-placed : goal.returns-clause-placed
-returns-clause-placed c =
-    let p = c.args.program.now in
-    let t = c.args.tableau.now in
-    rw (left c)
-    (step_placed p t.rows.items t.basis.items t.stands.items t.outside.items c.args.e c.args.k c.in-Some.r
-    c.requires.size c.requires.stands c.requires.enters c.requires.place (leaves c) c.requires.placed)
-
-pub returns-clause-earlier : goal.returns-clause-earlier
-returns-clause-earlier c =
-    let p = c.args.program.now in
-    let t = c.args.tableau.now in
-    rw (same_rows c, left c)
-    (step_from p t.rows.items c.exchange.new.rows t.basis.items t.stands.items t.outside.items c.exchange.new.lines.pivot
-    c.objective.result.now c.args.e c.args.k c.in-Some.r c.least_above.result
-    c.requires.size c.requires.stands c.requires.small c.requires.enters c.requires.place (leaves c) (exchanged c)
-    c.requires.placed (rw (c.deref-5.ensures.value, same_rows c) at c.objective.ensures.row) c.least_above.ensures.first
-    (rw (c.entries-2.ensures.value, c.deref-6.ensures.value, left c) at c.least_above.ensures.each))
+    let is = c.requires.tableau in
+    let done =
+    step_done p t.rows.items c.exchange.new.rows t.basis.items t.stands.items c.args.e c.args.k c.in-Some.r
+    is.size is.stands is.small c.requires.enters c.requires.place (leaves c) (exchanged c).0 in
+    record {
+      tableau = record {
+        size = rw (same_rows c, left c) done.0;
+        stands = rw (left c) done.1;
+        small = rw (same_rows c) (small c);
+        marked = rw (same_rows c)
+            (step_marked p t.rows.items c.exchange.new.rows t.basis.items t.stands.items c.read_column.new.marks c.join_marks.new.marks
+            c.exchange.new.lines.pivot c.args.e c.args.k c.in-Some.r
+            is.size is.stands is.small c.requires.enters c.requires.place (leaves c) (exchanged c)
+            (rw c.deref.ensures.value at c.in_ok-read_column.ensures.marked) c.join_marks.ensures.kept
+            (rw (← c.entries.ensures.value) c.join_marks.ensures.joined));
+        placed = rw (left c)
+            (step_placed p t.rows.items t.basis.items t.stands.items t.outside.items c.args.e c.args.k c.in-Some.r
+            is.size is.stands c.requires.enters c.requires.place (leaves c) is.placed);
+      };
+      exchanged = rw (same_rows c, left c) done.2;
+      earlier = rw (same_rows c, left c)
+          (step_from p t.rows.items c.exchange.new.rows t.basis.items t.stands.items t.outside.items c.exchange.new.lines.pivot
+          c.objective.result.now c.args.e c.args.k c.in-Some.r c.least_above.result
+          is.size is.stands is.small c.requires.enters c.requires.place (leaves c) (exchanged c)
+          is.placed (rw (c.deref-5.ensures.value, same_rows c) at c.objective.ensures.row) c.least_above.ensures.first
+          (rw (c.entries-2.ensures.value, c.deref-6.ensures.value, left c) at c.least_above.ensures.each));
+    }

@@ -11,18 +11,21 @@ use Rattle.whole_runs.proofs.Taking.{next_places, taken_more, taken_past}
 use Rattle.whole_runs.proofs.exchange.take_all.Goals as goal
 use Rattle.whole_runs.proofs.exchange.take_all.Goals.{then-cell-r+in_ok-take_from, else-cell-r}
 
-pub take_from-requires-clause-places : goal.take_from-requires-clause-places
-take_from-requires-clause-places c =
+pub take_from-requires : goal.take_from-requires
+take_from-requires c =
     let i = (entry_at c.args.lines.now.column.items c.loop-j.j).place in
     let listed : c.loop-j.j < length c.args.lines.now.column.items = omega (arith, c.loop-j-test.true) in
     let cell : c.index-cell.result.now ≡ entry_at c.args.lines.now.column.items c.loop-j.j =
     c.index-cell.ensures ∙ get_or_default c.args.lines.now.column.items c.loop-j.j c.index-cell.result.now
     (record { place = 0; num = pos 0 }) listed in
-    let row = c.requires.rows c.loop-j.j listed in
+    let row = c.requires.within c.loop-j.j listed in
     let inside : i < length c.loop-j.rows = omega (arith, row, c.loop-j.invariant.as_many) in
-    rw (cell, get_or_default c.loop-j.rows i c.index-rows-cell.result None inside)
-    (next_places c.loop-j.j c.args.program.now c.args.rows.now c.loop-j.rows c.args.lines.now.column.items c.args.k c.args.r c.args.lines.now.pivot
-    c.requires.sparse c.requires.rows listed c.requires.places c.loop-j.invariant)
+    rw (cell, get_or_default c.loop-j.rows i c.index-rows-cell.result None inside) (record {
+      places = next_places c.loop-j.j c.args.program.now c.args.rows.now c.loop-j.rows c.args.lines.now.column.items c.args.k c.args.r
+          c.args.lines.now.pivot c.requires.sparse c.requires.within listed c.requires.places c.loop-j.invariant;
+      place = c.requires.place;
+      below = c.requires.below;
+    })
 
 pub returns-in_err-take_from : goal.returns-in_err-take_from
 returns-in_err-take_from c =
@@ -32,7 +35,7 @@ returns-in_err-take_from c =
     let cell : c.index-cell.result.now ≡ entry_at c.args.lines.now.column.items c.loop-j.j =
     c.index-cell.ensures ∙ get_or_default c.args.lines.now.column.items c.loop-j.j c.index-cell.result.now
     (record { place = 0; num = pos 0 }) listed in
-    let row = c.requires.rows c.loop-j.j listed in
+    let row = c.requires.within c.loop-j.j listed in
     let inside : i < length c.loop-j.rows = omega (arith, row, c.loop-j.invariant.as_many) in
     let stop = err_from_is_err_and c.from_residual.result c.from_residual.ensures.1 in
     rw (stop.1, stop.2)
@@ -41,7 +44,7 @@ returns-in_err-take_from c =
     (IsTooLargeFor p i (row_at c.loop-j.rows i) c.args.k c.args.lines.now.pivot)
     (IsSomeTooLarge p c.args.rows.now c.args.k c.args.r c.args.lines.now.pivot)
     (λ large. large_listed c.loop-j.j p c.args.rows.now c.loop-j.rows c.args.lines.now.column.items c.args.k c.args.r c.args.lines.now.pivot
-    c.requires.sparse c.requires.rows listed (rw cell at c.if-cell-r.true) c.loop-j.invariant large)
+    c.requires.sparse c.requires.within listed (rw cell at c.if-cell-r.true) c.loop-j.invariant large)
     (rw (cell, get_or_default c.loop-j.rows i c.index-rows-cell.result None inside) at c.in_err-take_from.ensures))
 
 pub loop-j-preserved : goal.loop-j-preserved
@@ -51,13 +54,13 @@ loop-j-preserved c =
     let cell : c.index-cell.result.now ≡ entry_at c.args.lines.now.column.items c.loop-j.j =
     c.index-cell.ensures ∙ get_or_default c.args.lines.now.column.items c.loop-j.j c.index-cell.result.now
     (record { place = 0; num = pos 0 }) listed in
-    let row = c.requires.rows c.loop-j.j listed in
+    let row = c.requires.within c.loop-j.j listed in
     let inside : i < length c.loop-j.rows = omega (arith, row, c.loop-j.invariant.as_many) in
     elim c.if-cell-r.branch [
       | then-cell-r+in_ok-take_from w ↦
           rw (w.rows-is, cell)
           (taken_more c.loop-j.j c.args.program.now c.args.rows.now c.loop-j.rows w.take_from.new.row c.args.lines.now.column.items c.args.k
-          c.args.r c.args.lines.now.pivot c.requires.sparse c.requires.rows listed (rw cell at w.if-cell-r.true) c.loop-j.invariant
+          c.args.r c.args.lines.now.pivot c.requires.sparse c.requires.within listed (rw cell at w.if-cell-r.true) c.loop-j.invariant
           (rw (cell, get_or_default c.loop-j.rows i w.index-rows-cell.result None inside) at w.in_ok-take_from.ensures))
       | else-cell-r w ↦
           rw w.rows-is

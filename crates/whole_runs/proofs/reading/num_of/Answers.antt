@@ -10,17 +10,14 @@ overflow_cast-result c =
     (c.coefficient_at.ensures ∙ coefficient_is p c.args.i c.coefficients.result.now c.args.k c.requires.place c.coefficients.ensures.row)
     (entry_small p c.args.i c.args.k c.coefficients.ensures.program)
 
-pub returns-in-None-clause-value : goal.returns-in-None-clause-value
-returns-in-None-clause-value c =
+pub returns-in-None : goal.returns-in-None
+returns-in-None c =
     let p = c.args.program.now in
-    rw (row_read c.args.rows.now c.args.i c.index-rows-i.result c.requires.row c.index-rows-i.is, c.in-None.is)
-    (signed_is c.coefficient_at.result (entry p c.args.i c.args.k)
-    (c.coefficient_at.ensures ∙ coefficient_is p c.args.i c.coefficients.result.now c.args.k c.requires.place c.coefficients.ensures.row)
-    (entry_small p c.args.i c.args.k c.coefficients.ensures.program))
-
-pub returns-in-None-clause-small : goal.returns-in-None-clause-small
-returns-in-None-clause-small c =
-    let p = c.args.program.now in
-    signed_small c.coefficient_at.result (entry p c.args.i c.args.k)
-    (c.coefficient_at.ensures ∙ coefficient_is p c.args.i c.coefficients.result.now c.args.k c.requires.place c.coefficients.ensures.row)
-    (entry_small p c.args.i c.args.k c.coefficients.ensures.program)
+    let is =
+    c.coefficient_at.ensures ∙ coefficient_is p c.args.i c.coefficients.result.now c.args.k c.requires.place c.coefficients.ensures.row in
+    let small = entry_small p c.args.i c.args.k c.coefficients.ensures.program in
+    record {
+      value = rw (row_read c.args.rows.now c.args.i c.index-rows-i.result c.requires.row c.index-rows-i.is, c.in-None.is)
+          (signed_is c.coefficient_at.result (entry p c.args.i c.args.k) is small);
+      small = signed_small c.coefficient_at.result (entry p c.args.i c.args.k) is small;
+    }

@@ -1,17 +1,26 @@
 use Rattle.std.proofs.Common.{rules, ◌≡◌, length, pos, to_z, w64, arith}
 use Rattle.program_form.specs.Program.{columns, limit}
-use Rattle.whole_runs.proofs.Starting.{refilled, coefficients_small, first_row_is}
+use Rattle.whole_runs.proofs.Starting.{refilled, zero_at, coefficients_small, first_row_is}
 use Rattle.whole_runs.proofs.start.first_row.Goals as goal
 
-pub write_all-requires-clause-small : goal.write_all-requires-clause-small
-write_all-requires-clause-small c =
+pub write_all-requires : goal.write_all-requires
+write_all-requires c =
     let h = c.coefficients-coefficients.ensures in
-    coefficients_small c.args.program.now c.args.i c.coefficients-coefficients.result.now h.program c.requires h.listed h.row
+    record {
+      listed = search rules;
+      small = coefficients_small c.args.program.now c.args.i c.coefficients-coefficients.result.now h.program c.requires h.listed h.row;
+      zero = λ v.
+          rw c.deref_mut.ensures.value
+          (zero_at _ v c.in_ok-nums.nums.items (c.in_ok-nums.ensures.items_if_clones_equal (λ y same. same)));
+    }
 
-pub greatest-most-requires-clause-small : goal.greatest-most-requires-clause-small
-greatest-most-requires-clause-small c =
+pub greatest-most-requires : goal.greatest-most-requires
+greatest-most-requires c =
     let h = c.coefficients-coefficients.ensures in
-    coefficients_small c.args.program.now c.args.i c.coefficients-coefficients.result.now h.program c.requires h.listed h.row
+    record {
+      small = coefficients_small c.args.program.now c.args.i c.coefficients-coefficients.result.now h.program c.requires h.listed h.row;
+      first = search rules;
+    }
 
 pub returns : goal.returns
 returns c =

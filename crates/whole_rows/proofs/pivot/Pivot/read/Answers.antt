@@ -12,7 +12,4 @@ invariant_of-self c =
     c.unsigned_abs.ensures.value ∙ ap (λ z. unsigned_abs (to_z w64 (of_z w64 z))) limit in
     listed_small c.args.row.now _ _ small (rw c.nums.ensures.value at c.list_nums-listed.ensures.from)
     (limit ∙ c.limit-self-inside.ensures.value) (den ∙ c.den-self-inside.ensures.value)
-    (rw size at c.greatest_listed-self-inside.ensures.first)
-    (rw c.deref.ensures.value at c.greatest_listed-self-inside.ensures.all)
-    (λ bound l w. c.greatest_listed-self-inside.ensures.least bound (rw size l) (rw c.deref.ensures.value w))
-    (rw (size, c.deref.ensures.value) at c.greatest_listed-self-inside.ensures.attained)
+    (rw (size, c.deref.ensures.value) at c.greatest_listed-self-inside.ensures)

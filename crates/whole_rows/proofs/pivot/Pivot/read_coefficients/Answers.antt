@@ -8,10 +8,7 @@ pub invariant_of-self : goal.invariant_of-self
 invariant_of-self c =
     let limit_is : to_z w64 c.args.limit ≡ pos c.args.limit = to_z_pos w64 c.args.limit (omega (arith, c.requires.limit)) in
     first_bounded c.requires.listed.0 c.args.coefficients.now c.args.limit _ _ c.requires.listed.1 c.requires.small c.requires.limit
-    c.list_coefficients-listed.ensures.first limit_is refl c.greatest_listed-self-inside.ensures.first
-    (rw c.deref.ensures.value at c.greatest_listed-self-inside.ensures.all)
-    (λ bound l w. c.greatest_listed-self-inside.ensures.least bound l (rw c.deref.ensures.value w))
-    (rw c.deref.ensures.value at c.greatest_listed-self-inside.ensures.attained)
+    c.list_coefficients-listed.ensures.first limit_is refl (rw c.deref.ensures.value at c.greatest_listed-self-inside.ensures)
 
 pub returns : goal.returns
 returns c =

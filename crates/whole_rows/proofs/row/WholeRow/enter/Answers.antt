@@ -4,7 +4,7 @@ use Rattle.whole_rows.proofs.row.WholeRow.enter.Goals as goal
 
 pub returns-then-self-ne1 : goal.returns-then-self-ne1
 returns-then-self-ne1 c =
-    divided_row c.args.self.now c.args.k c.reduce.new.self c.requires.place (rw c.swap_in.ensures.swapped at c.reduce.ensures.same)
+    divided_row c.args.self.now c.args.k c.reduce.new.self c.requires.place (rw c.swap_in.ensures.swapped at c.reduce.ensures.reduced.same)
     c.reduce.ensures.small
 
 pub returns-else-self-ne1 : goal.returns-else-self-ne1

@@ -25,8 +25,8 @@ invariant_of-self c =
     rw (c.deref_mut.ensures.value, read _ own_limit, read _ own_den) at c.divide_parts-limit.ensures.same in
     rw (items, read _ fits_limit, read _ fits_den) (same_bounded (row_view c.self.inside) left c.self.inside.most c.self.invariant same)
 
-pub returns-clause-same : goal.returns-clause-same
-returns-clause-same c =
+pub returns-clause-reduced : goal.returns-clause-reduced
+returns-clause-reduced c =
     let fits_limit : FitsSigned w64 c.divide_parts-limit.result.0 = search rules in
     let fits_den : FitsSigned w64 c.divide_parts-limit.result.1 = search rules in
     let own_limit : FitsSigned w64 c.self.inside.limit = search rules in
@@ -35,16 +35,7 @@ returns-clause-same c =
     c.divide_parts-limit.ensures.same.nums.as_many ∙ c.deref_mut.ensures.len in
     let items = with_items_is c.self.inside.nums c.divide_parts-limit.new.nums many in
     rw (items, read _ fits_limit, read _ fits_den, ← c.self.view_is)
-    (rw (c.deref_mut.ensures.value, read _ own_limit, read _ own_den) at c.divide_parts-limit.ensures.same)
+    (rw (c.deref_mut.ensures.value, read _ own_limit, read _ own_den) at c.divide_parts-limit.ensures)
 
 pub returns-clause-small : goal.returns-clause-small
 returns-clause-small c = small_cells _ _ (invariant_of-self c)
-
-pub returns-clause-lowest : goal.returns-clause-lowest
-returns-clause-lowest c =
-    let fits_limit : FitsSigned w64 c.divide_parts-limit.result.0 = search rules in
-    let fits_den : FitsSigned w64 c.divide_parts-limit.result.1 = search rules in
-    let many : length c.divide_parts-limit.new.nums ≡ c.self.inside.nums.len =
-    c.divide_parts-limit.ensures.same.nums.as_many ∙ c.deref_mut.ensures.len in
-    let items = with_items_is c.self.inside.nums c.divide_parts-limit.new.nums many in
-    rw (items, read _ fits_limit, read _ fits_den) c.divide_parts-limit.ensures.lowest

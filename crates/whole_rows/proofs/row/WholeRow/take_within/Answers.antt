@@ -8,18 +8,24 @@ use Rattle.whole_rows.proofs.Read.{read, product_read}
 use Rattle.whole_rows.proofs.Taking.{den_small, room_of, listed_within, taken_bounded, left_row, IsTakenRow}
 use Rattle.whole_rows.proofs.row.WholeRow.take_within.Goals as goal
 
-pub take_from-requires-clause-room : goal.take_from-requires-clause-room
-take_from-requires-clause-room c =
+pub take_from-requires : goal.take_from-requires
+take_from-requires c =
     let fits_f : FitsSigned w64 c.cancelled-f.result.0 = search rules in
     let fits_p : FitsSigned w64 c.cancelled-f.result.1 = search rules in
     let row = row_view c.self.inside in
     let pivot = c.args.pivot.now in
     let bounded : IsBounded (row_view c.self.inside) c.args.most = rw (← c.self.view_is) at c.requires.bounded in
     let value = rw (read _ fits_f, read _ fits_p) at c.in-Some.ensures.value in
-    rw (read _ fits_f, read _ fits_p, c.deref_mut.ensures.value, c.entries.ensures.value)
-    (λ j. room_of row pivot c.args.most c.most.result c.in-Some.bound c.cancelled-f.result.1 c.cancelled-f.result.0
-    bounded c.most.ensures value c.in-Some.ensures.fits (num_at row j) (listed_at pivot.entries j) (bounded.nums j)
-    (listed_within pivot.entries c.most.result j c.most.ensures.sparse c.most.ensures.nums))
+    let given = rw (← c.self.view_is) at c.requires in
+    rw (read _ fits_f, read _ fits_p, c.deref_mut.ensures.value, c.entries.ensures.value) (record {
+      place = given.place;
+      sparse = c.most.ensures.sparse;
+      below = given.below;
+      room = λ j.
+          room_of row pivot c.args.most c.most.result c.in-Some.bound c.cancelled-f.result.1 c.cancelled-f.result.0
+          bounded c.most.ensures value c.in-Some.ensures.fits (num_at row j) (listed_at pivot.entries j) (bounded.nums j)
+          (listed_within pivot.entries c.most.result j c.most.ensures.sparse c.most.ensures.nums);
+    })
 
 pub less_times-self-inside-requires : goal.less_times-self-inside-requires
 less_times-self-inside-requires c =
@@ -78,8 +84,8 @@ invariant_of-self c =
     (taken_bounded row left pivot c.args.k c.args.most c.most.result c.in-Some.bound p f bounded c.most.ensures
     c.cancelled-f.ensures.form.positive value c.in-Some.ensures.fits taken)
 
-pub returns-clause-left : goal.returns-clause-left
-returns-clause-left c divided own =
+pub returns : goal.returns
+returns c =
     let f = c.cancelled-f.result.0 in
     let p = c.cancelled-f.result.1 in
     let row = row_view c.self.inside in
@@ -113,11 +119,17 @@ returns-clause-left c divided own =
     let cut : IsCancelled (num_at (row_view c.self.inside) c.args.k) c.args.pivot.now.den c.cancelled-f.result.0 c.cancelled-f.result.1 =
     rw (read _ fits_num, number, read _ fits_den, c.den.ensures.value) at c.cancelled-f.ensures.form in
     rw (items, read _ fits_left, product_read c.self.inside.den p own_den fits_p small, ← c.self.view_is)
-    (left_row row left divided pivot c.args.k c.args.most c.most.result c.in-Some.bound p f bounded c.most.ensures cut
-    value c.in-Some.ensures.fits taken own)
+    (record {
+      left = λ divided own.
+          left_row row left divided pivot c.args.k c.args.most c.most.result c.in-Some.bound p f bounded c.most.ensures cut
+          value c.in-Some.ensures.fits taken own;
+      as_many = taken.nums.as_many;
+      stays = tt;
+      large = tt;
+    })
 
-pub returns-in-None-clause-large : goal.returns-in-None-clause-large
-returns-in-None-clause-large c =
+pub returns-in-None : goal.returns-in-None
+returns-in-None c =
     let fits_f : FitsSigned w64 c.cancelled-f.result.0 = search rules in
     let fits_p : FitsSigned w64 c.cancelled-f.result.1 = search rules in
     let within : c.args.k < length c.self.inside.nums.items = rw (← c.self.view_is) at c.requires.place in
@@ -128,11 +140,16 @@ returns-in-None-clause-large c =
     let cut : IsCancelled (num_at (row_view c.self.inside) c.args.k) c.args.pivot.now.den c.cancelled-f.result.0 c.cancelled-f.result.1 =
     rw (read _ fits_num, number, read _ fits_den, c.den.ensures.value) at c.cancelled-f.ensures.form in
     rw (← c.self.view_is) (record {
-      f = c.cancelled-f.result.0;
-      p = c.cancelled-f.result.1;
-      factor = cut;
-      apart = c.cancelled-f.ensures.apart;
-      other = c.most.result;
-      is_other = c.most.ensures.attained;
-      large = rw (read _ fits_f, read _ fits_p) at c.in-None.ensures.large;
+      left = λ divided own. tt;
+      as_many = refl;
+      stays = refl;
+      large = record {
+        f = c.cancelled-f.result.0;
+        p = c.cancelled-f.result.1;
+        factor = cut;
+        apart = c.cancelled-f.ensures.apart;
+        other = c.most.result;
+        is_other = c.most.ensures.attained;
+        large = rw (read _ fits_f, read _ fits_p) at c.in-None.ensures.large;
+      };
     })
