@@ -1,9 +1,10 @@
 -- What a load of an input makes of a shelf, and leaves in its readings.
-use Rattle.std.specs.Prelude.{◌≡◌, ℕ, ◌<◌, ◌≤◌, ◌↔◌, true, List, ◌∷◌, length, vec_len, is_some, Result, Ok, Err, IfOk, OnOk, IsErrOf, Vec}
-use Rattle.std.specs.Io.KnownBytes.{IsAtEnd}
+use Rattle.std.specs.Prelude.{◌≡◌, ℕ, ◌+◌, ◌<◌, ◌≤◌, ◌↔◌, true, List, ◌∷◌, length, vec_len, is_some, Result, Ok, Err, IfOk, OnOk, IsErrOf, Vec}
+use Rattle.std.specs.Io.KnownBytes.{IsAtEnd, Consumes}
 use Rattle.std.specs.Global.{Global}
 use Rattle.outside_ports.specs.Counts.{Rose}
 use Rattle.outside_ports.specs.Ports.{ShelfDef}
+use Rattle.outside_ports.specs.Rests.{HasMore}
 use Rattle.outside_ports.specs.Past.{Asked, begun, unbegun, wholly, partly}
 use Rattle.outside_ports.specs.declared.shelf.ShelfFault.TheVariants as shelf
 use Rattle.outside_ports.specs.declared.whole.LoadFault.{LoadFault}
@@ -36,3 +37,12 @@ pub record LoadsFrom (old new : ShelfDef) (answer : Result (Vec ℕ Global) Load
   pub calm : OnOk answer (new.faults ≡ old.faults)
   pub want : IsErrOf answer load.Memory → new.faults ≡ old.faults
   pub steady : old.steady ≡ true → (new.steady ≡ true) × (new.faults ≡ old.faults) × (IsErrOf answer load.Read → ⊥)
+
+-- What a load makes of a shelf after its start, of which nothing was read yet. The answer's bytes are what the rest lost. An input that was
+-- started isn't absent, and one that is too long had a longer rest. There is at most one call more than an input may have bytes.
+pub record ReadsAll (old new : ShelfDef) (answer : Result (Vec ℕ Global) LoadFault) : Type 0 where
+  pub whole : IfOk answer (λ bytes. Consumes old.rest new.rest bytes.items)
+  pub loads : LoadsFrom old new answer
+  pub present : IsErrOf answer load.Absent → ⊥
+  pub longer : IsErrOf answer load.TooLong → HasMore old.rest GREATEST_INPUT_BYTES
+  pub few_calls : new.calls ≤ old.calls + (GREATEST_INPUT_BYTES + 1)

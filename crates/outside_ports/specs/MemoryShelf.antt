@@ -1,5 +1,5 @@
 -- A shelf in memory: inputs, and a list of the calls that fail.
-use Rattle.std.specs.Prelude.{◌≡◌, ℕ, ◌==◌, Bool, List, length, Option, Some, None, Result, Ok, Err, if◌then◌else◌}
+use Rattle.std.specs.Prelude.{◌≡◌, ℕ, ◌==◌, ◌++◌, min, Bool, List, length, take, drop, Option, Some, None, Result, Ok, Err, if◌then◌else◌}
 use Rattle.std.specs.List.{list_any}
 use Rattle.outside_ports.specs.Counts.{counted}
 use Rattle.outside_ports.specs.Names.{Inputs, bytes_of}
@@ -45,3 +45,8 @@ pub record CountsCall (old new : MemoryShelf) : Type 0 where
   pub failing : new.failing ≡ old.failing
   pub calls : new.calls ≡ counted old.calls
   pub faults : new.faults ≡ (if fails_next old then counted old.faults else old.faults)
+
+-- Was this many bytes moved from the front of the rest to the front of the buffer? It is the least of `piece` and of both lengths.
+pub record MovesFront (rest : List ℕ) (piece : ℕ) (old new : List ℕ) (moved_bytes : ℕ) : Type 0 where
+  pub count : moved_bytes ≡ min (min piece (length old)) (length rest)
+  pub moved : rest ≡ take moved_bytes new ++ drop moved_bytes rest

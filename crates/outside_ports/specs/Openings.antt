@@ -1,5 +1,5 @@
 -- What follows from each answer of the system, for a shelf of its files and for standard output.
-use Rattle.std.specs.Prelude.{◌≡◌, ℕ, suc, zero, List, Option, Some, None, Result, Ok, Err, IsErr}
+use Rattle.std.specs.Prelude.{◌≡◌, ℕ, ◌≤◌, suc, zero, List, Option, Some, None, Result, Ok, Err, IsErr}
 use Rattle.std.specs.Io.KnownBytes.{ReadConsumes}
 use Rattle.std.specs.IoError.{error_kind}
 use Rattle.std.specs.declared.io.Error.{Error}
@@ -30,6 +30,13 @@ abbrev pub faults_started : ℕ → Result (Unit {0}) ShelfFault → ℕ
 faults_started faults (Ok _) = faults
 faults_started faults (Err shelf.Memory) = faults
 faults_started faults (Err fault) = counted faults
+
+-- Do this answer of `start`, this file and this count of faults follow from the system's answer? The count never falls.
+pub record IsTaken {F : Type 0} (opening : Result F Error) (told : Result (Unit {0}) ShelfFault) (started : Option F) (before after : ℕ) : Type 0 where
+  pub answer : told ≡ opening_answer opening
+  pub file : started ≡ opened_file opening
+  pub faults : after ≡ faults_started before told
+  pub later : before ≤ after
 
 -- Do this answer of `start`, this file and this count of faults follow from an answer of the opener to this name? `opens` says which
 -- answers the opener may give.

@@ -3,7 +3,7 @@ ghost use Rattle.std.specs.Prelude.{None, false};
 ghost use Rattle.std.specs.Io.{ReadsAtMost};
 ghost use Rattle.std.specs.IoError.{error_kind};
 ghost use Rattle.outside_ports.specs.Counts.{Rose};
-ghost use Rattle.outside_ports.specs.Openings.{fault_by, opening_answer, opened_file, faults_started, FollowsOpening};
+ghost use Rattle.outside_ports.specs.Openings.{fault_by, IsTaken, FollowsOpening};
 ghost use Rattle.outside_ports.specs.Openings.{FollowsRead, faults_called};
 ghost use Rattle.outside_ports.specs.Readings.{AsksFor, ReadsOn};
 
@@ -96,11 +96,8 @@ impl<O: Opener + Drop> FileShelf<O> {
     /// Takes the answer of an opening. Its file is started, and none of it has been given yet. After an error no file is started. The error
     /// is counted, except for want of memory.
     fn take(&mut self, name: &str, opening: io::Result<O::File>) -> Result<(), ShelfFault>
-        ensures answer { result ≡ opening_answer opening }
-        ensures file { self.new.file ≡ opened_file opening }
+        ensures taken { IsTaken opening result self.new.file self.old.faults self.new.faults }
         ensures given { self.new.given ≡ 0 }
-        ensures faults { self.new.faults ≡ faults_started self.old.faults result }
-        ensures later { self.old.faults ≤ self.new.faults }
         ensures asks { AsksFor self.old.history.past.readings self.new.history.past.readings name.now result }
     {
         self.given = 0;

@@ -1,12 +1,11 @@
-ghost use Rattle.std.specs.Prelude.{◌≡◌, ℕ, ◌+◌, ◌-◌, ◌^◌, ◌<◌, ◌≤◌, ◌↔◌, ◌++◌, [], true, min, length, take, drop, Some};
+ghost use Rattle.std.specs.Prelude.{◌≡◌, ℕ, ◌+◌, ◌-◌, ◌^◌, ◌<◌, ◌≤◌, ◌↔◌, [], true, min, length, Some};
 ghost use Rattle.std.specs.Prelude.{None, is_some, IsTrue, IfErr, IsOk, IfOk, IsErr, IsErrOf, OnOk, OnErr, MatchResult};
-ghost use Rattle.std.specs.Prelude.{MatchOption};
 ghost use Rattle.std.specs.Io.{ReadsAtMost};
 ghost use Rattle.std.specs.Io.KnownBytes.{ReadConsumes, IsAtEnd};
 ghost use Rattle.outside_ports.specs.Counts.{Rose};
-ghost use Rattle.outside_ports.specs.Names.{bytes_of, Opens, IsAbsent};
-ghost use Rattle.outside_ports.specs.MemoryShelf.{never_fails, fails_next, start_answer, CountsCall};
-ghost use Rattle.outside_ports.specs.MemoryShelfView.{inputs_of, rest_at};
+ghost use Rattle.outside_ports.specs.Names.{Opens, IsAbsent};
+ghost use Rattle.outside_ports.specs.MemoryShelf.{never_fails, fails_next, start_answer, CountsCall, MovesFront};
+ghost use Rattle.outside_ports.specs.MemoryShelfView.{inputs_of, rest_at, IsPlaceOf};
 ghost use Rattle.outside_ports.specs.Readings.{AsksFor, ReadsOn};
 
 use crate::history::{History, Note};
@@ -165,8 +164,7 @@ impl Shelf for MemShelf {
 
 /// The place of the first file of this name.
 fn place_of(files: &[(String, Vec<u8>)], name: &str) -> Option<usize>
-    ensures { MatchOption result (bytes_of (inputs_of files.now) name.now ≡ None)
-        (λ place. bytes_of (inputs_of files.now) name.now ≡ Some (rest_at (inputs_of files.now) place 0)) }
+    ensures { IsPlaceOf (inputs_of files.now) name.now result }
 {
     for (place, file) in files.iter().enumerate() {
         if file.0.as_str() == name {
@@ -191,8 +189,7 @@ fn rest_from(files: &[(String, Vec<u8>)], place: usize, at: usize) -> &[u8]
 
 /// Copies the front of the rest to the front of the buffer: the least of `piece` and the two lengths.
 fn give(rest: &[u8], piece: usize, buffer: &mut [u8]) -> usize
-    ensures count { result ≡ min (min piece (length buffer.old)) (length rest.now) }
-    ensures moved { rest.now ≡ take result buffer.new ++ drop result rest.now }
+    ensures { MovesFront rest.now piece buffer.old buffer.new result }
 {
     let count = piece.min(buffer.len()).min(rest.len());
     buffer[..count].copy_from_slice(&rest[..count]);

@@ -1,11 +1,10 @@
 ghost use Rattle.std.specs.Prelude.{◌≡◌, ℕ, ◌+◌, ◌-◌, ◌≤◌, length, Result, is_some, IfOk, IsOk, OnOk, OnErr, IsErrOf};
-ghost use Rattle.std.specs.Io.KnownBytes.{Appends, Consumes};
+ghost use Rattle.std.specs.Io.KnownBytes.{Appends};
 ghost use Rattle.outside_ports.specs.Counts.{Rose};
 ghost use Rattle.outside_ports.specs.Names.{IsNamed, IsLonger, IsAbsent};
 ghost use Rattle.outside_ports.specs.Prefix.{AppendsPart};
 ghost use Rattle.outside_ports.specs.Answers.{FollowsStart};
-ghost use Rattle.outside_ports.specs.Rests.{HasMore};
-ghost use Rattle.outside_ports.specs.Loads.{Leaves, LeavesBegun, LoadsFrom};
+ghost use Rattle.outside_ports.specs.Loads.{Leaves, LeavesBegun, LoadsFrom, ReadsAll};
 ghost use Rattle.outside_ports.specs.declared.shelf.ShelfFault.{ShelfFault};
 
 use crate::shelf::{Shelf, ShelfFault};
@@ -72,12 +71,8 @@ pub fn load<S: Shelf>(alloc: Global, shelf: &mut S, name: &str) -> Result<Vec<u8
 /// The rest of the started input, from a shelf that has given none of it yet.
 fn read_all<S: Shelf>(alloc: Global, shelf: &mut S) -> Result<Vec<u8>, LoadFault>
     requires { (S.seen shelf.old).given ≡ 0 }
-    ensures whole { IfOk result (λ bytes. Consumes (S.seen shelf.old).rest (S.seen shelf.new).rest bytes.items) }
-    ensures loads { LoadsFrom (S.seen shelf.old) (S.seen shelf.new) result }
-    ensures present { IsErrOf result LoadFault.Absent → ⊥ }
+    ensures reads { ReadsAll (S.seen shelf.old) (S.seen shelf.new) result }
     ensures leaves { LeavesBegun result (S.seen shelf.old).readings (S.seen shelf.new).readings }
-    ensures longer { IsErrOf result LoadFault.TooLong → HasMore (S.seen shelf.old).rest GREATEST_INPUT_BYTES }
-    ensures few_calls { (S.seen shelf.new).calls ≤ (S.seen shelf.old).calls + (GREATEST_INPUT_BYTES + 1) }
 {
     let mut bytes = Vec::new(alloc);
     let mut buffer = [0u8; 4096];
