@@ -3,7 +3,7 @@
 ghost use Rattle.std.specs.Prelude.{◌≡◌, ◌≢◌, ℕ, ◌<◌, length, IfOk, OnOk};
 ghost use Rattle.whole_rows.specs.Rows.{AreBelow};
 ghost use Rattle.free_search.specs.Tables.{HavePlaces, row_at};
-ghost use Rattle.free_search.specs.RowSteps.{CanTake, IsTaken};
+ghost use Rattle.free_search.specs.RowSteps.{ChangesRow, CanTake, IsTaken};
 ghost use Rattle.free_search.specs.Given.{IsRowAbove, CanExchange};
 ghost use Rattle.free_search.specs.Exchanges.{OnlyRowChanges, DividesRow, IsExchanged, AreTakenTo, ExchangesRows};
 
@@ -26,8 +26,7 @@ pub(crate) struct Tableau {
 // Takes the pivot row away from a row, its cell at place k times. If that cell is 0, the row stays.
 fn take_from(alloc: Global, row: &mut FreeRow, k: usize, pivot: &Pivot) -> Result<(), AllocError>
     requires { CanTake row.old k pivot.now }
-    ensures places { length row.new.nums ≡ length row.old.nums }
-    ensures left { OnOk result (IsTaken row.old k pivot.now row.new) }
+    ensures { ChangesRow result row.old row.new (IsTaken row.old k pivot.now) }
 {
     // its denominator is above 0, so where nothing is taken away each cell keeps its value
     let _positive = row.den();

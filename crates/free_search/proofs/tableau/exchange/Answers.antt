@@ -23,7 +23,7 @@ returns c =
     record {
       rows = subst (λ (after : List RowDef). AreExchanged old.rows.items after c.args.k c.args.r) (sym same) rows.0;
       objective = subst (λ (after : List RowDef). IsLeftRow old.objective c.args.k (row_at after c.args.r) c.take_from.new.row) (sym same)
-          (c.in_ok-take_from.ensures.left _ rows.1 rows.0.divided.positive);
+          (c.in_ok-take_from.ensures.changed _ rows.1 rows.0.divided.positive);
       basis = ap (set old.basis.items c.args.r) entered;
       outside = ap (set old.outside.items c.args.k) left;
     }
