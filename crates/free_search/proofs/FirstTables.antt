@@ -16,16 +16,9 @@ use Rattle.whole_runs.specs.declared.stands.Stand.TheVariants.{Outside, Basic}
 use Rattle.whole_runs.proofs.FirstTable.{first_placed, first_stands_are, starts}
 use Rattle.whole_runs.proofs.Seen.{cell_of_limit, cell_of_variable, cell_past}
 use Rattle.free_search.specs.Tables.{row_at, rows_seen, HavePositive, AreStandsOf, IsAfter, table_with}
+use Rattle.free_search.specs.Begun.{AreFirstParts}
 use Rattle.free_search.specs.declared.tableau.Tableau.{Tableau}
 use Rattle.free_search.proofs.SeenRows.{row_seen, objective_seen, length_seen}
-
--- Are these the parts of the first table?
-pub record AreFirstParts (p : ProgramDef) (tableau : Tableau) : Type 0 where
-  pub row_each : length tableau.rows.items ≡ height p
-  pub rows : (i : ℕ) → i < height p → IsFirstRow p i (row_at tableau.rows.items i)
-  pub costs : IsCostRow p tableau.objective
-  pub basis : IsFirstBasis p tableau.basis.items
-  pub outside : AreFirstOutside p tableau.outside.items
 
 -- where variable v is at first, if there are n columns
 abbrev first_stand : ℕ → ℕ → Stand

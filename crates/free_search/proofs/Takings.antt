@@ -2,7 +2,8 @@
 use Rattle.std.proofs.Common.{◌≡◌, ◌≢◌, inl, inr, ℕ, ◌+◌, ◌<◌, List, length, refl, sym, ap, ◌∙◌, subst, arith}
 use Rattle.std.proofs.lemmas.Bool.{cases_eq}
 use Rattle.whole_rows.specs.Rows.{RowDef, PivotDef, AreBelow, IsPivotOf}
-use Rattle.free_search.specs.Exchanges.{IsTaken, AreTakenTo, ExchangesRows}
+use Rattle.free_search.specs.RowSteps.{IsTaken}
+use Rattle.free_search.specs.Exchanges.{AreTakenTo, ExchangesRows}
 use Rattle.free_search.specs.Rows.{IsDividedRow, IsLeftRow}
 use Rattle.free_search.specs.Tables.{row_at, HavePlaces}
 

@@ -1,5 +1,5 @@
 -- Which place enters, and which row leaves, said of numbers: the denominators of a ratio cancel.
-use Rattle.std.specs.Prelude.{ℕ, ◌<◌, ◌≤◌, List, length, slice_index, Bool, true, false, Some, None, ℤ, pos, ◌*ℤ◌, ◌≤ℤ◌, ◌<ℤ◌}
+use Rattle.std.specs.Prelude.{◌≡◌, ◌⊎◌, ℕ, ◌<◌, ◌≤◌, List, length, slice_index, Bool, true, false, Some, None, IfSome, ℤ, pos, ◌*ℤ◌, ◌≤ℤ◌, ◌<ℤ◌}
 use Rattle.std.specs.declared.option.Option.{Option}
 use Rattle.whole_rows.specs.Rows.{RowDef, num_at}
 use Rattle.whole_rows.specs.Numbers.{number_at}
@@ -46,3 +46,15 @@ pub record Precedes (rows : List RowDef) (basis : List ℕ) (k r i : ℕ) : Type
 abbrev pub Comes : Bool → List RowDef → List ℕ → ℕ → ℕ → ℕ → Type 0
 Comes true rows basis k i j = Precedes rows basis k i j
 Comes false rows basis k i j = Precedes rows basis k j i
+
+-- Is this the one of two places whose variable is less? There may be no best one yet.
+pub record IsLesser (before : Option ℕ) (j : ℕ) (outside : List ℕ) (k : ℕ) : Type 0 where
+  pub one : (k ≡ j) ⊎ (before ≡ Some k)
+  pub other : slice_index outside k ≤ slice_index outside j
+  pub best : IfSome before (λ b. slice_index outside k ≤ slice_index outside b)
+
+-- Is this the one of two rows that comes before the other? There may be no best one yet.
+pub record IsEarlier (rows : List RowDef) (basis : List ℕ) (k : ℕ) (before : Option ℕ) (i r : ℕ) : Type 0 where
+  pub one : (r ≡ i) ⊎ (before ≡ Some r)
+  pub row : Precedes rows basis k r i
+  pub best : IfSome before (λ b. Precedes rows basis k r b)

@@ -70,10 +70,6 @@ IsFoundDual p t d = IsLowestDual p t d ⊎ (HasNoExactDual p t × IsFinestDual p
 abbrev pub IsTooGreat : ProgramDef → Table → Type 0
 IsTooGreat p t = HasGreatDual p t 1 ⊎ ((n : ℕ) × (IsFloor (value_of p t) (pos n)) × (2 ^ 64 ≤ n))
 
--- Is there a list that says where the variables of the table are?
-abbrev pub HasStands : ProgramDef → Tableau → Type 0
-HasStands p tableau = (stands : List Stand) × AreStandsOf p tableau stands
-
 -- Is this read from table t, and are these the units?
 pub record IsReadFrom (p : ProgramDef) (t : Table) (units : ℕ) (found : Found) : Type 0 where
   pub used : found.used ≡ units

@@ -1,13 +1,20 @@
 -- What an exchange makes of the rows.
-use Rattle.std.specs.Prelude.{◌≡◌, ◌≢◌, ℕ, ◌<◌, ◌≤◌, List, length, slice_index, slice_set, pos, ◌<ℤ◌}
+use Rattle.std.specs.Prelude.{◌≡◌, ◌≢◌, ℕ, ◌<◌, ◌≤◌, List, length, slice_index, slice_set}
 use Rattle.whole_rows.specs.Rows.{RowDef, PivotDef, IsPivotOf}
 use Rattle.free_search.specs.Tables.{row_at}
 use Rattle.free_search.specs.Rows.{IsDividedRow, IsLeftRow}
+use Rattle.free_search.specs.RowSteps.{IsTaken}
 use Rattle.free_search.specs.declared.tableau.Tableau.{Tableau}
 
--- Is it what is left of the row, if the pivot is that of the divided row?
-abbrev pub IsTaken : RowDef → ℕ → PivotDef → RowDef → Type 0
-IsTaken row k pivot left = (divided : RowDef) → IsPivotOf pivot divided → pos 0 <ℤ divided.den → IsLeftRow row k divided left
+-- Are there as many rows as before, each of them but r as it was?
+pub record OnlyRowChanges (before : List RowDef) (r : ℕ) (after : List RowDef) : Type 0 where
+  pub as_many : length after ≡ length before
+  pub others : (i : ℕ) → i ≢ r → row_at after i ≡ row_at before i
+
+-- Is row r divided by its cell at k, and is this its pivot then?
+pub record DividesRow (before : List RowDef) (k r : ℕ) (after : List RowDef) (taken : PivotDef) : Type 0 where
+  pub divided : IsDividedRow (row_at before r) k (row_at after r)
+  pub pivot : IsPivotOf taken (row_at after r)
 
 -- Is each of the first n rows but r changed in this way, and are all others as they were?
 pub record AreTakenTo (n : ℕ) (before after : List RowDef) (k r : ℕ) (pivot : PivotDef) : Type 0 where

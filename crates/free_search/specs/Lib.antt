@@ -6,6 +6,8 @@ pub mod Rows
 pub mod RowSteps
 pub mod Exchanges
 pub mod Choice
+pub mod Begun
 pub mod Rounding
 pub mod EndSteps
+pub mod Given
 pub mod Ends

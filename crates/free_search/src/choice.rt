@@ -1,9 +1,10 @@
 //! Which variable enters the basis, and which row leaves it.
 
-ghost use Rattle.std.specs.Prelude.{◌≡◌, ◌⊎◌, ℕ, ◌<◌, ◌≤◌, length, slice_index, IfOk, IfSome, pos, ◌≤ℤ◌, ◌<ℤ◌};
+ghost use Rattle.std.specs.Prelude.{◌≡◌, ℕ, ◌<◌, length, IfOk, IfSome};
 ghost use Rattle.whole_rows.specs.Rows.{num_at};
 ghost use Rattle.free_search.specs.Tables.{HavePlaces, row_at};
-ghost use Rattle.free_search.specs.Choice.{EntersAt, LeavesAmong, HaveLimits, Precedes, Comes};
+ghost use Rattle.free_search.specs.Choice.{EntersAt, LeavesAmong, Comes, IsLesser, IsEarlier};
+ghost use Rattle.free_search.specs.Given.{IsRowAbove, CanCompareRows};
 
 use crate::row::FreeRow;
 use std::alloc::{AllocError, Global};
@@ -14,9 +15,7 @@ use whole_numbers::Signed;
 fn lesser(best: Option<usize>, other: usize, outside: &[usize]) -> usize
     requires other { other < length outside.now }
     requires best { IfSome best (λ k. k < length outside.now) }
-    ensures one { (result ≡ other) ⊎ (best ≡ Some result) }
-    ensures other { slice_index outside.now result ≤ slice_index outside.now other }
-    ensures best { IfSome best (λ k. slice_index outside.now result ≤ slice_index outside.now k) }
+    ensures { IsLesser best other outside.now result }
 {
     match best {
         Some(place) => {
@@ -63,13 +62,9 @@ fn comes_before(
     i: usize,
     j: usize,
 ) -> Result<bool, AllocError>
-    requires row { i < length rows.now }
-    requires other { j < length rows.now }
-    requires place { (n : ℕ) × (k < n) × HavePlaces n rows.now }
-    requires basis { length basis.now ≡ length rows.now }
-    requires limits { HaveLimits rows.now }
-    requires above { pos 0 <ℤ num_at (row_at rows.now i) k }
-    requires other_above { pos 0 <ℤ num_at (row_at rows.now j) k }
+    requires rows { CanCompareRows rows.now basis.now k }
+    requires one { IsRowAbove rows.now k i }
+    requires other { IsRowAbove rows.now k j }
     ensures { IfOk result (λ comes. Comes comes rows.now basis.now k i j) }
 {
     let ratio = rows[i]
@@ -96,16 +91,10 @@ fn earlier(
     best: Option<usize>,
     i: usize,
 ) -> Result<usize, AllocError>
-    requires row { i < length rows.now }
-    requires best { IfSome best (λ r. r < length rows.now) }
-    requires place { (n : ℕ) × (k < n) × HavePlaces n rows.now }
-    requires basis { length basis.now ≡ length rows.now }
-    requires limits { HaveLimits rows.now }
-    requires above { pos 0 <ℤ num_at (row_at rows.now i) k }
-    requires best_above { IfSome best (λ r. pos 0 <ℤ num_at (row_at rows.now r) k) }
-    ensures one { IfOk result (λ r. (r ≡ i) ⊎ (best ≡ Some r)) }
-    ensures row { IfOk result (λ r. Precedes rows.now basis.now k r i) }
-    ensures best { IfOk result (λ r. IfSome best (λ b. Precedes rows.now basis.now k r b)) }
+    requires rows { CanCompareRows rows.now basis.now k }
+    requires one { IsRowAbove rows.now k i }
+    requires best { IfSome best (IsRowAbove rows.now k) }
+    ensures { IfOk result (IsEarlier rows.now basis.now k best i) }
 {
     match best {
         Some(r) => {
@@ -123,9 +112,7 @@ pub(crate) fn leaving(
     basis: &[usize],
     k: usize,
 ) -> Result<Option<usize>, AllocError>
-    requires place { (n : ℕ) × (k < n) × HavePlaces n rows.now }
-    requires basis { length basis.now ≡ length rows.now }
-    requires limits { HaveLimits rows.now }
+    requires { CanCompareRows rows.now basis.now k }
     ensures { IfOk result (λ found. LeavesAmong found (length rows.now) rows.now basis.now k) }
 {
     let mut best = None;

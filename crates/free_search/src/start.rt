@@ -1,10 +1,10 @@
 //! The first table.
 
-ghost use Rattle.std.specs.Prelude.{◌≡◌, ℕ, ◌+◌, ◌<◌, ◌^◌, pos, length, slice_index, slice_index_or, IfOk};
-ghost use Rattle.program_form.specs.Program.{columns, height};
-ghost use Rattle.program_form.specs.SparseRows.{number_at, AreCoefficients};
-ghost use Rattle.whole_runs.specs.Starts.{IsFirstRow, IsCostRow, IsFirstBasis, AreFirstOutside};
-ghost use Rattle.free_search.specs.Tables.{row_at, HasSizes, IsAfter};
+ghost use Rattle.std.specs.Prelude.{◌≡◌, ℕ, ◌+◌, ◌<◌, ◌^◌, pos, length, slice_index_or, IfOk};
+ghost use Rattle.program_form.specs.Program.{height};
+ghost use Rattle.program_form.specs.SparseRows.{AreCoefficients};
+ghost use Rattle.whole_runs.specs.Starts.{IsFirstRow, IsCostRow};
+ghost use Rattle.free_search.specs.Begun.{AreZeros, AreWritten, AreCounted, AreRowsOf, IsFirstTable};
 
 use crate::row::FreeRow;
 use crate::tableau::Tableau;
@@ -14,8 +14,7 @@ use whole_numbers::{Signed, Whole};
 
 // So many zeros.
 fn zeros(alloc: Global, count: usize) -> Result<Vec<Signed>, AllocError>
-    ensures as_many { IfOk result (λ v. length v.items ≡ count) }
-    ensures each { IfOk result (λ v. (k : ℕ) → slice_index_or v.items k (pos 0) ≡ pos 0) }
+    ensures { IfOk result (λ v. AreZeros count v.items) }
 {
     let mut nums = Vec::with_capacity(alloc, count)?;
     for _ in 0..count {
@@ -28,8 +27,7 @@ fn zeros(alloc: Global, count: usize) -> Result<Vec<Signed>, AllocError>
 fn write_all(alloc: Global, nums: &mut [Signed], coefficients: &[Coefficient])
     requires listed { AreCoefficients (length nums.old) coefficients.now }
     requires zero { (v : ℕ) → slice_index_or nums.old v (pos 0) ≡ pos 0 }
-    ensures as_many { length nums.new ≡ length nums.old }
-    ensures each { (v : ℕ) → slice_index_or nums.new v (pos 0) ≡ pos (number_at coefficients.now v) }
+    ensures { AreWritten nums.old coefficients.now nums.new }
 {
     for coefficient in coefficients {
         nums[coefficient.column as usize] = Signed::of(Whole::of(alloc, coefficient.number));
@@ -60,8 +58,7 @@ fn cost_row(alloc: Global, program: &SparseProgram) -> Result<FreeRow, AllocErro
 
 // The rows.
 fn first_rows(alloc: Global, program: &SparseProgram) -> Result<Vec<FreeRow>, AllocError>
-    ensures as_many { IfOk result (λ rows. length rows.items ≡ height program.now) }
-    ensures each { IfOk result (λ rows. (i : ℕ) → i < height program.now → IsFirstRow program.now i (row_at rows.items i)) }
+    ensures { IfOk result (λ rows. AreRowsOf program.now rows.items) }
 {
     let mut rows = Vec::with_capacity(alloc, program.rows() as usize)?;
     for i in 0..program.rows() {
@@ -73,8 +70,7 @@ fn first_rows(alloc: Global, program: &SparseProgram) -> Result<Vec<FreeRow>, Al
 // The whole numbers from `first` on.
 fn count_from(alloc: Global, first: usize, count: usize) -> Result<Vec<usize>, AllocError>
     requires { first + count < 2 ^ 64 }
-    ensures as_many { IfOk result (λ v. length v.items ≡ count) }
-    ensures each { IfOk result (λ v. (k : ℕ) → k < count → slice_index v.items k ≡ first + k) }
+    ensures { IfOk result (λ v. AreCounted first count v.items) }
 {
     let mut list = Vec::with_capacity(alloc, count)?;
     for k in 0..count {
@@ -85,13 +81,7 @@ fn count_from(alloc: Global, first: usize, count: usize) -> Result<Vec<usize>, A
 
 /// The first table: the slacks are the basis, and each column stands at its own place.
 pub(crate) fn first_tableau(alloc: Global, program: &SparseProgram) -> Result<Tableau, AllocError>
-    ensures sizes { IfOk result (HasSizes (columns program.now)) }
-    ensures rows { IfOk result (λ t. length t.rows.items ≡ height program.now) }
-    ensures each { IfOk result (λ t. (i : ℕ) → i < height program.now → IsFirstRow program.now i (row_at t.rows.items i)) }
-    ensures objective { IfOk result (λ t. IsCostRow program.now t.objective) }
-    ensures basis { IfOk result (λ t. IsFirstBasis program.now t.basis.items) }
-    ensures outside { IfOk result (λ t. AreFirstOutside program.now t.outside.items) }
-    ensures first { IfOk result (IsAfter program.now 0) }
+    ensures { IfOk result (IsFirstTable program.now) }
 {
     let columns = program.columns() as usize;
     let rows = program.rows() as usize;

@@ -1,7 +1,6 @@
 //! A step of the run, and its end.
 
 ghost use Rattle.std.specs.Prelude.{◌≡◌, ℕ, suc, ◌+◌, ◌<◌, ◌≤◌, length, IfOk, OnOk, None};
-ghost use Rattle.program_form.specs.Program.{IsProgram, columns, height};
 ghost use Rattle.free_search.specs.Choice.{EntersAt, IsLeastPlace};
 ghost use Rattle.free_search.specs.Ends.{Searches};
 ghost use Rattle.free_search.specs.Tables.{IsAfter};
@@ -43,10 +42,6 @@ pub(crate) fn answer_at_end(
     requires after { (n : ℕ) × (used ≡ n + 1) × IsAfter program.now n tableau.now }
     requires last { EntersAt None tableau.now.objective.nums tableau.now.outside.items }
     ensures searches { (units : ℕ) → used ≤ units → Searches result program.now units }
-    ensures columns { IfOk result (λ f. length f.num.items ≡ columns program.now) }
-    ensures point_den { IfOk result (λ f. 0 < f.den) }
-    ensures rows { IfOk result (λ f. length f.dual.num.items ≡ height program.now) }
-    ensures dual_den { IfOk result (λ f. 0 < f.dual.den) }
     ensures used { IfOk result (λ f. f.used ≡ used) }
 {
     finish(alloc, program, tableau, used)

@@ -1,10 +1,11 @@
 //! The table of a run, and its exchanges.
 
-ghost use Rattle.std.specs.Prelude.{◌≡◌, ◌≢◌, ℕ, ◌<◌, length, IfOk, OnOk, pos, ◌<ℤ◌};
-ghost use Rattle.whole_rows.specs.Rows.{num_at, AreBelow, IsPivotOf};
-ghost use Rattle.free_search.specs.Tables.{HavePlaces, HasSizes, row_at};
-ghost use Rattle.free_search.specs.Rows.{IsDividedRow};
-ghost use Rattle.free_search.specs.Exchanges.{IsTaken, IsExchanged, AreTakenTo, ExchangesRows};
+ghost use Rattle.std.specs.Prelude.{◌≡◌, ◌≢◌, ℕ, ◌<◌, length, IfOk, OnOk};
+ghost use Rattle.whole_rows.specs.Rows.{AreBelow};
+ghost use Rattle.free_search.specs.Tables.{HavePlaces, row_at};
+ghost use Rattle.free_search.specs.RowSteps.{ChangesRow, CanTake, IsTaken};
+ghost use Rattle.free_search.specs.Given.{IsRowAbove, CanExchange};
+ghost use Rattle.free_search.specs.Exchanges.{OnlyRowChanges, DividesRow, IsExchanged, AreTakenTo, ExchangesRows};
 
 use crate::row::{FreeRow, Pivot};
 use std::alloc::{AllocError, Global};
@@ -24,10 +25,8 @@ pub(crate) struct Tableau {
 
 // Takes the pivot row away from a row, its cell at place k times. If that cell is 0, the row stays.
 fn take_from(alloc: Global, row: &mut FreeRow, k: usize, pivot: &Pivot) -> Result<(), AllocError>
-    requires place { k < length row.old.nums }
-    requires below { AreBelow (length row.old.nums) pivot.now.entries }
-    ensures places { length row.new.nums ≡ length row.old.nums }
-    ensures left { OnOk result (IsTaken row.old k pivot.now row.new) }
+    requires { CanTake row.old k pivot.now }
+    ensures { ChangesRow result row.old row.new (IsTaken row.old k pivot.now) }
 {
     // its denominator is above 0, so where nothing is taken away each cell keeps its value
     let _positive = row.den();
@@ -39,13 +38,10 @@ fn take_from(alloc: Global, row: &mut FreeRow, k: usize, pivot: &Pivot) -> Resul
 
 // Divides row r by its number at place k, and reads it as the pivot.
 fn divide(alloc: Global, rows: &mut [FreeRow], k: usize, r: usize) -> Result<Pivot, AllocError>
-    requires row { r < length rows.old }
+    requires row { IsRowAbove rows.old k r }
     requires place { k < length (row_at rows.old r).nums }
-    requires above { pos 0 <ℤ num_at (row_at rows.old r) k }
-    ensures divided { IfOk result (λ _. IsDividedRow (row_at rows.old r) k (row_at rows.new r)) }
-    ensures others { (i : ℕ) → i ≢ r → row_at rows.new i ≡ row_at rows.old i }
-    ensures as_many { length rows.new ≡ length rows.old }
-    ensures pivot { IfOk result (λ pivot. IsPivotOf pivot (row_at rows.new r)) }
+    ensures only { OnlyRowChanges rows.old r rows.new }
+    ensures divided { IfOk result (DividesRow rows.old k r rows.new) }
 {
     rows[r].enter(alloc, k)?;
     Pivot::of(alloc, &rows[r])
@@ -61,10 +57,8 @@ fn take_row(
     pivot: &Pivot,
 ) -> Result<(), AllocError>
     requires row { i < length rows.old }
-    requires place { k < length (row_at rows.old i).nums }
-    requires below { AreBelow (length (row_at rows.old i).nums) pivot.now.entries }
-    ensures as_many { length rows.new ≡ length rows.old }
-    ensures others { (j : ℕ) → j ≢ i → row_at rows.new j ≡ row_at rows.old j }
+    requires pivot { CanTake (row_at rows.old i) k pivot.now }
+    ensures only { OnlyRowChanges rows.old i rows.new }
     ensures own { i ≡ r → row_at rows.new i ≡ row_at rows.old i }
     ensures left { OnOk result (i ≢ r → IsTaken (row_at rows.old i) k pivot.now (row_at rows.new i)) }
 {
@@ -98,9 +92,8 @@ fn exchange_rows(
     k: usize,
     r: usize,
 ) -> Result<Pivot, AllocError>
-    requires row { r < length rows.old }
+    requires row { IsRowAbove rows.old k r }
     requires place { (n : ℕ) × (k < n) × HavePlaces n rows.old }
-    requires above { pos 0 <ℤ num_at (row_at rows.old r) k }
     ensures { IfOk result (λ pivot. ExchangesRows rows.old rows.new k r pivot) }
 {
     let pivot = divide(alloc, rows, k, r)?;
@@ -115,10 +108,7 @@ pub(crate) fn exchange(
     k: usize,
     r: usize,
 ) -> Result<(), AllocError>
-    requires place { k < length tableau.old.outside.items }
-    requires row { r < length tableau.old.rows.items }
-    requires above { pos 0 <ℤ num_at (row_at tableau.old.rows.items r) k }
-    requires sizes { HasSizes (length tableau.old.outside.items) tableau.old }
+    requires { CanExchange tableau.old k r }
     ensures { OnOk result (IsExchanged tableau.old k r tableau.new) }
 {
     let pivot = exchange_rows(alloc, &mut tableau.rows, k, r)?;

@@ -1,24 +1,25 @@
-use Rattle.free_search.proofs.Answering.{finished}
-use Rattle.free_search.proofs.Choosing.{last_seen, limits_not_below}
+use Rattle.std.proofs.Common.{arith}
+use Rattle.free_search.specs.Tables.{table_with}
+use Rattle.free_search.proofs.Answering.{finished, finished_used}
+use Rattle.free_search.proofs.Choosing.{rows_are, last_seen, limits_not_below}
+use Rattle.free_search.proofs.LeastPlaces.{none_above}
 use Rattle.free_search.proofs.Runs.{sizes_of, limit_below}
 use Rattle.free_search.proofs.step.answer_at_end.Goals as goal
 
-pub finish-requires-clause-sizes : goal.finish-requires-clause-sizes
-finish-requires-clause-sizes c =
-    let h = c.requires.after.2 in
-    sizes_of c.args.program.now c.args.tableau.now h.stands h.are
-
-pub finish-requires-clause-below : goal.finish-requires-clause-below
-finish-requires-clause-below c =
+pub finish-requires : goal.finish-requires
+finish-requires c =
     let p = c.args.program.now in
     let t = c.args.tableau.now in
+    let n = c.requires.after.0 in
     let h = c.requires.after.2 in
-    limit_below p t h.stands h.are c.requires.after.0 h.reached (last_seen p t h.stands h.are c.requires.last)
-
-pub finish-requires-clause-limits : goal.finish-requires-clause-limits
-finish-requires-clause-limits c =
-    let h = c.requires.after.2 in
-    limits_not_below c.args.program.now c.requires.after.0 c.args.tableau.now h.stands h.are h.reached
+    record {
+      sizes = sizes_of p t h.stands h.are;
+      rows = rows_are p t h.stands h.are;
+      positive = h.positive;
+      last = none_above t.objective.nums c.requires.last;
+      below = limit_below p t h.stands h.are n h.reached (last_seen p t h.stands h.are c.requires.last);
+      limits = limits_not_below p n t h.stands h.are h.reached;
+    }
 
 pub returns-clause-searches : goal.returns-clause-searches
 returns-clause-searches c = λ units within.
@@ -26,4 +27,11 @@ returns-clause-searches c = λ units within.
     let t = c.args.tableau.now in
     let h = c.requires.after.2 in
     finished c.finish.result p c.requires.after.0 units c.args.used t h c.requires.after.1 within
-    (last_seen p t h.stands h.are c.requires.last) (c.finish.ensures.read h.stands h.are)
+    (last_seen p t h.stands h.are c.requires.last) (c.finish.ensures h.stands h.are)
+
+pub returns-clause-used : goal.returns-clause-used
+returns-clause-used c =
+    let p = c.args.program.now in
+    let t = c.args.tableau.now in
+    let h = c.requires.after.2 in
+    finished_used c.finish.result p (table_with p t h.stands) c.args.used (c.finish.ensures h.stands h.are)

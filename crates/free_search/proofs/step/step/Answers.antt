@@ -9,21 +9,17 @@ use Rattle.free_search.proofs.Exchanging.{exchanged}
 use Rattle.free_search.proofs.Runs.{sizes_of, some_leaves}
 use Rattle.free_search.proofs.step.step.Goals as goal
 
-pub leaving-requires-clause-place : goal.leaving-requires-clause-place
-leaving-requires-clause-place c =
+pub leaving-requires : goal.leaving-requires
+leaving-requires c =
     let p = c.args.program.now in
     let t = c.args.tableau.now in
     let h = c.requires.after.1 in
-    rw c.deref.ensures.value (
-      columns p,
-      omega (arith, c.requires.enters.within, objective_places p t h.stands h.are),
-      (sizes_of p t h.stands h.are).rows,
-    )
-
-pub leaving-requires-clause-limits : goal.leaving-requires-clause-limits
-leaving-requires-clause-limits c =
-    let h = c.requires.after.1 in
-    rw c.deref.ensures.value (limits_not_below c.args.program.now c.requires.after.0 c.args.tableau.now h.stands h.are h.reached)
+    let sizes = sizes_of p t h.stands h.are in
+    rw (c.deref.ensures.value, c.deref-2.ensures.value) (record {
+      place = (columns p, omega (arith, c.requires.enters.within, objective_places p t h.stands h.are), sizes.rows);
+      basis = sizes.basic_each;
+      limits = limits_not_below p c.requires.after.0 t h.stands h.are h.reached;
+    })
 
 pub unreachable-requires : goal.unreachable-requires
 unreachable-requires c =
@@ -37,20 +33,18 @@ unreachable-requires c =
     some_leaves p c.requires.after.0 (table_with p t h.stands) e c.rows-rows.ensures.program h.reached enters.1.within
     (none_leaves_seen p t h.stands e c.args.k h.are enters.1.within enters.0 none)
 
-pub exchange-requires-clause-place : goal.exchange-requires-clause-place
-exchange-requires-clause-place c =
+pub exchange-requires : goal.exchange-requires
+exchange-requires c =
+    let p = c.args.program.now in
+    let t = c.args.tableau.now in
     let h = c.requires.after.1 in
-    omega (
-      arith,
-      c.requires.enters.within,
-      objective_places c.args.program.now c.args.tableau.now h.stands h.are,
-      h.are.placed.place_each,
-    )
-
-pub exchange-requires-clause-sizes : goal.exchange-requires-clause-sizes
-exchange-requires-clause-sizes c =
-    let h = c.requires.after.1 in
-    rw h.are.placed.place_each (sizes_of c.args.program.now c.args.tableau.now h.stands h.are)
+    let least : IsLeastRow (length c.args.tableau.now.rows.items) c.args.tableau.now.rows.items c.args.tableau.now.basis.items
+    c.args.k c.in-Some.r = rw (c.in-Some.is, c.deref.ensures.value, c.deref-2.ensures.value) at c.in_ok-r.ensures in
+    record {
+      place = omega (arith, c.requires.enters.within, objective_places p t h.stands h.are, h.are.placed.place_each);
+      row = record { row = least.within; above = least.above };
+      sizes = rw h.are.placed.place_each (sizes_of p t h.stands h.are);
+    }
 
 -- what holds where a call succeeds, from what holds there
 on_ok : {X E : Type 0} (r : Result X E) (A B : Type 0) → (A → B) → OnOk r A → OnOk r B

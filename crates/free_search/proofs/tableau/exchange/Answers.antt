@@ -19,11 +19,11 @@ returns c =
     = c.index-entered.ensures ∙ get_or_default old.outside.items c.args.k c.index-entered.result.now 0 c.requires.place in
     let left : c.index.result.now ≡ slice_index c.args.tableau.now.basis.items c.args.r
     = c.index.ensures ∙ get_or_default old.basis.items c.args.r c.index.result.now 0
-    (omega (arith, c.requires.row, c.requires.sizes.basic_each)) in
+    (omega (arith, c.requires.row.row, c.requires.sizes.basic_each)) in
     record {
       rows = subst (λ (after : List RowDef). AreExchanged old.rows.items after c.args.k c.args.r) (sym same) rows.0;
       objective = subst (λ (after : List RowDef). IsLeftRow old.objective c.args.k (row_at after c.args.r) c.take_from.new.row) (sym same)
-          (c.in_ok-take_from.ensures.left _ rows.1 rows.0.divided.positive);
+          (c.in_ok-take_from.ensures.changed _ rows.1 rows.0.divided.positive);
       basis = ap (set old.basis.items c.args.r) entered;
       outside = ap (set old.outside.items c.args.k) left;
     }

@@ -5,4 +5,4 @@ pub loop-i-preserved : goal.loop-i-preserved
 loop-i-preserved c =
     let step = c.in_ok-take_row.ensures in
     taken_more c.loop-i.i c.args.rows.now c.loop-i.rows c.take_row.new.rows c.args.k c.args.r c.args.pivot.now c.loop-i.invariant
-    step.as_many step.others step.own step.left
+    step.only.as_many step.only.others step.own step.left
