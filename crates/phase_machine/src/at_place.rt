@@ -1,6 +1,4 @@
 ghost use Rattle.std.specs.Prelude.{◌≡◌, ℕ, ◌<◌, ◌≤◌, length, IfSome, slice_index_or};
-ghost use Rattle.sporadic_model.specs.SetDef.{SetDef};
-ghost use Rattle.schedule_model.specs.Seen.{place_seen};
 ghost use Rattle.phase_machine.specs.Now.{phase_at_place, current_in};
 ghost use Rattle.phase_machine.specs.Given.{IsJobAt, IsPhase, NamesJob};
 

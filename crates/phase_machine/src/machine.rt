@@ -2,7 +2,7 @@ ghost use Rattle.std.specs.Prelude.{◌≡◌, ℕ, ◌+◌, ◌<◌, ◌≤◌,
 ghost use Rattle.sporadic_model.specs.declared.limits.TheConstants.{MOST_TICKS};
 ghost use Rattle.schedule_model.specs.RowDef.{RowDef};
 ghost use Rattle.schedule_model.specs.Seen.{row_seen, place_seen};
-ghost use Rattle.phase_machine.specs.MachineDef.{IsMachine, IsWithinLimits, IsPlace, place_of, task_in, under};
+ghost use Rattle.phase_machine.specs.MachineDef.{IsMachine, IsWithinLimits, under};
 ghost use Rattle.phase_machine.specs.Given.{IsPlaceOf};
 ghost use Rattle.phase_machine.specs.Now.{phase_now, current_now, active_now, holder_now, ready_now, waiting_now, issued_now};
 ghost use Rattle.phase_machine.specs.Seen.{phase_seen, NamesResource};

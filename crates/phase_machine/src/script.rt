@@ -1,11 +1,7 @@
 ghost use Rattle.std.specs.Prelude.{◌≡◌, ℕ, ◌+◌, ◌<◌, ◌≤◌, true, length};
-ghost use Rattle.sporadic_model.specs.declared.limits.TheConstants.{MOST_TICKS};
-ghost use Rattle.sporadic_model.specs.Accepted.{TaskNumbers};
-ghost use Rattle.schedule_model.specs.JobDef.{job_of, segment_ticks};
-ghost use Rattle.schedule_model.specs.LawfulJobs.{is_resource_in, AreLawfulJobs};
-ghost use Rattle.schedule_model.specs.JobLists.{IsJobList, is_listed_segment};
+ghost use Rattle.schedule_model.specs.JobLists.{is_listed_segment};
 ghost use Rattle.schedule_model.specs.Seen.{segment_seen};
-ghost use Rattle.phase_machine.specs.MachineDef.{IsNext, task_in};
+ghost use Rattle.phase_machine.specs.MachineDef.{IsNext};
 ghost use Rattle.phase_machine.specs.Given.{KeepsItsRules, IsInScript, IsSegmentAt, AreSegmentsOf, AreTicksOf, IsTaskOf};
 
 use schedule_model::{JobId, JobList, Segment};

@@ -1,6 +1,5 @@
 ghost use Rattle.std.specs.Prelude.{◌≡◌, ℕ, ◌<◌, ◌≤◌, length, map, replicate, None, slice_index_or, IfOk};
 ghost use Rattle.schedule_model.specs.Seen.{place_seen};
-ghost use Rattle.phase_machine.specs.MachineDef.{IsNext, IsComing, no_place};
 ghost use Rattle.phase_machine.specs.Given.{AreFirstPlaces, AreComing};
 
 use crate::place::ScriptPlace;

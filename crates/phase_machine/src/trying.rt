@@ -2,9 +2,8 @@
 
 ghost use Rattle.std.specs.Prelude.{◌≡◌, ◌↔◌, ℕ, ◌<◌, true, false, Some, None, length, map, slice_index_or};
 ghost use Rattle.std.specs.List.{list_all};
-ghost use Rattle.schedule_model.specs.Fitting.{is_below, names_below};
+ghost use Rattle.schedule_model.specs.Fitting.{names_below};
 ghost use Rattle.schedule_model.specs.Seen.{place_seen, row_seen};
-ghost use Rattle.phase_machine.specs.Now.{active_now};
 ghost use Rattle.phase_machine.specs.Taking.{IsRowFor, CanTake, RunsAlone, AreAlone};
 ghost use Rattle.phase_machine.specs.Given.{TellsIfBefore, IsColumnOf, RunListed, Tells, is_row_for};
 
