@@ -7,11 +7,14 @@ use Rattle.std.proofs.lemmas.List.{get_or-take, get_or_past, length-take}
 use Rattle.std.proofs.lemmas.List.Folds.{list_any_more}
 use Rattle.std.proofs.Math.Bool.{or-false}
 use Rattle.schedule_model.specs.JobDef.{JobDef, JobsDef}
+use Rattle.schedule_model.specs.LawfulJobs.{AreLawfulJobs}
 use Rattle.schedule_model.specs.RowDef.{is_job}
 use Rattle.schedule_laws.proofs.Rows.{named_job, any_place}
 use Rattle.phase_machine.specs.declared.place.ScriptPlace.{ScriptPlace}
 use Rattle.phase_machine.specs.MachineDef.{task_in, no_place}
 use Rattle.phase_machine.specs.Steps.{StepsTo, MovesTo, ArePlaces, AreCurrent}
+use Rattle.phase_machine.specs.Given.{RunFromPlaces, IsCurrentJob}
+use Rattle.phase_machine.proofs.Lawful.{task_listed}
 
 -- The first columns name a job only where some column before names it.
 pub named_before : (names : List (Option ℕ)) (n j : ℕ) → list_any (is_job j) (take n names) ≡ true
@@ -100,10 +103,40 @@ column_moves list after more names n j first now next places current l e moves o
           sym ((places.each x b).own listed) ∙ ap (task_in list.jobs) (sym same)
 
 -- At a column the place of its job's task is where it was at first.
-pub still_there : (list : JobsDef) (after more : ℕ) (names : List (Option ℕ)) (n j : ℕ) (first now : List ScriptPlace)
+still_there : (list : JobsDef) (after more : ℕ) (names : List (Option ℕ)) (n j : ℕ) (first now : List ScriptPlace)
     → AreCurrent list.jobs first names → get_or names n None ≡ Some j
     → MovesTo list.jobs after more (take n names) (task_in list.jobs j) (get_or first (task_in list.jobs j) no_place)
     (get_or now (task_in list.jobs j) no_place)
     → get_or now (task_in list.jobs j) no_place ≡ get_or first (task_in list.jobs j) no_place
 still_there list after more names n j first now current e moves =
     moves.stays (rw (current.current n j e) (not_before list.jobs first names n j current e))
+
+-- A job that is named in a column is the one at its task's place.
+pub current_job : (list : JobsDef) (places : List ScriptPlace) (names : List (Option ℕ)) (n j : ℕ) → AreLawfulJobs list
+    → RunFromPlaces list places names → get_or names n None ≡ Some j → IsCurrentJob list places j
+current_job list places names n j lawful at e =
+    let listed : j < length list.jobs = at.running.listed n j e in
+    record {
+      len = at.places.size;
+      listed = listed;
+      place = at.places.each (task_in list.jobs j) (task_listed list j lawful listed);
+      current = at.running.current n j e;
+    }
+
+-- It still is once the columns before have moved their places.
+pub still_current : (list : JobsDef) (after more : ℕ) (names : List (Option ℕ)) (n j : ℕ) (first now : List ScriptPlace)
+    → AreLawfulJobs list → RunFromPlaces list first names → get_or names n None ≡ Some j → length now ≡ length first
+    → ((x : ℕ) → x < length list.set.tasks
+    → MovesTo list.jobs after more (take n names) x (get_or first x no_place) (get_or now x no_place))
+    → IsCurrentJob list now j
+still_current list after more names n j first now lawful at e size moves =
+    let was : IsCurrentJob list first j = current_job list first names n j lawful at e in
+    let still : get_or now (task_in list.jobs j) no_place ≡ get_or first (task_in list.jobs j) no_place =
+    still_there list after more names n j first now at.running e
+    (moves (task_in list.jobs j) (task_listed list j lawful was.listed)) in
+    record {
+      len = size ∙ was.len;
+      listed = was.listed;
+      place = rw still was.place;
+      current = ap (λ p. p.job) still ∙ was.current;
+    }

@@ -19,13 +19,14 @@ use Rattle.phase_machine.specs.Shows.{Shows, ShowsPlace, ArePlacesAtFirst}
 use Rattle.phase_machine.specs.Taking.{CanTake}
 use Rattle.phase_machine.specs.Steps.{MovesTo, ArePlaces, AreCurrent}
 use Rattle.phase_machine.specs.Stretch.{left_at, left_now, IsQuiet}
+use Rattle.phase_machine.specs.Given.{RunFromPlaces}
 use Rattle.phase_machine.proofs.Lawful.{script_of, script_some, local_some, task_listed}
 use Rattle.phase_machine.proofs.Facts.{active_current, current_some}
 use Rattle.phase_machine.proofs.Placing.{stepped_place}
 use Rattle.phase_machine.proofs.GoingOn.{GoesOn, left_some, stayed_on, stepped_on}
 
 -- The places of a machine.
-pub places_kept : (m : MachineDef) → IsMachine m → ArePlaces m.list m.places
+places_kept : (m : MachineDef) → IsMachine m → ArePlaces m.list m.places
 places_kept m machine = record { size = machine.places_length; each = machine.place }
 
 -- An active job is the one at its task's place.
@@ -34,7 +35,7 @@ unfolding current_now
 active_place m j h = (current_some m.list.jobs m.tick (place_of m (task_in m.list.jobs j)) j (active_current m j h)).0
 
 -- The running jobs of a row that the machine can take.
-pub row_current : (m : MachineDef) (row : RowDef) → CanTake m row → AreCurrent m.list.jobs m.places row.running
+row_current : (m : MachineDef) (row : RowDef) → CanTake m row → AreCurrent m.list.jobs m.places row.running
 row_current m row can = record {
   listed = λ c j e. can.fits.running (suc c) j e;
   current = λ c j e. active_place m j (can.active (suc c) j e);
@@ -42,6 +43,10 @@ row_current m row can = record {
 } where
   same : (c d : ℕ) → suc c ≡ suc d → c ≡ d
   same c d e = omega arith
+
+-- So they run from the places.
+pub row_from_places : (m : MachineDef) (row : RowDef) → IsMachine m → CanTake m row → RunFromPlaces m.list m.places row.running
+row_from_places m row machine can = record { places = places_kept m machine; running = row_current m row can }
 
 -- What a machine is after it took a row a number of times.
 pub record Took (m : MachineDef) (row : RowDef) (more : ℕ) (n : MachineDef) : Type 0 where

@@ -6,6 +6,7 @@ pub mod Taking
 pub mod Steps
 pub mod Stretch
 pub mod Least
+pub mod Given
 pub mod Judged
 pub mod MachineView
 pub mod Order

@@ -1,9 +1,6 @@
 ghost use Rattle.std.specs.Prelude.{◌≡◌, ℕ, ◌<◌, ◌≤◌, length, IfSome, slice_index_or};
-ghost use Rattle.sporadic_model.specs.SetDef.{SetDef};
-ghost use Rattle.schedule_model.specs.Seen.{place_seen};
-ghost use Rattle.phase_machine.specs.MachineDef.{IsPlace, task_in, no_place};
 ghost use Rattle.phase_machine.specs.Now.{phase_at_place, current_in};
-ghost use Rattle.phase_machine.specs.Seen.{phase_seen, NamesResource};
+ghost use Rattle.phase_machine.specs.Given.{IsJobAt, IsPhase, NamesJob};
 
 use crate::phase::Phase;
 use crate::place::ScriptPlace;
@@ -12,10 +9,8 @@ use schedule_model::{JobId, JobList};
 
 /// The phase of the job, whose task is at this place.
 pub(crate) fn phase_at(jobs: &JobList, place: &ScriptPlace, j: JobId) -> Phase
-    requires listed { j.0 < length jobs.now.jobs }
-    requires place { IsPlace jobs.now.jobs (task_in jobs.now.jobs j.0) place.now }
-    ensures value { phase_seen result ≡ phase_at_place jobs.now.jobs j.0 place.now }
-    ensures within { NamesResource (length jobs.now.set.resources) result }
+    requires { IsJobAt jobs.now.jobs j.0 place.now }
+    ensures { IsPhase jobs.now (phase_at_place jobs.now.jobs j.0 place.now) result }
 {
     if j.0 < place.job {
         return Phase::Finished;
@@ -36,8 +31,7 @@ pub(crate) fn phase_at(jobs: &JobList, place: &ScriptPlace, j: JobId) -> Phase
 /// The job of the place, if it is released by the tick.
 pub(crate) fn current_at(jobs: &JobList, tick: u64, place: &ScriptPlace) -> Option<JobId>
     requires { place.now.job ≤ length jobs.now.jobs }
-    ensures value { place_seen result ≡ current_in jobs.now.jobs tick place.now }
-    ensures within { IfSome result (λ j. j.0 < length jobs.now.jobs) }
+    ensures { NamesJob jobs.now (current_in jobs.now.jobs tick place.now) result }
 {
     if place.job < jobs.len() && jobs.job(JobId(place.job)).release <= tick {
         return Some(JobId(place.job));

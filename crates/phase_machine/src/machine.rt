@@ -2,7 +2,8 @@ ghost use Rattle.std.specs.Prelude.{◌≡◌, ℕ, ◌+◌, ◌<◌, ◌≤◌,
 ghost use Rattle.sporadic_model.specs.declared.limits.TheConstants.{MOST_TICKS};
 ghost use Rattle.schedule_model.specs.RowDef.{RowDef};
 ghost use Rattle.schedule_model.specs.Seen.{row_seen, place_seen};
-ghost use Rattle.phase_machine.specs.MachineDef.{IsMachine, IsWithinLimits, IsPlace, place_of, task_in, under};
+ghost use Rattle.phase_machine.specs.MachineDef.{IsMachine, IsWithinLimits, under};
+ghost use Rattle.phase_machine.specs.Given.{IsPlaceOf};
 ghost use Rattle.phase_machine.specs.Now.{phase_now, current_now, active_now, holder_now, ready_now, waiting_now, issued_now};
 ghost use Rattle.phase_machine.specs.Seen.{phase_seen, NamesResource};
 ghost use Rattle.phase_machine.specs.Shows.{Shows};
@@ -86,8 +87,7 @@ impl<'a> Machine<'a> {
     /// The place of the job's task.
     fn place(&self, j: JobId) -> &ScriptPlace
         requires { j.0 < length self.now.list.jobs }
-        ensures value { result.now ≡ place_of self.now (task_in self.now.list.jobs j.0) }
-        ensures place { IsPlace self.now.list.jobs (task_in self.now.list.jobs j.0) result.now }
+        ensures { IsPlaceOf self.now j.0 result.now }
     {
         &self.places[task_of(self.jobs, j.0).0 as usize]
     }

@@ -1,11 +1,8 @@
 ghost use Rattle.std.specs.Prelude.{◌≡◌, ℕ, ◌+◌, ◌<◌, ◌≤◌, true, length};
-ghost use Rattle.sporadic_model.specs.declared.limits.TheConstants.{MOST_TICKS};
-ghost use Rattle.sporadic_model.specs.Accepted.{TaskNumbers};
-ghost use Rattle.schedule_model.specs.JobDef.{job_of, segment_ticks};
-ghost use Rattle.schedule_model.specs.LawfulJobs.{is_resource_in, AreLawfulJobs};
-ghost use Rattle.schedule_model.specs.JobLists.{IsJobList, is_listed_segment};
+ghost use Rattle.schedule_model.specs.JobLists.{is_listed_segment};
 ghost use Rattle.schedule_model.specs.Seen.{segment_seen};
-ghost use Rattle.phase_machine.specs.MachineDef.{IsNext, segment_in, task_in};
+ghost use Rattle.phase_machine.specs.MachineDef.{IsNext};
+ghost use Rattle.phase_machine.specs.Given.{KeepsItsRules, IsInScript, IsSegmentAt, AreSegmentsOf, AreTicksOf, IsTaskOf};
 
 use schedule_model::{JobId, JobList, Segment};
 use sporadic_model::TaskId;
@@ -13,9 +10,7 @@ use sporadic_model::TaskId;
 /// The jobs of every list are lawful, and each task of its set has its numbers in their ranges. This call says so in a proof, and does
 /// nothing.
 pub(crate) fn list_is_lawful(jobs: &JobList)
-    ensures lawful { AreLawfulJobs jobs.now }
-    ensures listed { IsJobList jobs.now }
-    ensures numbers { (x : ℕ) → x < length jobs.now.set.tasks → TaskNumbers jobs.now.set x }
+    ensures { KeepsItsRules jobs.now }
 {
     jobs.keeps_its_rules();
     jobs.set().keeps_the_model();
@@ -23,11 +18,8 @@ pub(crate) fn list_is_lawful(jobs: &JobList)
 
 /// Segment number `n` of a listed job.
 pub(crate) fn segment_at(jobs: &JobList, j: u32, n: u32) -> Segment
-    requires listed { j < length jobs.now.jobs }
-    requires within { n < length (job_of jobs.now.jobs j).script }
-    ensures value { segment_seen result ≡ segment_in jobs.now.jobs j n }
-    ensures listed { is_listed_segment (segment_seen result) ≡ true }
-    ensures resource { is_resource_in (length jobs.now.set.resources) (segment_seen result) ≡ true }
+    requires { IsInScript jobs.now.jobs j n }
+    ensures { IsSegmentAt jobs.now j n result }
 {
     jobs.job(JobId(j)).script.at(n as usize)
 }
@@ -35,9 +27,7 @@ pub(crate) fn segment_at(jobs: &JobList, j: u32, n: u32) -> Segment
 /// How many segments a listed job has.
 pub(crate) fn segments_of(jobs: &JobList, j: u32) -> u32
     requires { j < length jobs.now.jobs }
-    ensures value { result ≡ length (job_of jobs.now.jobs j).script }
-    ensures some { 1 ≤ result }
-    ensures most { result ≤ 1000000 }
+    ensures { AreSegmentsOf jobs.now.jobs j result }
 {
     jobs.job(JobId(j)).script.len() as u32
 }
@@ -45,8 +35,7 @@ pub(crate) fn segments_of(jobs: &JobList, j: u32) -> u32
 /// How many ticks the segment takes, with its request.
 pub(crate) fn ticks_of(segment: &Segment) -> u64
     requires { is_listed_segment (segment_seen segment.now) ≡ true }
-    ensures value { result ≡ segment_ticks (segment_seen segment.now) }
-    ensures some { 1 ≤ result }
+    ensures { AreTicksOf (segment_seen segment.now) result }
 {
     match segment.request {
         Some((_, length)) => segment.local + length,
@@ -57,8 +46,7 @@ pub(crate) fn ticks_of(segment: &Segment) -> u64
 /// The task of a listed job.
 pub(crate) fn task_of(jobs: &JobList, j: u32) -> TaskId
     requires { j < length jobs.now.jobs }
-    ensures value { result.0 ≡ task_in jobs.now.jobs j }
-    ensures within { result.0 < length jobs.now.set.tasks }
+    ensures { IsTaskOf jobs.now j result.0 }
 {
     jobs.job(JobId(j)).task
 }

@@ -1,7 +1,6 @@
 ghost use Rattle.std.specs.Prelude.{◌≡◌, ℕ, ◌<◌, ◌≤◌, length, map, replicate, None, slice_index_or, IfOk};
 ghost use Rattle.schedule_model.specs.Seen.{place_seen};
-ghost use Rattle.phase_machine.specs.MachineDef.{IsNext, IsComing, no_place};
-ghost use Rattle.phase_machine.specs.Shows.{ArePlacesAtFirst};
+ghost use Rattle.phase_machine.specs.Given.{AreFirstPlaces, AreComing};
 
 use crate::place::ScriptPlace;
 use crate::script::next_of;
@@ -11,8 +10,7 @@ use std::alloc::{AllocError, Global};
 
 /// The place of each task before the first row: at the start of its first job.
 pub(crate) fn first_places(alloc: Global, jobs: &JobList) -> Result<Vec<ScriptPlace>, AllocError>
-    ensures len { IfOk result (λ v. length v.items ≡ length jobs.now.set.tasks) }
-    ensures each { IfOk result (λ v. ArePlacesAtFirst jobs.now.jobs (length jobs.now.set.tasks) v.items) }
+    ensures { IfOk result (λ v. AreFirstPlaces jobs.now v.items) }
 {
     let tasks = jobs.set().tasks();
     let mut places = Vec::with_capacity(alloc, tasks as usize)?;
@@ -29,8 +27,7 @@ pub(crate) fn first_places(alloc: Global, jobs: &JobList) -> Result<Vec<ScriptPl
 
 /// The first job of each task that is released after tick 0.
 pub(crate) fn first_coming(alloc: Global, jobs: &JobList) -> Result<Vec<u32>, AllocError>
-    ensures len { IfOk result (λ v. length v.items ≡ length jobs.now.set.tasks) }
-    ensures each { IfOk result (λ v. (x : ℕ) → x < length jobs.now.set.tasks → IsComing jobs.now.jobs 0 x (slice_index_or v.items x 0)) }
+    ensures { IfOk result (λ v. AreComing jobs.now 0 v.items) }
 {
     let tasks = jobs.set().tasks();
     let mut coming = Vec::with_capacity(alloc, tasks as usize)?;

@@ -1,24 +1,20 @@
 ghost use Rattle.std.specs.Prelude.{◌≡◌, ℕ, ◌+◌, ◌<◌, ◌≤◌, length, map, slice_index_or};
 ghost use Rattle.sporadic_model.specs.declared.limits.TheConstants.{MOST_TICKS};
-ghost use Rattle.schedule_model.specs.JobDef.{job_of, segment_ticks};
+ghost use Rattle.schedule_model.specs.JobDef.{job_of};
 ghost use Rattle.schedule_model.specs.Seen.{place_seen};
-ghost use Rattle.phase_machine.specs.MachineDef.{IsComing, segment_in, task_in, no_place};
-ghost use Rattle.phase_machine.specs.Steps.{ArePlaces, AreCurrent};
-ghost use Rattle.phase_machine.specs.Stretch.{left_at};
-ghost use Rattle.phase_machine.specs.Least.{IsLeastOf, IsLeft, IsAhead};
+ghost use Rattle.phase_machine.specs.MachineDef.{IsComing, task_in, no_place};
+ghost use Rattle.phase_machine.specs.Least.{IsLeft, IsAhead};
+ghost use Rattle.phase_machine.specs.Given.{IsInSegment, AreLeftAt, IsCurrentJob, RunFromPlaces, IsAheadBy, IsLeastSome};
 
 use crate::place::ScriptPlace;
-use crate::script::{segment_at, task_of, ticks_of};
+use crate::script::{list_is_lawful, segment_at, task_of, ticks_of};
 use schedule_model::{JobId, JobList};
 use sporadic_model::MOST_TICKS;
 
 /// How many ticks are left of the phase of the place's job.
 fn left_at(jobs: &JobList, place: &ScriptPlace) -> u64
-    requires listed { place.now.job < length jobs.now.jobs }
-    requires segment { place.now.segment < length (job_of jobs.now.jobs place.now.job).script }
-    requires ticks { place.now.ticks < segment_ticks (segment_in jobs.now.jobs place.now.job place.now.segment) }
-    ensures value { result ≡ left_at jobs.now.jobs place.now }
-    ensures some { 1 ≤ result }
+    requires { IsInSegment jobs.now.jobs place.now }
+    ensures { AreLeftAt jobs.now.jobs place.now result }
 {
     let segment = segment_at(jobs, place.job, place.segment);
     if place.ticks < segment.local {
@@ -29,11 +25,8 @@ fn left_at(jobs: &JobList, place: &ScriptPlace) -> u64
 
 /// How many ticks are left of the phase of a task's current job.
 fn left_of(jobs: &JobList, j: JobId, places: &[ScriptPlace]) -> u64
-    requires places { ArePlaces jobs.now places.now }
-    requires listed { j.0 < length jobs.now.jobs }
-    requires current { (slice_index_or places.now (task_in jobs.now.jobs j.0) no_place).job ≡ j.0 }
-    ensures value { result ≡ left_at jobs.now.jobs (slice_index_or places.now (task_in jobs.now.jobs j.0) no_place) }
-    ensures some { 1 ≤ result }
+    requires { IsCurrentJob jobs.now places.now j.0 }
+    ensures { AreLeftAt jobs.now.jobs (slice_index_or places.now (task_in jobs.now.jobs j.0) no_place) result }
 {
     left_at(jobs, &places[task_of(jobs, j.0).0 as usize])
 }
@@ -45,12 +38,11 @@ pub(crate) fn least_left(
     places: &[ScriptPlace],
     most: u64,
 ) -> u64
-    requires places { ArePlaces jobs.now places.now }
-    requires running { AreCurrent jobs.now.jobs places.now (map place_seen running.now) }
+    requires at { RunFromPlaces jobs.now places.now (map place_seen running.now) }
     requires some { 1 ≤ most }
-    ensures some { 1 ≤ result }
-    ensures least { IsLeastOf most (IsLeft jobs.now.jobs places.now (map place_seen running.now) (length running.now)) result }
+    ensures { IsLeastSome most (IsLeft jobs.now.jobs places.now (map place_seen running.now) (length running.now)) result }
 {
+    list_is_lawful(jobs);
     let mut least = most;
     for named in running {
         if let Some(j) = named {
@@ -63,9 +55,7 @@ pub(crate) fn least_left(
 /// In how many ticks the job is released. If no job has the number, it is 10^9.
 fn ahead(jobs: &JobList, tick: u64, j: u32) -> u64
     requires { j < length jobs.now.jobs → tick < (job_of jobs.now.jobs j).release }
-    ensures release { j < length jobs.now.jobs → (job_of jobs.now.jobs j).release ≡ tick + result }
-    ensures none { length jobs.now.jobs ≤ j → result ≡ MOST_TICKS }
-    ensures some { 1 ≤ result }
+    ensures { IsAheadBy jobs.now.jobs tick j result }
 {
     if j < jobs.len() {
         return jobs.job(JobId(j)).release - tick;
@@ -76,8 +66,7 @@ fn ahead(jobs: &JobList, tick: u64, j: u32) -> u64
 /// The least of 10^9 and the ticks until the tasks' next jobs are released.
 pub(crate) fn least_ahead(jobs: &JobList, tick: u64, coming: &[u32]) -> u64
     requires { (x : ℕ) → x < length coming.now → IsComing jobs.now.jobs tick x (slice_index_or coming.now x 0) }
-    ensures some { 1 ≤ result }
-    ensures least { IsLeastOf MOST_TICKS (IsAhead jobs.now.jobs tick coming.now (length coming.now)) result }
+    ensures { IsLeastSome MOST_TICKS (IsAhead jobs.now.jobs tick coming.now (length coming.now)) result }
 {
     let mut least = MOST_TICKS;
     for x in 0..coming.len() {

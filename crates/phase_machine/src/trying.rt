@@ -2,10 +2,10 @@
 
 ghost use Rattle.std.specs.Prelude.{◌≡◌, ◌↔◌, ℕ, ◌<◌, true, false, Some, None, length, map, slice_index_or};
 ghost use Rattle.std.specs.List.{list_all};
-ghost use Rattle.schedule_model.specs.Fitting.{is_below, names_below, fits_row};
+ghost use Rattle.schedule_model.specs.Fitting.{names_below};
 ghost use Rattle.schedule_model.specs.Seen.{place_seen, row_seen};
-ghost use Rattle.phase_machine.specs.Now.{active_now};
 ghost use Rattle.phase_machine.specs.Taking.{IsRowFor, CanTake, RunsAlone, AreAlone};
+ghost use Rattle.phase_machine.specs.Given.{TellsIfBefore, IsColumnOf, RunListed, Tells, is_row_for};
 
 use crate::machine::Machine;
 use schedule_model::{JobId, Row};
@@ -23,8 +23,7 @@ fn name_below(places: &[Option<JobId>], jobs: u32) -> bool
 /// Does one of the first columns run the job?
 fn runs_before(running: &[Option<JobId>], c: usize, j: JobId) -> bool
     requires { c < length running.now }
-    ensures none { result ≡ false → (b : ℕ) → b < c → slice_index_or running.now b None ≡ Some j → ⊥ }
-    ensures some { result ≡ true → (b : ℕ) × (b < c) × (slice_index_or running.now b None ≡ Some j) }
+    ensures { TellsIfBefore running.now c j result }
 {
     for b in 0..c {
         if running[b] == Some(j) {
@@ -36,10 +35,8 @@ fn runs_before(running: &[Option<JobId>], c: usize, j: JobId) -> bool
 
 /// If there is a job in this column: is it active, and in no column before?
 fn runs_alone(machine: &Machine, running: &[Option<JobId>], c: usize) -> bool
-    requires column { c < length running.now }
-    requires listed { (c : ℕ) (j : JobId) → slice_index_or running.now c None ≡ Some j → j.0 < length machine.now.list.jobs }
-    ensures alone { result ≡ true → RunsAlone machine.now running.now c }
-    ensures not_alone { result ≡ false → RunsAlone machine.now running.now c → ⊥ }
+    requires { IsColumnOf machine.now.list running.now c }
+    ensures { Tells result (RunsAlone machine.now running.now c) }
 {
     match running[c] {
         Some(j) => machine.active(j) && !runs_before(running, c, j),
@@ -49,9 +46,8 @@ fn runs_alone(machine: &Machine, running: &[Option<JobId>], c: usize) -> bool
 
 /// Is each of these running jobs active, and in one column only?
 fn run_well(machine: &Machine, running: &[Option<JobId>]) -> bool
-    requires { (c : ℕ) (j : JobId) → slice_index_or running.now c None ≡ Some j → j.0 < length machine.now.list.jobs }
-    ensures alone { result ≡ true → AreAlone machine.now running.now }
-    ensures not_alone { result ≡ false → AreAlone machine.now running.now → ⊥ }
+    requires { RunListed machine.now.list running.now }
+    ensures { Tells result (AreAlone machine.now running.now) }
 {
     for c in 0..running.len() {
         if !runs_alone(machine, running, c) {
@@ -63,8 +59,7 @@ fn run_well(machine: &Machine, running: &[Option<JobId>]) -> bool
 
 /// Has the row the sizes of the machine's set, and does it name only listed jobs?
 fn is_fitting(machine: &Machine, row: &Row) -> bool
-    ensures { result ≡ fits_row machine.now.list.set.processors (length machine.now.list.set.resources)
-        (length machine.now.list.jobs) (row_seen row.now) }
+    ensures { result ≡ is_row_for machine.now.list (row_seen row.now) }
 {
     let jobs = machine.jobs();
     let set = jobs.set();

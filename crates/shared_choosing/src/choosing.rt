@@ -6,8 +6,11 @@ ghost use Rattle.schedule_model.specs.Seen.{row_seen, place_seen};
 ghost use Rattle.phase_machine.specs.MachineDef.{under};
 ghost use Rattle.phase_machine.specs.Now.{phase_now, holder_now, requester_now};
 ghost use Rattle.phase_machine.specs.Shows.{Shows};
-ghost use Rattle.shared_choosing.specs.Scene.{scene_in, scene_now, gives_way, asked, stays, may_run, is_outrun, entered};
+ghost use Rattle.phase_machine.specs.Given.{NamesJob};
+ghost use Rattle.shared_choosing.specs.Scene.{scene_in, scene_now, gives_way, asked, stays, entered};
 ghost use Rattle.shared_choosing.specs.Scene.{place_in, running_in, NamesBelow, resource_in};
+ghost use Rattle.shared_choosing.specs.Given.{scene_by, scene_on, IsRequestOf, IsOffer, AreHolders, AreColumns, AreRowPlaces, AreRivals};
+ghost use Rattle.shared_choosing.specs.Given.{offered, IsOffered, HasAsked, TellsOutrun, NamesFaster, HasEntered};
 ghost use Rattle.shared_choosing.specs.Choosing.{Granted, Placed};
 
 use crate::row_choice::{RowChoice, choose_row};
@@ -90,11 +93,8 @@ fn gives_way<O: Order>(
     j: JobId,
     holder: Option<JobId>,
 ) -> bool
-    requires resource { q.0 < length machine.now.list.set.resources }
-    requires listed { j.0 < length machine.now.list.jobs }
-    requires holder { IfSome holder (λ h. h.0 < length machine.now.list.jobs) }
-    ensures { result ≡ gives_way (scene_now (O.grant order.now machine.now) (O.run order.now machine.now) machine.now) q.0
-        j.0 (place_seen holder) }
+    requires { IsOffer machine.now.list q.0 j.0 holder }
+    ensures { result ≡ gives_way (scene_by (O.grant order.now) (O.run order.now) machine.now) q.0 j.0 (place_seen holder) }
 {
     match holder {
         Some(h) => {
@@ -112,13 +112,8 @@ fn offered<O: Order>(
     j: JobId,
     holder: Option<JobId>,
 ) -> Option<JobId>
-    requires resource { q.0 < length machine.now.list.set.resources }
-    requires listed { j.0 < length machine.now.list.jobs }
-    requires holder { IfSome holder (λ h. h.0 < length machine.now.list.jobs) }
-    ensures value { place_seen result
-        ≡ (if gives_way (scene_now (O.grant order.now machine.now) (O.run order.now machine.now) machine.now) q.0 j.0 (place_seen holder)
-        then Some j.0 else place_seen holder) }
-    ensures listed { IfSome result (λ h. h.0 < length machine.now.list.jobs) }
+    requires { IsOffer machine.now.list q.0 j.0 holder }
+    ensures { NamesJob machine.now.list (offered (scene_by (O.grant order.now) (O.run order.now) machine.now) q.0 j.0 (place_seen holder)) result }
 {
     if gives_way(order, machine, q, j, holder) {
         return Some(j);
@@ -134,17 +129,10 @@ fn offer<O: Order>(
     j: JobId,
     holders: &mut [Option<JobId>],
 )
-    requires resource { q.0 < length machine.now.list.set.resources }
-    requires listed { j.0 < length machine.now.list.jobs }
-    requires len { length holders.old ≡ length machine.now.list.set.resources }
-    requires named { NamesBelow (length machine.now.list.jobs) (map place_seen holders.old) }
-    ensures len { length holders.new ≡ length holders.old }
-    ensures here { place_in (map place_seen holders.new) q.0
-        ≡ (if gives_way (scene_now (O.grant order.now machine.now) (O.run order.now machine.now) machine.now) q.0 j.0
-        (place_in (map place_seen holders.old) q.0)
-        then Some j.0 else place_in (map place_seen holders.old) q.0) }
-    ensures others { (r : ℕ) → (r ≡ q.0 → ⊥) → place_in (map place_seen holders.new) r ≡ place_in (map place_seen holders.old) r }
-    ensures named { NamesBelow (length machine.now.list.jobs) (map place_seen holders.new) }
+    requires request { IsRequestOf machine.now.list q.0 j.0 }
+    requires holders { AreHolders machine.now.list (map place_seen holders.old) }
+    ensures holders { AreHolders machine.now.list (map place_seen holders.new) }
+    ensures offered { IsOffered (scene_by (O.grant order.now) (O.run order.now) machine.now) q.0 j.0 holders.old holders.new }
 {
     let holder = job_at(machine, holders, q.0 as usize);
     put(holders, q.0 as usize, offered(order, machine, q, j, holder));
@@ -153,13 +141,9 @@ fn offer<O: Order>(
 /// Offers the job the resource that it requests.
 fn ask<O: Order>(order: &O, machine: &Machine, j: JobId, holders: &mut [Option<JobId>])
     requires listed { j.0 < length machine.now.list.jobs }
-    requires len { length holders.old ≡ length machine.now.list.set.resources }
-    requires named { NamesBelow (length machine.now.list.jobs) (map place_seen holders.old) }
-    ensures len { length holders.new ≡ length holders.old }
-    ensures named { NamesBelow (length machine.now.list.jobs) (map place_seen holders.new) }
-    ensures asked { (q : ℕ) → place_in (map place_seen holders.new) q
-        ≡ asked (scene_now (O.grant order.now machine.now) (O.run order.now machine.now) machine.now) j.0 q
-        (place_in (map place_seen holders.old) q) }
+    requires holders { AreHolders machine.now.list (map place_seen holders.old) }
+    ensures holders { AreHolders machine.now.list (map place_seen holders.new) }
+    ensures asked { HasAsked (scene_by (O.grant order.now) (O.run order.now) machine.now) j.0 holders.old holders.new }
 {
     match requested(machine, j) {
         Some(q) => offer(order, machine, q, j, holders),
@@ -176,7 +160,7 @@ struct Asking<'a, O> {
 impl<'a, O: Order> Visitor for Asking<'a, O> {
     ghost view = { place_in };
 
-    ghost needs = { λ v m holders. (length holders ≡ length m.list.set.resources) × NamesBelow (length m.list.jobs) holders };
+    ghost needs = { λ v m holders. AreHolders m.list holders };
 
     ghost step = { λ v m. asked (scene_now (O.grant v.order.now m) (O.run v.order.now m) m) };
 
@@ -228,11 +212,8 @@ fn is_outrun<O: Order>(
     j: JobId,
     runner: Option<JobId>,
 ) -> bool
-    requires len { length holders.now ≡ length machine.now.list.set.resources }
-    requires listed { j.0 < length machine.now.list.jobs }
-    requires runner { IfSome runner (λ r. r.0 < length machine.now.list.jobs) }
-    ensures { (column : ℕ → ℕ) → result ≡ is_outrun (scene_in column (O.grant order.now machine.now) (O.run order.now machine.now) machine.now)
-        (place_in (map place_seen holders.now)) j.0 (place_seen runner) }
+    requires { AreRivals machine.now.list holders.now j.0 runner }
+    ensures { TellsOutrun (O.grant order.now) (O.run order.now) machine.now holders.now j.0 runner result }
 {
     match runner {
         Some(r) => {
@@ -252,15 +233,8 @@ fn faster<O: Order>(
     j: JobId,
     runner: Option<JobId>,
 ) -> Option<JobId>
-    requires len { length holders.now ≡ length machine.now.list.set.resources }
-    requires listed { j.0 < length machine.now.list.jobs }
-    requires runner { IfSome runner (λ r. r.0 < length machine.now.list.jobs) }
-    ensures value { (column : ℕ → ℕ) → place_seen result
-        ≡ (if may_run (scene_in column (O.grant order.now machine.now) (O.run order.now machine.now) machine.now)
-        (place_in (map place_seen holders.now)) j.0
-        && is_outrun (scene_in column (O.grant order.now machine.now) (O.run order.now machine.now) machine.now)
-        (place_in (map place_seen holders.now)) j.0 (place_seen runner)
-        then Some j.0 else place_seen runner) }
+    requires { AreRivals machine.now.list holders.now j.0 runner }
+    ensures value { NamesFaster (O.grant order.now) (O.run order.now) machine.now holders.now j.0 runner result }
     ensures listed { IfSome result (λ i. i.0 < length machine.now.list.jobs) }
 {
     if may_run(machine, holders, j) && is_outrun(order, machine, holders, j, runner) {
@@ -280,14 +254,10 @@ fn enter<O: Order, C: Columns>(
 )
     requires suits { C.suits columns.now machine.now.list.set }
     requires listed { j.0 < length machine.now.list.jobs }
-    requires holders { length holders.now ≡ length machine.now.list.set.resources }
-    requires len { length running.old ≡ machine.now.list.set.processors }
-    requires named { NamesBelow (length machine.now.list.jobs) (map place_seen running.old) }
-    ensures len { length running.new ≡ length running.old }
-    ensures named { NamesBelow (length machine.now.list.jobs) (map place_seen running.new) }
-    ensures entered { (k : ℕ) → running_in (map place_seen running.new) k
-        ≡ entered (scene_in (C.column columns.now machine.now) (O.grant order.now machine.now) (O.run order.now machine.now) machine.now)
-        (place_in (map place_seen holders.now)) j.0 k (running_in (map place_seen running.old) k) }
+    requires places { AreRowPlaces machine.now.list holders.now (map place_seen running.old) }
+    ensures columns { AreColumns machine.now.list (map place_seen running.new) }
+    ensures entered { HasEntered (scene_on (C.column columns.now) (O.grant order.now) (O.run order.now) machine.now)
+        holders.now j.0 running.old running.new }
 {
     let k = columns.column_of(machine, j);
     let runner = job_on(machine, running, k);
@@ -305,8 +275,7 @@ struct Entering<'a, O, C> {
 impl<'a, O: Order, C: Columns> Visitor for Entering<'a, O, C> {
     ghost view = { running_in };
 
-    ghost needs = { λ v m running. C.suits v.columns.now m.list.set × (length v.holders.now ≡ length m.list.set.resources)
-        × (length running ≡ m.list.set.processors) × NamesBelow (length m.list.jobs) running };
+    ghost needs = { λ v m running. C.suits v.columns.now m.list.set × AreRowPlaces m.list v.holders.now running };
 
     ghost step = { λ v m. entered (scene_in (C.column v.columns.now m) (O.grant v.order.now m) (O.run v.order.now m) m)
         (place_in (map place_seen v.holders.now)) };

@@ -2,7 +2,8 @@ ghost use Rattle.std.specs.Prelude.{◌≡◌, ℕ, ◌<◌, List, length, map, 
 ghost use Rattle.schedule_model.specs.Seen.{place_seen};
 ghost use Rattle.phase_machine.specs.MachineDef.{MachineDef, IsMachine};
 ghost use Rattle.phase_machine.specs.Now.{current_now};
-ghost use Rattle.shared_choosing.specs.Walks.{come_to, walked};
+ghost use Rattle.shared_choosing.specs.Walks.{walked};
+ghost use Rattle.shared_choosing.specs.Given.{HasCome};
 
 use phase_machine::Machine;
 use phase_machine::lookup::tasks_of;
@@ -38,8 +39,7 @@ fn visit_current<V: Visitor>(
     requires task { x.0 < length machine.now.list.set.tasks }
     requires needs { V.needs visitor.now machine.now (map place_seen places.old) }
     ensures needs { V.needs visitor.now machine.now (map place_seen places.new) }
-    ensures each { (k : ℕ) → V.view (map place_seen places.new) k
-        ≡ come_to (V.step visitor.now machine.now) (current_now machine.now x.0) k (V.view (map place_seen places.old) k) }
+    ensures each { HasCome V.view (V.step visitor.now machine.now) (current_now machine.now x.0) places.old places.new }
 {
     match machine.current(x) {
         Some(j) => visitor.visit(machine, j, places),

@@ -1,44 +1,17 @@
-use Rattle.std.proofs.Common.{◌≡◌, ◌<◌, length, get_or, map, Some, None, refl, ◌∙◌, ap}
+use Rattle.std.proofs.Common.{◌≡◌, get_or, map, Some, None, refl, ◌∙◌, ap}
 use Rattle.schedule_model.specs.Seen.{place_seen}
-use Rattle.phase_machine.specs.MachineDef.{task_in, no_place}
-use Rattle.phase_machine.proofs.Lawful.{task_listed}
+use Rattle.phase_machine.specs.MachineDef.{no_place}
 use Rattle.phase_machine.proofs.Named.{seen_at, in_columns}
-use Rattle.phase_machine.proofs.TakenColumns.{column_moves, moved_past, still_there}
+use Rattle.phase_machine.proofs.TakenColumns.{column_moves, moved_past, still_current}
 use Rattle.phase_machine.proofs.stepping.step_all.Goals.{in-Some, in_default}
 use Rattle.phase_machine.proofs.stepping.step_all.Goals as goal
 
-pub step_one-requires-clause-listed : goal.step_one-requires-clause-listed
-step_one-requires-clause-listed c =
-    c.requires.running.listed c.loop-named.named-index c.in-Some.j.0
+pub step_one-requires-clause-at : goal.step_one-requires-clause-at
+step_one-requires-clause-at c =
+    still_current c.args.jobs.now c.args.after c.args.more (map place_seen c.args.running.now) c.loop-named.named-index
+    c.in-Some.j.0 c.args.places.now c.loop-named.places c.list_is_lawful.ensures.lawful c.requires.at
     (seen_at c.args.running.now c.loop-named.named-index (Some c.in-Some.j) c.loop-named-test.true c.in-Some.is)
-
-pub step_one-requires-clause-place : goal.step_one-requires-clause-place
-step_one-requires-clause-place c =
-    let e : get_or (map place_seen c.args.running.now) c.loop-named.named-index None ≡ Some c.in-Some.j.0 =
-    seen_at c.args.running.now c.loop-named.named-index (Some c.in-Some.j) c.loop-named-test.true c.in-Some.is in
-    let l : task_in c.args.jobs.now.jobs c.in-Some.j.0 < length c.args.jobs.now.set.tasks =
-    task_listed c.args.jobs.now c.in-Some.j.0 c.list_is_lawful.ensures.lawful
-    (c.requires.running.listed c.loop-named.named-index c.in-Some.j.0 e) in
-    let still : get_or c.loop-named.places (task_in c.args.jobs.now.jobs c.in-Some.j.0) no_place
-    ≡ get_or c.args.places.now (task_in c.args.jobs.now.jobs c.in-Some.j.0) no_place =
-    still_there c.args.jobs.now c.args.after c.args.more (map place_seen c.args.running.now) c.loop-named.named-index
-    c.in-Some.j.0 c.args.places.now c.loop-named.places c.requires.running e
-    (c.loop-named.invariant.moved (task_in c.args.jobs.now.jobs c.in-Some.j.0) l) in
-    rw still (c.requires.places.each (task_in c.args.jobs.now.jobs c.in-Some.j.0) l)
-
-pub step_one-requires-clause-current : goal.step_one-requires-clause-current
-step_one-requires-clause-current c =
-    let e : get_or (map place_seen c.args.running.now) c.loop-named.named-index None ≡ Some c.in-Some.j.0 =
-    seen_at c.args.running.now c.loop-named.named-index (Some c.in-Some.j) c.loop-named-test.true c.in-Some.is in
-    let l : task_in c.args.jobs.now.jobs c.in-Some.j.0 < length c.args.jobs.now.set.tasks =
-    task_listed c.args.jobs.now c.in-Some.j.0 c.list_is_lawful.ensures.lawful
-    (c.requires.running.listed c.loop-named.named-index c.in-Some.j.0 e) in
-    let still : get_or c.loop-named.places (task_in c.args.jobs.now.jobs c.in-Some.j.0) no_place
-    ≡ get_or c.args.places.now (task_in c.args.jobs.now.jobs c.in-Some.j.0) no_place =
-    still_there c.args.jobs.now c.args.after c.args.more (map place_seen c.args.running.now) c.loop-named.named-index
-    c.in-Some.j.0 c.args.places.now c.loop-named.places c.requires.running e
-    (c.loop-named.invariant.moved (task_in c.args.jobs.now.jobs c.in-Some.j.0) l) in
-    ap (λ p. p.job) still ∙ c.requires.running.current c.loop-named.named-index c.in-Some.j.0 e
+    c.loop-named.invariant.len c.loop-named.invariant.moved
 
 pub loop-named-preserved : goal.loop-named-preserved
 loop-named-preserved c = elim c.match-named.branch [
@@ -49,7 +22,7 @@ loop-named-preserved c = elim c.match-named.branch [
         len = c.match-named.auto.places ∙ c.loop-named.invariant.len;
         moved = λ x l. rw w.places-is (column_moves c.args.jobs.now c.args.after c.args.more
             (map place_seen c.args.running.now) c.loop-named.named-index w.in-Some.j.0 c.args.places.now
-            c.loop-named.places w.step_one.new.places c.requires.places c.requires.running
+            c.loop-named.places w.step_one.new.places c.requires.at.places c.requires.at.running
             (in_columns c.args.running.now c.loop-named.named-index c.loop-named-test.true) e
             c.loop-named.invariant.moved w.step_one.ensures.own w.step_one.ensures.others x l);
       }

@@ -14,8 +14,11 @@ loop-x-preserved c = record {
       c.loop-x.invariant.least);
 }
 
-pub returns-clause-least : goal.returns-clause-least
-returns-clause-least c =
+pub returns : goal.returns
+returns c =
     let end : c.loop-x.x ≡ length c.args.coming.now = omega (arith, c.loop-x-test.false, c.loop-x.auto.x-end) in
-    subst (λ n. IsLeastOf MOST_TICKS (IsAhead c.args.jobs.now.jobs c.args.tick c.args.coming.now n) c.loop-x.least) end
-    c.loop-x.invariant.least
+    record {
+      some = c.loop-x.invariant.some;
+      least = subst (λ n. IsLeastOf MOST_TICKS (IsAhead c.args.jobs.now.jobs c.args.tick c.args.coming.now n) c.loop-x.least) end
+          c.loop-x.invariant.least;
+    }

@@ -4,18 +4,15 @@ use Rattle.phase_machine.specs.MachineDef.{task_in, no_place}
 use Rattle.phase_machine.specs.Stretch.{left_at}
 use Rattle.phase_machine.specs.Least.{IsLeastOf, IsLeft}
 use Rattle.phase_machine.proofs.Named.{seen_at}
+use Rattle.phase_machine.proofs.TakenColumns.{current_job}
 use Rattle.phase_machine.proofs.Least.{least_left_named, least_left_unnamed}
 use Rattle.phase_machine.proofs.stretch.least_left.Goals.{in-Some, in_default}
 use Rattle.phase_machine.proofs.stretch.least_left.Goals as goal
 
-pub left_of-requires-clause-listed : goal.left_of-requires-clause-listed
-left_of-requires-clause-listed c =
-    c.requires.running.listed c.loop-named.named-index c.in-Some.j.0
-    (seen_at c.args.running.now c.loop-named.named-index (Some c.in-Some.j) c.loop-named-test.true c.in-Some.is)
-
-pub left_of-requires-clause-current : goal.left_of-requires-clause-current
-left_of-requires-clause-current c =
-    c.requires.running.current c.loop-named.named-index c.in-Some.j.0
+pub left_of-requires : goal.left_of-requires
+left_of-requires c =
+    current_job c.args.jobs.now c.args.places.now (map place_seen c.args.running.now) c.loop-named.named-index c.in-Some.j.0
+    c.list_is_lawful.ensures.lawful c.requires.at
     (seen_at c.args.running.now c.loop-named.named-index (Some c.in-Some.j) c.loop-named-test.true c.in-Some.is)
 
 pub loop-named-preserved : goal.loop-named-preserved

@@ -14,12 +14,12 @@ pub returns-then-is_row_for : goal.returns-then-is_row_for
 returns-then-is_row_for c = (λ passes. taken passes, λ takes. passed takes) where
   taken : c.run_well.result ≡ true → CanTake c.args.machine.now (row_seen c.args.row.now)
   taken passes = can_take_from c.args.machine.now c.args.row.now (c.is_row_for.ensures.0 c.if-is_row_for.true)
-      (rw c.deref.ensures.value at (c.run_well.ensures.alone passes))
+      (rw c.deref.ensures.value at (c.run_well.ensures.holds passes))
 
   passed : CanTake c.args.machine.now (row_seen c.args.row.now) → c.run_well.result ≡ true
   passed takes = elim (cases_Bool c.run_well.result) [
     | inl passes ↦ passes
     | inr fails ↦
         let alone : AreAlone c.args.machine.now c.args.row.now.running.items = alone_from c.args.machine.now c.args.row.now takes in
-        absurd (c.run_well.ensures.not_alone fails (rw c.deref.ensures.value alone))
+        absurd (c.run_well.ensures.fails fails (rw c.deref.ensures.value alone))
   ]

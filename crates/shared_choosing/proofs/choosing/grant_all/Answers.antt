@@ -7,10 +7,10 @@ use Rattle.shared_choosing.proofs.choosing.grant_all.Goals as goal
 
 pub visit_each-requires : goal.visit_each-requires
 visit_each-requires g c = record {
-  needs = (
-    length-map c.keep_all.new.holders place_seen ∙ c.keep_all.ensures.len ∙ c.requires,
-    c.keep_all.ensures.named,
-  );
+  needs = record {
+    len = length-map c.keep_all.new.holders place_seen ∙ c.keep_all.ensures.len ∙ c.requires;
+    named = c.keep_all.ensures.named;
+  };
 }
 
 pub returns-clause-granted : goal.returns-clause-granted

@@ -1,4 +1,4 @@
-use Rattle.std.proofs.Common.{◌≡◌, ◌<◌, ◌≤◌, ◌∙◌, ◌+◌, ℕ, map, arith, sym, ap, subst}
+use Rattle.std.proofs.Common.{◌≡◌, ◌<◌, ◌≤◌, ◌∙◌, ◌+◌, ℕ, length, map, arith, sym, ap, subst}
 use Rattle.std.specs.Vec.{with_items}
 use Rattle.std.proofs.lemmas.List.{with_items_is}
 use Rattle.sporadic_model.specs.declared.limits.TheConstants.{MOST_TICKS}
@@ -9,22 +9,26 @@ use Rattle.schedule_model.specs.RowDef.{RowDef}
 use Rattle.phase_machine.specs.Shows.{Shows}
 use Rattle.phase_machine.specs.Taking.{CanTake}
 use Rattle.phase_machine.specs.Stretch.{IsQuiet}
-use Rattle.phase_machine.proofs.Taking.{Took, took_from, row_current, taken_machine, taken_shows}
+use Rattle.phase_machine.proofs.Taking.{Took, took_from, row_from_places, taken_machine, taken_shows}
 use Rattle.phase_machine.proofs.Stretches.{due_after}
 use Rattle.phase_machine.proofs.machine.Machine.advance_by.Goals as goal
 
-pub step_all-requires-clause-running : goal.step_all-requires-clause-running
-step_all-requires-clause-running c =
+pub step_all-requires-clause-at : goal.step_all-requires-clause-at
+step_all-requires-clause-at c =
     let can : CanTake (machine_view c.self.inside) (row_seen c.args.row.now) =
     subst (λ m. CanTake m (row_seen c.args.row.now)) (sym c.self.view_is) c.requires.row in
-    rw (c.deref_mut.ensures.value, c.deref.ensures.value) (row_current (machine_view c.self.inside) (row_seen c.args.row.now) can)
+    rw (c.deref_mut.ensures.value, c.deref.ensures.value)
+    (row_from_places (machine_view c.self.inside) (row_seen c.args.row.now) c.self.invariant.machine can)
 
-pub move_on-requires-clause-due : goal.move_on-requires-clause-due
-move_on-requires-clause-due c = λ x l.
+pub move_on-requires : goal.move_on-requires
+move_on-requires c =
     let quiet : IsQuiet (machine_view c.self.inside) (row_seen c.args.row.now) c.args.ticks =
     subst (λ m. IsQuiet m (row_seen c.args.row.now) c.args.ticks) (sym c.self.view_is) c.requires.quiet in
-    rw c.deref_mut-2.ensures.value
-    (due_after (machine_view c.self.inside) (row_seen c.args.row.now) c.args.ticks x c.self.invariant.machine quiet l)
+    record {
+      len = ap length c.deref_mut-2.ensures.value ∙ c.self.invariant.machine.coming_length;
+      due = λ x l. rw c.deref_mut-2.ensures.value
+          (due_after (machine_view c.self.inside) (row_seen c.args.row.now) c.args.ticks x c.self.invariant.machine quiet l);
+    }
 
 pub invariant_of-self : goal.invariant_of-self
 invariant_of-self c =
@@ -39,6 +43,8 @@ invariant_of-self c =
       holders = map place_seen c.copy_from_slice.new.self.items;
       coming = (with_items c.self.inside.coming c.move_on.new.coming).items;
     } in
+    let size : length c.move_on.new.coming ≡ length c.deref_mut-2.result.now =
+    c.move_on.ensures.len ∙ sym (ap length c.deref_mut-2.ensures.value ∙ c.self.invariant.machine.coming_length) in
     let took : Took (machine_view c.self.inside) (row_seen c.args.row.now) c.args.ticks n =
     took_from (machine_view c.self.inside) (row_seen c.args.row.now) c.args.ticks c.deref_mut.result.now
     c.step_all.new.places (with_items c.self.inside.places c.step_all.new.places).items
@@ -46,9 +52,9 @@ invariant_of-self c =
     (map place_seen c.deref.result.now) (map place_seen c.copy_from_slice.new.self.items)
     (with_items_is c.self.inside.places c.step_all.new.places (c.step_all.ensures.len ∙ c.deref_mut.ensures.len)) c.deref_mut.ensures.value
     (ap (map place_seen) c.deref.ensures.value) (ap (map place_seen) (c.copy_from_slice.ensures.items ∙ c.deref-2.ensures.value))
-    (with_items_is c.self.inside.coming c.move_on.new.coming (c.move_on.ensures.len ∙ c.deref_mut-2.ensures.len))
+    (with_items_is c.self.inside.coming c.move_on.new.coming (size ∙ c.deref_mut-2.ensures.len))
     c.deref_mut-2.ensures.value
-    c.step_all.ensures.len c.step_all.ensures.moved c.move_on.ensures.len c.move_on.ensures.each in
+    c.step_all.ensures.len c.step_all.ensures.moved size c.move_on.ensures.each in
     record {
       machine = taken_machine (machine_view c.self.inside) (row_seen c.args.row.now) c.args.ticks n c.self.invariant.machine can took;
       limits = record { list = c.self.invariant.limits.list; most = omega (arith, early) };
@@ -65,6 +71,8 @@ returns-clause-shows c =
       holders = map place_seen c.copy_from_slice.new.self.items;
       coming = (with_items c.self.inside.coming c.move_on.new.coming).items;
     } in
+    let size : length c.move_on.new.coming ≡ length c.deref_mut-2.result.now =
+    c.move_on.ensures.len ∙ sym (ap length c.deref_mut-2.ensures.value ∙ c.self.invariant.machine.coming_length) in
     let took : Took (machine_view c.self.inside) (row_seen c.args.row.now) c.args.ticks n =
     took_from (machine_view c.self.inside) (row_seen c.args.row.now) c.args.ticks c.deref_mut.result.now
     c.step_all.new.places (with_items c.self.inside.places c.step_all.new.places).items
@@ -72,9 +80,9 @@ returns-clause-shows c =
     (map place_seen c.deref.result.now) (map place_seen c.copy_from_slice.new.self.items)
     (with_items_is c.self.inside.places c.step_all.new.places (c.step_all.ensures.len ∙ c.deref_mut.ensures.len)) c.deref_mut.ensures.value
     (ap (map place_seen) c.deref.ensures.value) (ap (map place_seen) (c.copy_from_slice.ensures.items ∙ c.deref-2.ensures.value))
-    (with_items_is c.self.inside.coming c.move_on.new.coming (c.move_on.ensures.len ∙ c.deref_mut-2.ensures.len))
+    (with_items_is c.self.inside.coming c.move_on.new.coming (size ∙ c.deref_mut-2.ensures.len))
     c.deref_mut-2.ensures.value
-    c.step_all.ensures.len c.step_all.ensures.moved c.move_on.ensures.len c.move_on.ensures.each in
+    c.step_all.ensures.len c.step_all.ensures.moved size c.move_on.ensures.each in
     let quiet : IsQuiet (machine_view c.self.inside) (row_seen c.args.row.now) c.args.ticks =
     subst (λ m. IsQuiet m (row_seen c.args.row.now) c.args.ticks) (sym c.self.view_is) c.requires.quiet in
     let shows : (rows : ℕ → RowDef) → Shows (machine_view c.self.inside) rows

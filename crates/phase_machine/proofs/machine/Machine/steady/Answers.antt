@@ -6,16 +6,17 @@ use Rattle.phase_machine.specs.MachineView.{machine_view}
 use Rattle.phase_machine.specs.Taking.{CanTake}
 use Rattle.phase_machine.specs.Stretch.{IsStretch}
 use Rattle.phase_machine.specs.Least.{IsLeastOf, IsLeft, IsAhead}
-use Rattle.phase_machine.proofs.Taking.{row_current}
+use Rattle.phase_machine.proofs.Taking.{row_from_places}
 use Rattle.phase_machine.proofs.Least.{left_seen}
 use Rattle.phase_machine.proofs.Stretches.{stretch_of, quiet_sooner, steady_of, changes_of}
 use Rattle.phase_machine.proofs.machine.Machine.steady.Goals as goal
 
-pub least_left-requires-clause-running : goal.least_left-requires-clause-running
-least_left-requires-clause-running c =
+pub least_left-requires-clause-at : goal.least_left-requires-clause-at
+least_left-requires-clause-at c =
     let can : CanTake (machine_view c.self.inside) (row_seen c.args.row.now) =
     subst (λ m. CanTake m (row_seen c.args.row.now)) (sym c.self.view_is) c.requires.row in
-    rw (c.deref-3.ensures.value, c.deref-2.ensures.value) (row_current (machine_view c.self.inside) (row_seen c.args.row.now) can)
+    rw (c.deref-3.ensures.value, c.deref-2.ensures.value)
+    (row_from_places (machine_view c.self.inside) (row_seen c.args.row.now) c.self.invariant.machine can)
 
 pub returns-clause-value : goal.returns-clause-value
 returns-clause-value c =
