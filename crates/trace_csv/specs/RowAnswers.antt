@@ -64,6 +64,11 @@ LineCounted (Ok _) jobs before ticks line k =
 LineCounted (Err refusal.Memory) jobs before ticks line k = Unit {0}
 LineCounted (Err r) jobs before ticks line k = line_refusal jobs before line k ≡ Some r
 
+-- The same for any lines before it whose ticks were the first number.
+abbrev pub TicksCounted : {T : Type 0} → Result T RowsRefusal → JobsDef → ℕ → ℕ → Fields → ℕ → Type 0
+TicksCounted result jobs before after line k =
+    (runs : List RunDef) → before ≡ ticks_of runs → LineCounted result jobs runs after line k
+
 -- Why a line is refused after these lines.
 abbrev pub row_reason : JobsDef → Reasons RowsRefusal
 row_reason jobs before line k = line_refusal jobs (runs_written jobs before) line k

@@ -21,6 +21,11 @@ pub record ReaderDef : Type 0 where
   pub rows : RowsDef
   pub at : ℕ
 
+-- Is the text a file of rows, and are these a list of rows?
+pub record AreRowsIn (jobs : JobsDef) (bytes : List ℕ) : Type 0 where
+  pub file : IsRowsFile jobs bytes
+  pub listed : IsRowList (rows_in jobs bytes)
+
 -- Either the text is a file of rows, which are a list of rows and have this many ticks. Or this is why it is refused.
 abbrev pub TextJudged : Result ℕ RowsRefusal → JobsDef → List ℕ → Type 0
 TextJudged (Ok ticks) jobs bytes =

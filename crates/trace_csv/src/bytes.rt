@@ -1,7 +1,7 @@
 ghost use Rattle.std.specs.Prelude.{◌≡◌};
 ghost use Rattle.csv.specs.Machine as machine;
 ghost use Rattle.csv.specs.Reading.{default_config};
-ghost use Rattle.trace_csv.specs.Places.{place_seen, effect_seen};
+ghost use Rattle.trace_csv.specs.Places.{place_seen, effect_seen, DoesAs};
 
 /// Where a reader is in a text.
 #[derive(Clone, Copy, Debug, PartialEq, Eq)]
@@ -31,8 +31,7 @@ pub(crate) enum Effect {
 
 /// What a byte does in a field, outside of quotes.
 fn in_field(byte: u8) -> (ReaderPlace, Effect)
-    ensures place { place_seen result.0 ≡ (machine.in_field default_config byte).0 }
-    ensures effect { effect_seen result.1 ≡ (machine.in_field default_config byte).1 }
+    ensures { DoesAs result (machine.in_field default_config byte) }
 {
     if byte == b',' {
         (ReaderPlace::FieldStart, Effect::EndField)
@@ -47,8 +46,7 @@ fn in_field(byte: u8) -> (ReaderPlace, Effect)
 
 /// What a byte does before a field.
 fn before_field(byte: u8) -> (ReaderPlace, Effect)
-    ensures place { place_seen result.0 ≡ (machine.start_field default_config byte).0 }
-    ensures effect { effect_seen result.1 ≡ (machine.start_field default_config byte).1 }
+    ensures { DoesAs result (machine.start_field default_config byte) }
 {
     if byte == b'"' {
         (ReaderPlace::Quoted, Effect::Skip)
@@ -59,8 +57,7 @@ fn before_field(byte: u8) -> (ReaderPlace, Effect)
 
 /// What a byte does between records.
 fn between_records(byte: u8) -> (ReaderPlace, Effect)
-    ensures place { place_seen result.0 ≡ (machine.start_record default_config byte).0 }
-    ensures effect { effect_seen result.1 ≡ (machine.start_record default_config byte).1 }
+    ensures { DoesAs result (machine.start_record default_config byte) }
 {
     if byte == b'\r' || byte == b'\n' {
         (ReaderPlace::Between, Effect::Skip)
@@ -71,8 +68,7 @@ fn between_records(byte: u8) -> (ReaderPlace, Effect)
 
 /// What a byte does between quotes.
 fn in_quotes(byte: u8) -> (ReaderPlace, Effect)
-    ensures place { place_seen result.0 ≡ (machine.step default_config (place_seen ReaderPlace.Quoted) byte).0 }
-    ensures effect { effect_seen result.1 ≡ (machine.step default_config (place_seen ReaderPlace.Quoted) byte).1 }
+    ensures { DoesAs result (machine.step default_config (place_seen ReaderPlace.Quoted) byte) }
 {
     if byte == b'"' {
         (ReaderPlace::AfterQuote, Effect::Skip)
@@ -83,8 +79,7 @@ fn in_quotes(byte: u8) -> (ReaderPlace, Effect)
 
 /// Where a byte leads from a place, and what it does, as `csv` reads with its defaults.
 pub(crate) fn step(place: ReaderPlace, byte: u8) -> (ReaderPlace, Effect)
-    ensures place { place_seen result.0 ≡ (machine.step default_config (place_seen place) byte).0 }
-    ensures effect { effect_seen result.1 ≡ (machine.step default_config (place_seen place) byte).1 }
+    ensures { DoesAs result (machine.step default_config (place_seen place) byte) }
 {
     match place {
         ReaderPlace::Between => between_records(byte),

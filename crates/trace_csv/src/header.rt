@@ -1,6 +1,7 @@
 ghost use Rattle.std.specs.Prelude.{◌≡◌, ◌↔◌, ◌++◌, ◌∷◌, [], codes, map, IfOk, OnOk, IsTrue};
 ghost use Rattle.std.specs.List.{range_with_len};
 ghost use Rattle.csv.specs.Records.{fields_of, partial_of};
+ghost use Rattle.trace_csv.specs.Records.{HasFields};
 ghost use Rattle.trace_csv.specs.RowsFile.{processor_field, processor_fields, rows_header};
 
 use crate::slices::fields_in;
@@ -19,8 +20,7 @@ pub(crate) fn are_same(fields: &[&[u8]], others: &[&[u8]]) -> bool
 /// Adds the field of a processor to a header.
 fn push_processor(alloc: Global, header: &mut ByteRecord, processor: u32) -> Result<(), AllocError>
     requires { partial_of header.old ≡ [] }
-    ensures fields { OnOk result (fields_of header.new ≡ fields_of header.old ++ (processor_field processor ∷ [])) }
-    ensures partial { OnOk result (partial_of header.new ≡ []) }
+    ensures { OnOk result (HasFields header.new (fields_of header.old ++ (processor_field processor ∷ []))) }
 {
     let mut buffer = Buffer::new();
     let mut name = Vec::from_slice(alloc, b"P")?;
@@ -30,8 +30,7 @@ fn push_processor(alloc: Global, header: &mut ByteRecord, processor: u32) -> Res
 
 /// The header of a file of rows, up to the processors.
 fn processors_header(alloc: Global, set: &TaskSet) -> Result<ByteRecord, AllocError>
-    ensures fields { IfOk result (λ header. fields_of header ≡ codes "ticks" ∷ processor_fields set.now.processors) }
-    ensures partial { IfOk result (λ header. partial_of header ≡ []) }
+    ensures { IfOk result (λ header. HasFields header (codes "ticks" ∷ processor_fields set.now.processors)) }
 {
     let mut header = ByteRecord::new(alloc);
     header.push_field(b"ticks")?;

@@ -1,8 +1,7 @@
 ghost use Rattle.std.specs.Prelude.{◌≡◌, ◌<◌, ◌^◌, length, IfOk, OnOk};
-ghost use Rattle.csv.specs.Machine.{fields_after, field_after};
 ghost use Rattle.csv.specs.Reading.{is_bom, strip_bom};
-ghost use Rattle.trace_csv.specs.Places.{effect_seen};
-ghost use Rattle.trace_csv.specs.Records.{records_in, fields_seen};
+ghost use Rattle.trace_csv.specs.Places.{IsByteTaken};
+ghost use Rattle.trace_csv.specs.Records.{records_in};
 ghost use Rattle.trace_csv.specs.RecordAnswers.{PieceRead, IsNext};
 
 use crate::bytes::{Effect, ReaderPlace, is_end, is_inside, step};
@@ -40,9 +39,7 @@ fn take_byte(
     effect: Effect,
     byte: u8,
 ) -> Result<(), AllocError>
-    ensures fields { OnOk result (fields_seen fields.new.items
-        ≡ fields_after (effect_seen effect) (fields_seen fields.old.items) field.old.items) }
-    ensures field { OnOk result (field.new.items ≡ field_after (effect_seen effect) byte field.old.items) }
+    ensures { OnOk result (IsByteTaken effect byte fields.old field.old fields.new field.new) }
 {
     match effect {
         Effect::Skip => {}

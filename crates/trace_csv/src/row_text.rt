@@ -1,10 +1,10 @@
-ghost use Rattle.std.specs.Prelude.{◌≡◌, ◌≤◌, List, IfOk};
+ghost use Rattle.std.specs.Prelude.{◌≡◌, ◌≤◌, IfOk};
 ghost use Rattle.sporadic_model.specs.declared.limits.TheConstants.{MOST_TICKS};
-ghost use Rattle.schedule_model.specs.RowDef.{RunDef, ticks_of};
+ghost use Rattle.schedule_model.specs.RowDef.{ticks_of};
 ghost use Rattle.schedule_model.specs.Fitting.{IsRowList};
 ghost use Rattle.trace_csv.specs.Records.{fields_seen};
 ghost use Rattle.trace_csv.specs.RowsFile.{IsRowsFile, RowsRead, IsUnrefused};
-ghost use Rattle.trace_csv.specs.RowAnswers.{LineCounted};
+ghost use Rattle.trace_csv.specs.RowAnswers.{TicksCounted};
 ghost use Rattle.trace_csv.specs.RowTexts.{TextJudged};
 
 use crate::lines::{LineTaker, take_lines};
@@ -26,8 +26,7 @@ fn count_line(
     line: u64,
 ) -> Result<(), RowsRefusal>
     requires { ticks.old ≤ MOST_TICKS }
-    ensures { (before : List RunDef) → ticks.old ≡ ticks_of before
-        → LineCounted result jobs.now before ticks.new (fields_seen fields.now) line }
+    ensures { TicksCounted result jobs.now ticks.old ticks.new (fields_seen fields.now) line }
 {
     let run = run_of(alloc, jobs, fields, line)?;
     if run.ticks > MOST_TICKS - *ticks {

@@ -1,8 +1,6 @@
 ghost use Rattle.std.specs.Prelude.{◌≡◌, ◌+◌, IfOk};
-ghost use Rattle.schedule_model.specs.Fitting.{IsRowList};
-ghost use Rattle.trace_csv.specs.RowsFile.{IsRowsFile};
 ghost use Rattle.trace_csv.specs.RowLines.{processor_count, resource_count};
-ghost use Rattle.trace_csv.specs.RowTexts.{IsNextShort, IsNextLine, IsNextRun, rows_in};
+ghost use Rattle.trace_csv.specs.RowTexts.{IsNextShort, IsNextLine, IsNextRun, AreRowsIn, rows_in};
 
 use crate::records::{Next, Records};
 use crate::rows::{fields_per_line, written_run};
@@ -71,8 +69,7 @@ impl<'a> TextRows<'a> {
         jobs: &'a JobList<'a>,
         bytes: &'a [u8],
     ) -> Result<TextRows<'a>, AllocError>
-        requires file { IsRowsFile jobs.now bytes.now }
-        requires listed { IsRowList (rows_in jobs.now bytes.now) }
+        requires { AreRowsIn jobs.now bytes.now }
         ensures { IfOk result (λ reader. reader ≡ record { rows = rows_in jobs.now bytes.now; at = 0 }) }
     {
         let mut lines = Records::new(bytes);

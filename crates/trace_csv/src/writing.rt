@@ -3,6 +3,7 @@ ghost use Rattle.csv.specs.Records.{fields_of, partial_of};
 ghost use Rattle.csv.specs.Writing.{default_writer, needs_byte, needs_quotes, quoted, field_text, fields_text, row_text};
 ghost use Rattle.schedule_model.specs.Fitting.{IsRowList};
 ghost use Rattle.schedule_model.specs.Seen.{place_seen, run_seen};
+ghost use Rattle.trace_csv.specs.Records.{HasFields};
 ghost use Rattle.trace_csv.specs.Written.{cell_of, line_of, body_text, rows_text, are_sized, ReadsBackIfFitting};
 
 use crate::header::rows_header;
@@ -16,8 +17,7 @@ use std::alloc::{AllocError, Global};
 /// Adds the cell that names a job, or an empty one.
 fn push_cell(row: &mut ByteRecord, place: Option<JobId>) -> Result<(), AllocError>
     requires { partial_of row.old ≡ [] }
-    ensures fields { OnOk result (fields_of row.new ≡ fields_of row.old ++ (cell_of (place_seen place) ∷ [])) }
-    ensures partial { OnOk result (partial_of row.new ≡ []) }
+    ensures { OnOk result (HasFields row.new (fields_of row.old ++ (cell_of (place_seen place) ∷ []))) }
 {
     match place {
         Some(job) => {
@@ -31,8 +31,7 @@ fn push_cell(row: &mut ByteRecord, place: Option<JobId>) -> Result<(), AllocErro
 /// Adds a cell for each place.
 fn push_cells(row: &mut ByteRecord, places: &[Option<JobId>]) -> Result<(), AllocError>
     requires { partial_of row.old ≡ [] }
-    ensures fields { OnOk result (fields_of row.new ≡ fields_of row.old ++ map cell_of (map place_seen places.now)) }
-    ensures partial { OnOk result (partial_of row.new ≡ []) }
+    ensures { OnOk result (HasFields row.new (fields_of row.old ++ map cell_of (map place_seen places.now))) }
 {
     for place in places {
         push_cell(row, *place)?;
@@ -94,8 +93,7 @@ fn push_field(text: &mut Vec<u8>, field: &[u8]) -> Result<(), AllocError>
 
 /// Adds fields, each after a comma.
 fn push_fields(text: &mut Vec<u8>, fields: &[&[u8]]) -> Result<(), AllocError>
-    ensures { OnOk result (text.new.items
-        ≡ text.old.items ++ fields_text default_writer (map (λ f. f.now) fields.now)) }
+    ensures { OnOk result (text.new.items ≡ text.old.items ++ fields_text default_writer (map (λ f. f.now) fields.now)) }
 {
     for field in fields {
         text.push(b',')?;
