@@ -26,7 +26,7 @@ fn refusal_of(value: &Value, version: Version, word: &str) -> Option<CertRefusal
     first_refusal(value, version, word)
 }
 
-fn judged(alloc: Global, value: &Value, word: &str) -> Result<CertFile, CertRefusal>
+fn judge_value(alloc: Global, value: &Value, word: &str) -> Result<CertFile, CertRefusal>
     requires { size (view value.now) < 2 ^ 32 }
     ensures { JudgesValue version.Second IsFileOf result word.now (view value.now) }
 {
@@ -60,7 +60,7 @@ pub fn read(alloc: Global, bytes: &[u8], word: &str) -> Result<CertFile, CertRef
     ensures small { IfOk result (λ f. HasSmallDuals (certificate_seen f.certificate)) }
 {
     match Value::from_slice(alloc, bytes) {
-        Ok(value) => judged(alloc, &value, word),
+        Ok(value) => judge_value(alloc, &value, word),
         Err(error) if error.is_memory() => Err(CertRefusal::Memory),
         Err(_) => Err(CertRefusal::NotJson),
     }

@@ -10,7 +10,7 @@ use crate::script::{list_is_lawful, next_of, segment_at, segments_of, task_of, t
 use schedule_model::{JobId, JobList};
 
 /// The place of task `x` after its job has executed this many more ticks of the segment, at tick `after`.
-fn stepped(jobs: &JobList, after: u64, more: u64, x: u32, place: &ScriptPlace) -> ScriptPlace
+fn place_after(jobs: &JobList, after: u64, more: u64, x: u32, place: &ScriptPlace) -> ScriptPlace
     requires { CanStep jobs.now.jobs more x place.now }
     ensures { StepsTo jobs.now.jobs after more x place.now result }
 {
@@ -54,7 +54,7 @@ fn step_one(jobs: &JobList, after: u64, more: u64, j: JobId, places: &mut [Scrip
     ensures { StepsAlone jobs.now after more j.0 places.old places.new }
 {
     let x = task_of(jobs, j.0);
-    places[x.0 as usize] = stepped(jobs, after, more, x.0, &places[x.0 as usize]);
+    places[x.0 as usize] = place_after(jobs, after, more, x.0, &places[x.0 as usize]);
 }
 
 /// Moves the places of the tasks whose jobs run in the columns, this many ticks on.

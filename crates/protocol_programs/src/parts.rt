@@ -63,7 +63,7 @@ fn costs(alloc: Global, set: &TaskSet, columns: &[Fragment]) -> Result<Vec<u64>,
 }
 
 // The program of these lists, which are those of one.
-fn accepted(costs: Vec<u64>, block: RowBlock) -> Program
+fn program_of(costs: Vec<u64>, block: RowBlock) -> Program
     requires { IsProgram (lists_of costs.items (block_seen block)) }
     ensures { result ≡ lists_of costs.items (block_seen block) }
 {
@@ -95,7 +95,7 @@ pub fn program_with<P: ProgramParts>(
     };
     let columns = parts.take_rows(alloc, &mut block, set, i, bounds)?;
     let costs = costs(alloc, set, &columns)?;
-    Ok(accepted(costs, block))
+    Ok(program_of(costs, block))
 }
 
 /// The same program as that of [`program_with`], kept by its nonzero coefficients. It fails only for want of memory.

@@ -12,7 +12,7 @@ use refusal_laws::Refusal;
 use serde_json::Value;
 use std::alloc::Global;
 
-fn judged(alloc: Global, value: &Value, word: &str) -> Result<(Refusal, [u8; 32]), ReadFault>
+fn judge_value(alloc: Global, value: &Value, word: &str) -> Result<(Refusal, [u8; 32]), ReadFault>
     ensures { JudgesValue result word.now (view value.now) }
 {
     if !is_refusal(value) {
@@ -39,7 +39,7 @@ pub fn read_refusal(
     ensures small { IfOk result (λ given. HasSmallPoints (steps_seen given.0)) }
 {
     match Value::from_slice(alloc, bytes) {
-        Ok(value) => judged(alloc, &value, word),
+        Ok(value) => judge_value(alloc, &value, word),
         Err(error) if error.is_memory() => Err(ReadFault::Memory),
         Err(_) => Err(ReadFault::NotJson),
     }

@@ -92,7 +92,7 @@ fn place_of(alloc: Global, refusal: ModelRefusal) -> Result<String, AllocError>
 }
 
 /// A word, and after it the text of a place.
-fn joined(alloc: Global, word: &str, place: &str) -> Result<String, AllocError>
+fn with_place(alloc: Global, word: &str, place: &str) -> Result<String, AllocError>
     ensures { IfOk result (λ text. string_bytes text ≡ word.now ++ place.now) }
 {
     format!(in alloc; "{word}{place}")
@@ -106,15 +106,15 @@ pub fn reason(alloc: Global, refusal: SetRefusal) -> Result<String, AllocError>
         SetRefusal::NotJson => String::from_str(alloc, "notjson"),
         SetRefusal::Shape(place) => {
             let place = place_words(alloc, place)?;
-            joined(alloc, "shape ", place.as_str())
+            with_place(alloc, "shape ", place.as_str())
         }
         SetRefusal::Model(refusal) => {
             let place = place_of(alloc, refusal)?;
-            joined(alloc, word_of(refusal), place.as_str())
+            with_place(alloc, word_of(refusal), place.as_str())
         }
         SetRefusal::NoHome(q) => {
             let place = place_words(alloc, Place::Resource(q.0))?;
-            joined(alloc, "nohome ", place.as_str())
+            with_place(alloc, "nohome ", place.as_str())
         }
         SetRefusal::Memory => Ok(String::new(alloc)),
     }
@@ -142,7 +142,7 @@ pub fn cert_reason(alloc: Global, refusal: CertRefusal) -> Result<String, AllocE
         CertRefusal::NotJson => String::from_str(alloc, "notjson"),
         CertRefusal::Shape(place) => {
             let place = cert_place_words(alloc, place)?;
-            joined(alloc, "shape ", place.as_str())
+            with_place(alloc, "shape ", place.as_str())
         }
         CertRefusal::Version => String::from_str(alloc, "version"),
         CertRefusal::OtherProtocol => String::from_str(alloc, "otherprotocol"),

@@ -27,7 +27,7 @@ fn place_of(text: &[u8], byte: u8) -> Option<usize>
 }
 
 /// The text before the first such byte, and the text after it.
-fn divided(text: &[u8], byte: u8) -> Option<(&[u8], &[u8])>
+fn split_at_byte(text: &[u8], byte: u8) -> Option<(&[u8], &[u8])>
     ensures { Divides result text.now byte }
 {
     match place_of(text, byte) {
@@ -40,7 +40,7 @@ fn divided(text: &[u8], byte: u8) -> Option<(&[u8], &[u8])>
 fn first_token(text: &[u8]) -> (&[u8], Option<&[u8]>)
     ensures { IsFirstToken result text.now }
 {
-    match divided(text, b' ') {
+    match split_at_byte(text, b' ') {
         Some((token, rest)) => (token, Some(rest)),
         None => (text, None),
     }
@@ -50,7 +50,7 @@ fn first_token(text: &[u8]) -> (&[u8], Option<&[u8]>)
 fn request_of(token: &[u8]) -> Option<Request<'_>>
     ensures { option_map request_seen result ≡ request_in token.now }
 {
-    let Some((resource, ticks)) = divided(token, b':') else {
+    let Some((resource, ticks)) = split_at_byte(token, b':') else {
         return None;
     };
     if resource.is_empty() || resource.len() as u64 > MOST_NAME {

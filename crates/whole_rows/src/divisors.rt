@@ -9,7 +9,7 @@ use crate::numbers::divide_all;
 use fraction128::greatest_common_divisor;
 
 // A fraction with all its common divisors removed.
-pub(crate) fn cancelled(num: i64, den: i64) -> (i64, i64)
+pub(crate) fn lowest_terms(num: i64, den: i64) -> (i64, i64)
     requires { CanBeCancelled num den }
     ensures { AreLowestTerms num den result.0 result.1 }
 {

@@ -20,7 +20,7 @@ fn without_bit(word: u64, bit: usize) -> u64
 }
 
 // The bits of either word.
-fn joined(word: u64, more: u64) -> u64
+fn bits_of_either(word: u64, more: u64) -> u64
     ensures { AreBitsJoined word more result }
 {
     word | more
@@ -47,7 +47,7 @@ pub(crate) fn join_word(words: &mut [u64], place: usize, bits: u64)
     requires { place < length words.old }
     ensures { AreJoinedIn words.old words.new place bits }
 {
-    words[place] = joined(words[place], bits);
+    words[place] = bits_of_either(words[place], bits);
 }
 
 // The position of the first bit that is set, from this one on, or 64 or more.

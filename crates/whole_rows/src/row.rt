@@ -10,7 +10,7 @@ ghost use Rattle.whole_rows.specs.Large.{IsReducedTo, IsTooLarge};
 ghost use Rattle.whole_rows.specs.Bounds.{IsTightened, CanTakeWithin, TakesWithin, IsBoundAfter};
 ghost use Rattle.whole_rows.specs.Steps.{AreSmallCells, IsDividedRow, LeavesRow};
 
-use crate::divisors::{cancelled, divide_parts};
+use crate::divisors::{divide_parts, lowest_terms};
 use crate::numbers::{greatest_size, take_from};
 use crate::pivot::Pivot;
 use std::marker::Model;
@@ -179,7 +179,7 @@ impl WholeRow {
         requires { CanTakeWithin self.old k most pivot.now }
         ensures { TakesWithin result self.old k most pivot.now self.new }
     {
-        let (f, p) = cancelled(self.nums[k], pivot.den());
+        let (f, p) = lowest_terms(self.nums[k], pivot.den());
         let bound = match bound_after(most, p, f, pivot.most()) {
             Some(bound) => bound,
             None => return Err(Large),

@@ -3,4 +3,4 @@ use Rattle.refusal_json.proofs.SmallPoints.{small_if_judged}
 use Rattle.refusal_json.proofs.reading.read_refusal.Goals as goal
 
 pub returns-in-Ok-clause-small : goal.returns-in-Ok-clause-small
-returns-in-Ok-clause-small c = small_if_judged c.judged.result c.args.word.now (view c.in-Ok.value) c.judged.ensures
+returns-in-Ok-clause-small c = small_if_judged c.judge_value.result c.args.word.now (view c.in-Ok.value) c.judge_value.ensures

@@ -10,8 +10,8 @@ use Rattle.whole_rows.proofs.row.WholeRow.take_within.Goals as goal
 
 pub take_from-requires : goal.take_from-requires
 take_from-requires c =
-    let fits_f : FitsSigned w64 c.cancelled-f.result.0 = search rules in
-    let fits_p : FitsSigned w64 c.cancelled-f.result.1 = search rules in
+    let fits_f : FitsSigned w64 c.lowest_terms-f.result.0 = search rules in
+    let fits_p : FitsSigned w64 c.lowest_terms-f.result.1 = search rules in
     let row = row_view c.self.inside in
     let pivot = c.args.pivot.now in
     let bounded : IsBounded (row_view c.self.inside) c.args.most = rw (← c.self.view_is) at c.requires.bounded in
@@ -22,15 +22,15 @@ take_from-requires c =
       sparse = c.most.ensures.sparse;
       below = given.below;
       room = λ j.
-          room_of row pivot c.args.most c.most.result c.in-Some.bound c.cancelled-f.result.1 c.cancelled-f.result.0
+          room_of row pivot c.args.most c.most.result c.in-Some.bound c.lowest_terms-f.result.1 c.lowest_terms-f.result.0
           bounded c.most.ensures value c.in-Some.ensures.fits (num_at row j) (listed_at pivot.entries j) (bounded.nums j)
           (listed_within pivot.entries c.most.result j c.most.ensures.sparse c.most.ensures.nums);
     })
 
 pub less_times-self-inside-requires : goal.less_times-self-inside-requires
 less_times-self-inside-requires c =
-    let fits_f : FitsSigned w64 c.cancelled-f.result.0 = search rules in
-    let fits_p : FitsSigned w64 c.cancelled-f.result.1 = search rules in
+    let fits_f : FitsSigned w64 c.lowest_terms-f.result.0 = search rules in
+    let fits_p : FitsSigned w64 c.lowest_terms-f.result.1 = search rules in
     let own_limit : FitsSigned w64 c.self.inside.limit = search rules in
     let fits_limit : FitsSigned w64 c.limit.result = search rules in
     let row = row_view c.self.inside in
@@ -38,29 +38,29 @@ less_times-self-inside-requires c =
     let bounded : IsBounded (row_view c.self.inside) c.args.most = rw (← c.self.view_is) at c.requires.bounded in
     let value = rw (read _ fits_f, read _ fits_p) at c.in-Some.ensures.value in
     rw (read _ fits_f, read _ fits_p, read _ own_limit, read _ fits_limit, c.limit.ensures)
-    (room_of row pivot c.args.most c.most.result c.in-Some.bound c.cancelled-f.result.1 c.cancelled-f.result.0
+    (room_of row pivot c.args.most c.most.result c.in-Some.bound c.lowest_terms-f.result.1 c.lowest_terms-f.result.0
     bounded c.most.ensures value c.in-Some.ensures.fits row.limit pivot.limit bounded.limit c.most.ensures.limit)
 
 pub overflow_mul-self : goal.overflow_mul-self
 overflow_mul-self c =
-    let fits_f : FitsSigned w64 c.cancelled-f.result.0 = search rules in
-    let fits_p : FitsSigned w64 c.cancelled-f.result.1 = search rules in
+    let fits_f : FitsSigned w64 c.lowest_terms-f.result.0 = search rules in
+    let fits_p : FitsSigned w64 c.lowest_terms-f.result.1 = search rules in
     let own_den : FitsSigned w64 c.self.inside.den = search rules in
     let bounded : IsBounded (row_view c.self.inside) c.args.most = rw (← c.self.view_is) at c.requires.bounded in
     let value = rw (read _ fits_f, read _ fits_p) at c.in-Some.ensures.value in
     rw (read _ own_den, read _ fits_p)
-    (fits_part (c.self.inside.den *ℤ c.cancelled-f.result.1)
-    (den_small (row_view c.self.inside) c.args.most c.most.result c.in-Some.bound c.cancelled-f.result.1 c.cancelled-f.result.0
+    (fits_part (c.self.inside.den *ℤ c.lowest_terms-f.result.1)
+    (den_small (row_view c.self.inside) c.args.most c.most.result c.in-Some.bound c.lowest_terms-f.result.1 c.lowest_terms-f.result.0
     bounded value c.in-Some.ensures.fits))
 
 pub invariant_of-self : goal.invariant_of-self
 invariant_of-self c =
-    let f = c.cancelled-f.result.0 in
-    let p = c.cancelled-f.result.1 in
+    let f = c.lowest_terms-f.result.0 in
+    let p = c.lowest_terms-f.result.1 in
     let row = row_view c.self.inside in
     let pivot = c.args.pivot.now in
-    let fits_f : FitsSigned w64 c.cancelled-f.result.0 = search rules in
-    let fits_p : FitsSigned w64 c.cancelled-f.result.1 = search rules in
+    let fits_f : FitsSigned w64 c.lowest_terms-f.result.0 = search rules in
+    let fits_p : FitsSigned w64 c.lowest_terms-f.result.1 = search rules in
     let own_limit : FitsSigned w64 c.self.inside.limit = search rules in
     let own_den : FitsSigned w64 c.self.inside.den = search rules in
     let fits_limit : FitsSigned w64 c.limit.result = search rules in
@@ -73,25 +73,25 @@ invariant_of-self c =
     let left : RowDef = record {
       nums = c.take_from.new.nums;
       limit = c.less_times-self-inside.result;
-      den = c.self.inside.den *ℤ c.cancelled-f.result.1;
+      den = c.self.inside.den *ℤ c.lowest_terms-f.result.1;
     } in
-    let taken : IsTakenRow (row_view c.self.inside) c.args.k c.cancelled-f.result.1 c.cancelled-f.result.0 c.args.pivot.now left = record {
+    let taken : IsTakenRow (row_view c.self.inside) c.args.k c.lowest_terms-f.result.1 c.lowest_terms-f.result.0 c.args.pivot.now left = record {
       nums = rw (read _ fits_f, read _ fits_p, c.deref_mut.ensures.value, c.entries.ensures.value) at c.take_from.ensures;
       limit = rw (read _ fits_f, read _ fits_p, read _ own_limit, read _ fits_limit, c.limit.ensures) at c.less_times-self-inside.ensures;
       den = refl;
     } in
     rw (items, read _ fits_left, product_read c.self.inside.den p own_den fits_p small)
     (taken_bounded row left pivot c.args.k c.args.most c.most.result c.in-Some.bound p f bounded c.most.ensures
-    c.cancelled-f.ensures.form.positive value c.in-Some.ensures.fits taken)
+    c.lowest_terms-f.ensures.form.positive value c.in-Some.ensures.fits taken)
 
 pub returns : goal.returns
 returns c =
-    let f = c.cancelled-f.result.0 in
-    let p = c.cancelled-f.result.1 in
+    let f = c.lowest_terms-f.result.0 in
+    let p = c.lowest_terms-f.result.1 in
     let row = row_view c.self.inside in
     let pivot = c.args.pivot.now in
-    let fits_f : FitsSigned w64 c.cancelled-f.result.0 = search rules in
-    let fits_p : FitsSigned w64 c.cancelled-f.result.1 = search rules in
+    let fits_f : FitsSigned w64 c.lowest_terms-f.result.0 = search rules in
+    let fits_p : FitsSigned w64 c.lowest_terms-f.result.1 = search rules in
     let own_limit : FitsSigned w64 c.self.inside.limit = search rules in
     let own_den : FitsSigned w64 c.self.inside.den = search rules in
     let fits_limit : FitsSigned w64 c.limit.result = search rules in
@@ -104,9 +104,9 @@ returns c =
     let left : RowDef = record {
       nums = c.take_from.new.nums;
       limit = c.less_times-self-inside.result;
-      den = c.self.inside.den *ℤ c.cancelled-f.result.1;
+      den = c.self.inside.den *ℤ c.lowest_terms-f.result.1;
     } in
-    let taken : IsTakenRow (row_view c.self.inside) c.args.k c.cancelled-f.result.1 c.cancelled-f.result.0 c.args.pivot.now left = record {
+    let taken : IsTakenRow (row_view c.self.inside) c.args.k c.lowest_terms-f.result.1 c.lowest_terms-f.result.0 c.args.pivot.now left = record {
       nums = rw (read _ fits_f, read _ fits_p, c.deref_mut.ensures.value, c.entries.ensures.value) at c.take_from.ensures;
       limit = rw (read _ fits_f, read _ fits_p, read _ own_limit, read _ fits_limit, c.limit.ensures) at c.less_times-self-inside.ensures;
       den = refl;
@@ -116,8 +116,8 @@ returns c =
     get_or_read c.self.inside.nums.items c.args.k c.index.result.now within c.index.ensures (pos 0) in
     let fits_num : FitsSigned w64 c.index.result.now = search rules in
     let fits_den : FitsSigned w64 c.den.result = search rules in
-    let cut : IsCancelled (num_at (row_view c.self.inside) c.args.k) c.args.pivot.now.den c.cancelled-f.result.0 c.cancelled-f.result.1 =
-    rw (read _ fits_num, number, read _ fits_den, c.den.ensures.value) at c.cancelled-f.ensures.form in
+    let cut : IsCancelled (num_at (row_view c.self.inside) c.args.k) c.args.pivot.now.den c.lowest_terms-f.result.0 c.lowest_terms-f.result.1 =
+    rw (read _ fits_num, number, read _ fits_den, c.den.ensures.value) at c.lowest_terms-f.ensures.form in
     rw (items, read _ fits_left, product_read c.self.inside.den p own_den fits_p small, ← c.self.view_is)
     (record {
       left = λ divided own.
@@ -130,24 +130,24 @@ returns c =
 
 pub returns-in-None : goal.returns-in-None
 returns-in-None c =
-    let fits_f : FitsSigned w64 c.cancelled-f.result.0 = search rules in
-    let fits_p : FitsSigned w64 c.cancelled-f.result.1 = search rules in
+    let fits_f : FitsSigned w64 c.lowest_terms-f.result.0 = search rules in
+    let fits_p : FitsSigned w64 c.lowest_terms-f.result.1 = search rules in
     let within : c.args.k < length c.self.inside.nums.items = rw (← c.self.view_is) at c.requires.place in
     let number : c.index.result.now ≡ num_at (row_view c.self.inside) c.args.k =
     get_or_read c.self.inside.nums.items c.args.k c.index.result.now within c.index.ensures (pos 0) in
     let fits_num : FitsSigned w64 c.index.result.now = search rules in
     let fits_den : FitsSigned w64 c.den.result = search rules in
-    let cut : IsCancelled (num_at (row_view c.self.inside) c.args.k) c.args.pivot.now.den c.cancelled-f.result.0 c.cancelled-f.result.1 =
-    rw (read _ fits_num, number, read _ fits_den, c.den.ensures.value) at c.cancelled-f.ensures.form in
+    let cut : IsCancelled (num_at (row_view c.self.inside) c.args.k) c.args.pivot.now.den c.lowest_terms-f.result.0 c.lowest_terms-f.result.1 =
+    rw (read _ fits_num, number, read _ fits_den, c.den.ensures.value) at c.lowest_terms-f.ensures.form in
     rw (← c.self.view_is) (record {
       left = λ divided own. tt;
       as_many = refl;
       stays = refl;
       large = record {
-        f = c.cancelled-f.result.0;
-        p = c.cancelled-f.result.1;
+        f = c.lowest_terms-f.result.0;
+        p = c.lowest_terms-f.result.1;
         factor = cut;
-        apart = c.cancelled-f.ensures.apart;
+        apart = c.lowest_terms-f.ensures.apart;
         other = c.most.result;
         is_other = c.most.ensures.attained;
         large = rw (read _ fits_f, read _ fits_p) at c.in-None.ensures.large;

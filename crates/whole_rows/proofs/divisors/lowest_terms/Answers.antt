@@ -5,7 +5,7 @@ use Rattle.std.proofs.Math.Nat.{eq-one_of_dvd-one}
 use Rattle.number_laws.proofs.Order.{above_zero}
 use Rattle.whole_rows.proofs.Dividing.{cancelled_apart, common_positive, divisor_fits, gcd_read, is_cancelled, whole_cancelled}
 use Rattle.whole_rows.proofs.Dividing.{quotient_read, quotient_fits_read}
-use Rattle.whole_rows.proofs.divisors.cancelled.Goals as goal
+use Rattle.whole_rows.proofs.divisors.lowest_terms.Goals as goal
 
 pub returns-then-den-eq1 : goal.returns-then-den-eq1
 returns-then-den-eq1 c =

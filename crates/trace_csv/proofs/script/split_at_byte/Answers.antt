@@ -1,7 +1,7 @@
 use Rattle.std.proofs.Common.{◌+◌, ◌==◌, ℕ, Bool, take, drop, sym, ap, ◌∙◌, arith}
 use Rattle.std.proofs.lemmas.List.{length-drop, take_rest}
 use Rattle.trace_csv.proofs.Dividing.{none_passes, first_passes}
-use Rattle.trace_csv.proofs.script.divided.Goals as goal
+use Rattle.trace_csv.proofs.script.split_at_byte.Goals as goal
 
 pub returns-in-Some : goal.returns-in-Some
 returns-in-Some c =

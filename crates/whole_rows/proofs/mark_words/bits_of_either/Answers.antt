@@ -1,6 +1,6 @@
 use Rattle.std.proofs.Common.{arith}
 use Rattle.std.proofs.lemmas.Nat.Bits.{bit_at_or, bit_at-lt}
-use Rattle.whole_rows.proofs.mark_words.joined.Goals as goal
+use Rattle.whole_rows.proofs.mark_words.bits_of_either.Goals as goal
 
 pub returns : goal.returns
 returns c = record {
