@@ -6,6 +6,7 @@ ghost use Rattle.schedule_model.specs.Seen.{row_seen, place_seen};
 ghost use Rattle.phase_machine.specs.MachineDef.{under};
 ghost use Rattle.phase_machine.specs.Shows.{Shows};
 ghost use Rattle.phase_machine.specs.Taking.{IsRowFor};
+ghost use Rattle.shared_rules.specs.Given.{AreRowAndJob, AreTwoJobs};
 ghost use Rattle.shared_rules.specs.Blocked.{waits_beside, blocked_now};
 
 use phase_machine::Machine;
@@ -14,8 +15,7 @@ use schedule_model::{JobId, Row};
 
 /// Is the job that runs on the job's processor, if there is one, another job, and not of a higher task there?
 fn waits_beside(machine: &Machine, j: JobId, running: Option<JobId>) -> bool
-    requires listed { j.0 < length machine.now.list.jobs }
-    requires running { IfSome running (λ r. r.0 < length machine.now.list.jobs) }
+    requires { AreTwoJobs machine.now.list j.0 running }
     ensures { result ≡ waits_beside machine.now j.0 (place_seen running) }
 {
     match running {
@@ -33,8 +33,7 @@ fn waits_beside(machine: &Machine, j: JobId, running: Option<JobId>) -> bool
 /// Is the job active and not running, and does no job of a higher task of its processor run there?
 #[tactic(auto, unfolding(crate::specs::Blocked::blocked_now))]
 fn is_blocked(machine: &Machine, row: &Row, j: JobId) -> bool
-    requires fits { IsRowFor machine.now.list (row_seen row.now) }
-    requires listed { j.0 < length machine.now.list.jobs }
+    requires { AreRowAndJob machine.now.list (row_seen row.now) j.0 }
     ensures { result ≡ blocked_now machine.now (row_seen row.now) j.0 }
 {
     machine.active(j) && waits_beside(machine, j, running_beside(machine, row, j))

@@ -7,6 +7,7 @@ ghost use Rattle.phase_machine.specs.MachineDef.{under};
 ghost use Rattle.phase_machine.specs.Shows.{Shows};
 ghost use Rattle.phase_machine.specs.Taking.{IsRowFor};
 ghost use Rattle.phase_machine.specs.Judged.{Judged};
+ghost use Rattle.shared_rules.specs.Given.{AreRowAndJob, AreRowAndResource, AreRowAndColumn, AreRowAndTwoJobs, IsRequestBeside};
 ghost use Rattle.shared_rules.specs.RowTests.{each_current};
 ghost use Rattle.shared_rules.specs.RowTests.{may_stand, column_passes, each_stands, kept_passes};
 ghost use Rattle.shared_rules.specs.RowTests.{holder_passes, goes_before, request_passes, idle_passes, runs_before};
@@ -26,8 +27,7 @@ use sporadic_model::ResourceId;
 /// May the job be in the column, counted from 0?
 fn may_stand<C: Columns>(columns: &C, machine: &Machine, row: &Row, c: usize, j: JobId) -> bool
     requires suits { C.suits columns.now machine.now.list.set }
-    requires fits { IsRowFor machine.now.list (row_seen row.now) }
-    requires listed { j.0 < length machine.now.list.jobs }
+    requires at { AreRowAndJob machine.now.list (row_seen row.now) j.0 }
     ensures { result ≡ may_stand machine.now (C.column columns.now machine.now) (row_seen row.now) c j.0 }
 {
     machine.active(j)
@@ -38,8 +38,7 @@ fn may_stand<C: Columns>(columns: &C, machine: &Machine, row: &Row, c: usize, j:
 /// May the job that runs in the column be there?
 fn column_passes<C: Columns>(columns: &C, machine: &Machine, row: &Row, c: usize) -> bool
     requires suits { C.suits columns.now machine.now.list.set }
-    requires fits { IsRowFor machine.now.list (row_seen row.now) }
-    requires column { c < length (row_seen row.now).running }
+    requires at { AreRowAndColumn machine.now.list (row_seen row.now) c }
     ensures { result ≡ column_passes machine.now (C.column columns.now machine.now) (row_seen row.now) c }
 {
     match column_at(machine, row, c) {
@@ -65,8 +64,7 @@ pub fn each_stands<C: Columns>(columns: &C, machine: &Machine, row: &Row) -> boo
 
 /// Does the resource's holder in the last row hold it, if it still requests it?
 fn kept_passes(machine: &Machine, row: &Row, q: ResourceId) -> bool
-    requires fits { IsRowFor machine.now.list (row_seen row.now) }
-    requires resource { q.0 < length machine.now.list.set.resources }
+    requires { AreRowAndResource machine.now.list (row_seen row.now) q.0 }
     ensures { result ≡ kept_passes machine.now (row_seen row.now) q.0 }
 {
     match machine.holder(q) {
@@ -91,8 +89,7 @@ pub fn passes_keep(machine: &Machine, row: &Row) -> bool
 
 /// Does the resource's holder request it?
 fn holder_passes(machine: &Machine, row: &Row, q: ResourceId) -> bool
-    requires fits { IsRowFor machine.now.list (row_seen row.now) }
-    requires resource { q.0 < length machine.now.list.set.resources }
+    requires { AreRowAndResource machine.now.list (row_seen row.now) q.0 }
     ensures { result ≡ holder_passes machine.now (row_seen row.now) q.0 }
 {
     match holder_at(machine, row, q) {
@@ -116,8 +113,7 @@ pub fn holders_pass(machine: &Machine, row: &Row) -> bool
 
 /// Has the resource that the job requests a holder: an old one, or one that goes no later than the job?
 fn request_passes<O: Order>(order: &O, machine: &Machine, row: &Row, j: JobId) -> bool
-    requires fits { IsRowFor machine.now.list (row_seen row.now) }
-    requires listed { j.0 < length machine.now.list.jobs }
+    requires { AreRowAndJob machine.now.list (row_seen row.now) j.0 }
     ensures { result ≡ request_passes machine.now (O.grant order.now machine.now) (row_seen row.now) j.0 }
 {
     match machine.phase(j) {
@@ -134,9 +130,7 @@ fn goes_before<O: Order>(
     j: JobId,
     holder: Option<JobId>,
 ) -> bool
-    requires resource { q.0 < length machine.now.list.set.resources }
-    requires listed { j.0 < length machine.now.list.jobs }
-    requires holder { IfSome holder (λ h. h.0 < length machine.now.list.jobs) }
+    requires { IsRequestBeside machine.now.list q.0 j.0 holder }
     ensures { result ≡ goes_before machine.now (O.grant order.now machine.now) q.0 j.0 (place_seen holder) }
 {
     match holder {
@@ -174,8 +168,7 @@ fn requests_pass<O: Order>(order: &O, machine: &Machine, row: &Row) -> bool
 
 /// Idle, for one job: does its processor run something, if the job is ready?
 fn idle_passes(machine: &Machine, row: &Row, j: JobId) -> bool
-    requires fits { IsRowFor machine.now.list (row_seen row.now) }
-    requires listed { j.0 < length machine.now.list.jobs }
+    requires { AreRowAndJob machine.now.list (row_seen row.now) j.0 }
     ensures { result ≡ idle_passes machine.now (row_seen row.now) j.0 }
 {
     !may_run(machine, &row.holders, j) || running_beside(machine, row, j).is_some()
@@ -214,9 +207,7 @@ fn runs_before<O: Order>(
     j: JobId,
     running: Option<JobId>,
 ) -> bool
-    requires fits { IsRowFor machine.now.list (row_seen row.now) }
-    requires listed { j.0 < length machine.now.list.jobs }
-    requires running { IfSome running (λ r. r.0 < length machine.now.list.jobs) }
+    requires { AreRowAndTwoJobs machine.now.list (row_seen row.now) j.0 running }
     ensures { result ≡ runs_before machine.now (O.run order.now machine.now) (row_seen row.now) j.0 (place_seen running) }
 {
     match running {
@@ -232,8 +223,7 @@ fn runs_before<O: Order>(
 
 /// Priority, for one job: does the job that runs on its processor go no later?
 fn priority_passes<O: Order>(order: &O, machine: &Machine, row: &Row, j: JobId) -> bool
-    requires fits { IsRowFor machine.now.list (row_seen row.now) }
-    requires listed { j.0 < length machine.now.list.jobs }
+    requires { AreRowAndJob machine.now.list (row_seen row.now) j.0 }
     ensures { result ≡ priority_passes machine.now (O.run order.now machine.now) (row_seen row.now) j.0 }
 {
     runs_before(order, machine, row, j, running_beside(machine, row, j))
