@@ -2,7 +2,7 @@
 use Rattle.std.specs.Prelude.{◌≡◌, ◌≢◌, ◌⊎◌, ℕ, ◌<◌, List, [], ◌∷◌, ◌++◌, pos, Result, Ok, Err}
 use Rattle.std.specs.Global.{Global}
 use Rattle.std.specs.declared.vec.Vec.{Vec}
-use Rattle.fraction128.specs.Fraction.{Fraction, IsQuotient}
+use Rattle.fraction128.specs.Fraction.{Fraction, IsForm, IsQuotient}
 use Rattle.fraction128.specs.Gives.{HasNoForm, IsWideLess}
 use Rattle.fraction128.specs.declared.Wide.{Wide}
 use Rattle.exchange_runs.specs.Exchange.{IsLess}
@@ -15,6 +15,11 @@ use Rattle.simplex.specs.declared.SolveStop.TheVariants.{Memory, Wide as WideSto
 abbrev pub TakesCell : Result Fraction Wide → Fraction → Fraction → Fraction → Type 0
 TakesCell (Ok b) a f y = IsLess a f y b
 TakesCell (Err w) a f y = IsWideLess a f y
+
+-- Can it be divided by: is it not zero, and can a `Frac` hold it?
+pub record IsDivisor (by : Fraction) : Type 0 where
+  pub nonzero : by.num ≢ pos 0
+  pub form : IsForm by
 
 -- Is `divided` the list with each value divided?
 pub record AreDivided (entries : List Entry) (by : Fraction) (divided : List Entry) : Type 0 where

@@ -23,11 +23,26 @@ pub record AreSparse (entries : List Entry) : Type 0 where
 abbrev pub AreBelow : ℕ → List Entry → Type 0
 AreBelow end entries = (k : ℕ) → k < length entries → (entry_at entries k).variable < end
 
+-- Are they a list of nonzero cells in order of their variables, all below `end`?
+pub record AreSparseBelow (end : ℕ) (entries : List Entry) : Type 0 where
+  pub sparse : AreSparse entries
+  pub below : AreBelow end entries
+
+-- Is it the value at variable v, which a `Frac` can hold?
+pub record IsValueAt (entries : List Entry) (v : ℕ) (f : Fraction) : Type 0 where
+  pub value : f ≡ listed_at entries v
+  pub form : IsForm f
+
 -- Are the first `count` entries those of variables below v?
 pub record IsSplit (entries : List Entry) (count v : ℕ) : Type 0 where
   pub within : count ≤ length entries
   pub before : (k : ℕ) → k < count → (entry_at entries k).variable < v
   pub behind : (k : ℕ) → count ≤ k → k < length entries → v ≤ (entry_at entries k).variable
+
+-- The same of a list of nonzero cells in order of their variables.
+pub record IsSplitAt (entries : List Entry) (count v : ℕ) : Type 0 where
+  pub sparse : AreSparse entries
+  pub split : IsSplit entries count v
 
 -- Is the entry at a place of the list that of variable v?
 abbrev pub IsAt : Bool → List Entry → ℕ → ℕ → Type 0

@@ -1,11 +1,12 @@
 -- What do the parts of an exchange answer at all rows?
-use Rattle.std.specs.Prelude.{◌≡◌, ◌≢◌, ◌⊎◌, ℕ, ◌+◌, ◌<◌, List, length, Result, Ok, Err}
+use Rattle.std.specs.Prelude.{◌≡◌, ◌≢◌, ◌⊎◌, ℕ, ◌+◌, ◌<◌, List, length, pos, Result, Ok, Err}
 use Rattle.program_form.specs.Program.{ProgramDef, height}
 use Rattle.exchange_runs.specs.Table.{variables}
-use Rattle.exchange_runs.specs.Exchange.{IsExchange, IsLeaving}
+use Rattle.exchange_runs.specs.Exchange.{IsEntering, IsExchange, IsLeaving}
+use Rattle.exchange_runs.specs.Run.{Reached}
 use Rattle.fraction128.specs.Gives.{IsWideLess}
 use Rattle.exchange_runs.specs.WideExchange.{IsWideRatio, IsWideStep}
-use Rattle.simplex.specs.Rows.{RowDef, cell_at}
+use Rattle.simplex.specs.Rows.{RowDef, places, cell_at}
 use Rattle.simplex.specs.Tables.{row_of, table_of, HasSize}
 use Rattle.simplex.specs.RowSteps.{IsDividedRow, IsLeftRow}
 use Rattle.simplex.specs.declared.SolveStop.{SolveStop}
@@ -24,6 +25,12 @@ TakesAll (Err Wide) before after e r pivot = (i : ℕ) × (v : ℕ) × (i < leng
     × IsWideLess (cell_at (row_of before i) v) (cell_at (row_of before i) e) (cell_at pivot v)
 TakesAll (Err Units) before after e r pivot = ⊥
 
+-- Can row r be exchanged at e: have all rows as many places, and is its cell there not zero?
+pub record CanExchange (rows : List RowDef) (e r : ℕ) : Type 0 where
+  pub row : r < length rows
+  pub even : (i : ℕ) → i < length rows → places (row_of rows i) ≡ places (row_of rows r)
+  pub pivot : (cell_at (row_of rows r) e).num ≢ pos 0
+
 -- Is row r divided by its cell at e? And has its cell at e times the new row r been subtracted from each other row?
 pub record AreExchanged (before after : List RowDef) (e r : ℕ) : Type 0 where
   pub as_many : length after ≡ length before
@@ -38,6 +45,12 @@ ExchangesIn (Err Memory) before after e r = Unit {0}
 ExchangesIn (Err Wide) before after e r =
     (most : ℕ) (basis : List ℕ) → length before ≡ most + 1 → IsWideStep most (table_of before basis) e r
 ExchangesIn (Err Units) before after e r = ⊥
+
+-- Has a run of the program reached the table of these rows, and does variable e enter now?
+pub record CanStep (p : ProgramDef) (rows : List RowDef) (basis : List ℕ) (e : ℕ) : Type 0 where
+  pub size : HasSize p rows basis
+  pub enters : IsEntering p (table_of rows basis) e
+  pub reached : (k : ℕ) × Reached p k (table_of rows basis)
 
 -- The next table, or Wide exactly if the exchange is wide.
 abbrev pub Steps : Result (Unit {0}) SolveStop → ProgramDef → ℕ → List RowDef → List ℕ → List RowDef → List ℕ → Type 0

@@ -10,6 +10,10 @@ pub record RowDef : Type 0 where
   pub place : ℕ
   pub limit : Fraction
 
+-- The row of these cells, with its limit at this place.
+abbrev pub row_with : List Entry → ℕ → Fraction → RowDef
+row_with entries place limit = record { entries = entries; place = place; limit = limit }
+
 -- How many places has the row?
 abbrev pub places : RowDef → ℕ
 places row = row.place + 1
@@ -31,6 +35,11 @@ pub record IsSparseRow (row : RowDef) : Type 0 where
 -- Can a `Frac` hold each cell?
 abbrev pub HasForms : RowDef → Type 0
 HasForms row = (v : ℕ) → IsForm (cell_at row v)
+
+-- Is it the row's cell at place v? And can a `Frac` hold each of its cells?
+pub record IsCellRead (row : RowDef) (v : ℕ) (f : Fraction) : Type 0 where
+  pub value : f ≡ cell_at row v
+  pub forms : HasForms row
 
 -- The row without variables, whose limit is zero.
 abbrev pub no_row : RowDef

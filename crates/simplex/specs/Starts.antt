@@ -1,12 +1,17 @@
 -- The parts of the first table, as lists.
-use Rattle.std.specs.Prelude.{◌≡◌, ℕ, ◌+◌, ◌<◌, List, length, slice_index, pos}
+use Rattle.std.specs.Prelude.{◌≡◌, ℕ, ◌+◌, ◌<◌, ◌^◌, List, length, slice_index, pos}
 use Rattle.fraction128.specs.Fraction.{whole}
 use Rattle.program_form.specs.Program.{ProgramDef, height}
-use Rattle.exchange_runs.specs.Table.{variables, slack, first_number}
+use Rattle.exchange_runs.specs.Table.{variables, slack, first_limit, first_number}
 use Rattle.simplex.specs.declared.entries.Entry.{Entry}
 use Rattle.simplex.specs.Entries.{listed_at, AreSparse, AreBelow}
 use Rattle.simplex.specs.Rows.{RowDef, Fits, cell_at}
 use Rattle.simplex.specs.Tables.{row_of}
+
+-- Is n the limit of row i, or zero for the objective row, and below 2^63?
+pub record IsFirstLimit (p : ProgramDef) (i n : ℕ) : Type 0 where
+  pub value : n ≡ first_limit p i
+  pub small : n < 2 ^ 63
 
 -- Are these the nonzero numbers of the first n variables in row i of the first table of p?
 pub record AreFirstEntries (p : ProgramDef) (i n : ℕ) (entries : List Entry) : Type 0 where

@@ -17,3 +17,8 @@ pub record HasSize (p : ProgramDef) (rows : List RowDef) (basis : List ℕ) : Ty
   pub row_each : length rows ≡ height p + 1
   pub basic_each : length basis ≡ height p
   pub fits : (i : ℕ) → i < height p + 1 → Fits (variables p) (row_of rows i)
+
+-- Is there a row for each row of the program and one for the objective, and has that one the right places?
+pub record HasObjective (p : ProgramDef) (rows : List RowDef) : Type 0 where
+  pub row_each : length rows ≡ height p + 1
+  pub fits : Fits (variables p) (row_of rows (height p))

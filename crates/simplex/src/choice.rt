@@ -1,12 +1,8 @@
 //! Which variable enters the basis, and which row leaves it?
 
-ghost use Rattle.std.specs.Prelude.{◌≡◌, ℕ, ◌+◌, ◌<◌, ◌≤◌, List, length, slice_index, IfSome};
-ghost use Rattle.program_form.specs.Program.{height};
-ghost use Rattle.exchange_runs.specs.Table.{Table, variables};
-ghost use Rattle.exchange_runs.specs.Exchange.{HasRatio, IsRatio, IsLeastOf};
-ghost use Rattle.simplex.specs.Rows.{Fits};
-ghost use Rattle.simplex.specs.Tables.{row_of, table_of};
-ghost use Rattle.simplex.specs.Choice.{Enters, Comes, IsLeastSoFar, Leaves};
+ghost use Rattle.std.specs.Prelude.{ℕ, ◌≤◌, List, length, Some};
+ghost use Rattle.simplex.specs.Tables.{table_of, HasObjective};
+ghost use Rattle.simplex.specs.Choice.{Enters, Comes, IsLaterRow, IsLeastThrough, Leaves};
 
 use crate::row::SparseRow;
 use fraction128::{Frac, Wide};
@@ -15,8 +11,7 @@ use std::cmp::Ordering;
 
 // The least variable whose objective cell is above 0.
 pub(crate) fn entering(program: &SparseProgram, rows: &[SparseRow]) -> Option<usize>
-    requires rows { length rows.now ≡ height program.now + 1 }
-    requires fits { Fits (variables program.now) (row_of rows.now (height program.now)) }
+    requires { HasObjective program.now rows.now }
     ensures { (basis : List ℕ) → Enters result program.now (table_of rows.now basis) }
 {
     rows[program.rows() as usize].first_above()
@@ -35,11 +30,8 @@ fn comes_before(g: Frac, f: Frac, j: usize, i: usize) -> bool
 
 // The row of the least ratio so far, or the next row.
 fn better(r: usize, least: Frac, i: usize, ratio: Frac, basis: &[usize]) -> (usize, Frac)
-    requires earlier { r < i }
-    requires within { i < length basis.now }
-    ensures { (t : Table) (place e : ℕ) → ((k : ℕ) → t.basic k ≡ slice_index basis.now k)
-        → IsLeastOf place t e i r least → HasRatio t e i → IsRatio place t e i ratio
-        → IsLeastOf place t e (i + 1) result.0 result.1 }
+    requires { IsLaterRow (Some (r, least)) i basis.now }
+    ensures { IsLeastThrough basis.now (Some (r, least)) i ratio result }
 {
     if comes_before(ratio, least, basis[i], basis[r]) {
         (i, ratio)
@@ -55,11 +47,8 @@ fn better_or_first(
     ratio: Frac,
     basis: &[usize],
 ) -> (usize, Frac)
-    requires within { i < length basis.now }
-    requires earlier { IfSome best (λ b. b.0 < i) }
-    ensures { (t : Table) (place e : ℕ) → ((k : ℕ) → t.basic k ≡ slice_index basis.now k)
-        → IsLeastSoFar place t e i best → HasRatio t e i → IsRatio place t e i ratio
-        → IsLeastOf place t e (i + 1) result.0 result.1 }
+    requires { IsLaterRow best i basis.now }
+    ensures { IsLeastThrough basis.now best i ratio result }
 {
     match best {
         Some((r, least)) => better(r, least, i, ratio, basis),

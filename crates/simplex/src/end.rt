@@ -1,15 +1,12 @@
 //! What is read from the last table.
 
-ghost use Rattle.std.specs.Prelude.{◌≡◌, ℕ, ◌<◌, ◌≤◌, pos, ◌≤ℤ◌, length, IfOk};
-ghost use Rattle.fraction128.specs.Fraction.{whole};
-ghost use Rattle.fraction128.specs.Scaling.{fraction_at};
-ghost use Rattle.program_form.specs.Program.{columns, height};
-ghost use Rattle.exchange_runs.specs.Table.{Table, variables};
-ghost use Rattle.exchange_runs.specs.Exchange.{IsLast};
-ghost use Rattle.exchange_runs.specs.Readings.{IsPrimal, IsValueOf};
-ghost use Rattle.simplex.specs.Rows.{Fits, cell_at};
-ghost use Rattle.simplex.specs.Tables.{row_of, table_of, HasSize};
-ghost use Rattle.simplex.specs.Ends.{WritesDual, Finishes};
+ghost use Rattle.std.specs.Prelude.{◌≡◌, ℕ, IfOk};
+ghost use Rattle.program_form.specs.Program.{height};
+ghost use Rattle.exchange_runs.specs.Table.{Table};
+ghost use Rattle.exchange_runs.specs.Readings.{IsPrimal};
+ghost use Rattle.simplex.specs.Rows.{cell_at};
+ghost use Rattle.simplex.specs.Tables.{table_of, HasSize};
+ghost use Rattle.simplex.specs.Ends.{IsLastRow, WritesDual, AreZeros, CanWriteLimits, AreLimitsOf, IsLastTable, Finishes};
 
 use crate::row::SparseRow;
 use crate::{SolveStop, Solved};
@@ -19,8 +16,7 @@ use std::alloc::{AllocError, Global};
 
 // The dual of the objective row of a last table.
 fn dual_of(alloc: Global, program: &SparseProgram, row: &SparseRow) -> Result<Dual, SolveStop>
-    requires fits { Fits (variables program.now) row.now }
-    requires last { (v : ℕ) → v < variables program.now → (cell_at row.now v).num ≤ℤ pos 0 }
+    requires { IsLastRow program.now row.now }
     ensures { (t : Table) → ((v : ℕ) → t.cell (height program.now) v ≡ cell_at row.now v) → WritesDual result program.now t }
 {
     let columns = program.columns() as usize;
@@ -35,8 +31,7 @@ fn dual_of(alloc: Global, program: &SparseProgram, row: &SparseRow) -> Result<Du
 
 // This many zeros.
 fn zeros(alloc: Global, count: usize) -> Result<Vec<Frac>, AllocError>
-    ensures len { IfOk result (λ v. length v.items ≡ count) }
-    ensures zero { IfOk result (λ v. (c : ℕ) → fraction_at v.items c ≡ whole (pos 0)) }
+    ensures { IfOk result (λ v. AreZeros count v.items) }
 {
     let mut list = Vec::with_capacity(alloc, count)?;
     for _ in 0..count {
@@ -47,11 +42,8 @@ fn zeros(alloc: Global, count: usize) -> Result<Vec<Frac>, AllocError>
 
 // Writes the limit of each row whose basic variable is a column at that column.
 fn write_limits(values: &mut [Frac], rows: &[SparseRow], basis: &[usize], place: usize)
-    requires zero { (c : ℕ) → fraction_at values.old c ≡ whole (pos 0) }
-    requires rows { length basis.now ≤ length rows.now }
-    requires fits { (i : ℕ) → i < length rows.now → Fits place (row_of rows.now i) }
-    ensures { (c : ℕ) → c < length values.new
-        → IsValueOf place (table_of rows.now basis.now) (length basis.now) c (fraction_at values.new c) }
+    requires { CanWriteLimits values.old rows.now basis.now place }
+    ensures { AreLimitsOf rows.now basis.now place values.new }
 {
     for i in 0..basis.len() {
         let column = basis[i];
@@ -86,8 +78,7 @@ pub(crate) fn finish(
     basis: &[usize],
     exchanges: u64,
 ) -> Result<Solved, SolveStop>
-    requires size { HasSize program.now rows.now basis.now }
-    requires last { IsLast program.now (table_of rows.now basis.now) }
+    requires { IsLastTable program.now rows.now basis.now }
     ensures { Finishes result program.now (table_of rows.now basis.now) exchanges }
 {
     let objective = program.rows() as usize;

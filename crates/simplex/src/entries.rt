@@ -1,9 +1,9 @@
 //! Lists of nonzero cells in order of their variables, and what an exchange does to them.
 
-ghost use Rattle.std.specs.Prelude.{◌≡◌, ◌≢◌, ◌+◌, IfOk, pos};
+ghost use Rattle.std.specs.Prelude.{◌+◌, IfOk};
 ghost use Rattle.fraction128.specs.Fraction.{IsForm};
-ghost use Rattle.simplex.specs.Entries.{listed_at, AreSparse, AreBelow, IsSplit, IsAt, IsBehind, IsFirstListed};
-ghost use Rattle.simplex.specs.CellSteps.{TakesCell, DividesAll, IsPushed, TakesAway};
+ghost use Rattle.simplex.specs.Entries.{AreSparse, AreSparseBelow, IsSplit, IsSplitAt, IsAt, IsBehind, IsValueAt, IsFirstListed};
+ghost use Rattle.simplex.specs.CellSteps.{IsDivisor, TakesCell, DividesAll, IsPushed, TakesAway};
 
 use crate::SolveStop;
 use fraction128::{Frac, Wide};
@@ -36,10 +36,8 @@ fn is_at(entries: &[Entry], place: usize, v: usize) -> bool
 
 // The value at variable v, if this many entries are at variables below it.
 fn value_behind(entries: &[Entry], count: usize, v: usize) -> Frac
-    requires sparse { AreSparse entries.now }
-    requires split { IsSplit entries.now count v }
-    ensures value { result ≡ listed_at entries.now v }
-    ensures form { IsForm result }
+    requires { IsSplitAt entries.now count v }
+    ensures { IsValueAt entries.now v result }
 {
     if is_at(entries, count, v) {
         entries[count].value
@@ -50,8 +48,7 @@ fn value_behind(entries: &[Entry], count: usize, v: usize) -> Frac
 
 // How many entries are at variables up to v, if this many are at variables below it.
 fn count_through(entries: &[Entry], count: usize, v: usize) -> usize
-    requires sparse { AreSparse entries.now }
-    requires split { IsSplit entries.now count v }
+    requires { IsSplitAt entries.now count v }
     ensures { IsSplit entries.now result (v + 1) }
 {
     if is_at(entries, count, v) {
@@ -64,8 +61,7 @@ fn count_through(entries: &[Entry], count: usize, v: usize) -> usize
 // The value at variable v.
 pub(crate) fn value_at(entries: &[Entry], v: usize) -> Frac
     requires { AreSparse entries.now }
-    ensures value { result ≡ listed_at entries.now v }
-    ensures form { IsForm result }
+    ensures { IsValueAt entries.now v result }
 {
     for entry in entries {
         if entry.variable == v {
@@ -94,8 +90,7 @@ pub(crate) fn divide_all(
     entries: &[Entry],
     by: Frac,
 ) -> Result<Vec<Entry>, SolveStop>
-    requires divisor { by.num ≢ pos 0 }
-    requires form { IsForm by }
+    requires divisor { IsDivisor by }
     requires sparse { AreSparse entries.now }
     ensures { DividesAll result entries.now by }
 {
@@ -139,10 +134,8 @@ pub(crate) fn take_away(
     pivot: &[Entry],
     end: usize,
 ) -> Result<Vec<Entry>, SolveStop>
-    requires sparse { AreSparse entries.now }
-    requires below { AreBelow end entries.now }
-    requires pivot_sparse { AreSparse pivot.now }
-    requires pivot_below { AreBelow end pivot.now }
+    requires row { AreSparseBelow end entries.now }
+    requires pivot { AreSparseBelow end pivot.now }
     ensures { TakesAway result end entries.now f pivot.now }
 {
     let mut left = Vec::new(alloc);

@@ -1,11 +1,9 @@
 //! One exchange of a table.
 
-ghost use Rattle.std.specs.Prelude.{◌≡◌, ◌≢◌, ℕ, ◌<◌, length, pos};
-ghost use Rattle.exchange_runs.specs.Exchange.{IsEntering};
-ghost use Rattle.exchange_runs.specs.Run.{Reached};
-ghost use Rattle.simplex.specs.Rows.{places, cell_at};
-ghost use Rattle.simplex.specs.Tables.{row_of, table_of, HasSize};
-ghost use Rattle.simplex.specs.Exchanges.{TakesAll, ExchangesIn, Steps};
+ghost use Rattle.std.specs.Prelude.{◌≡◌, ◌≢◌, ℕ, ◌<◌, length};
+ghost use Rattle.simplex.specs.Rows.{places};
+ghost use Rattle.simplex.specs.Tables.{row_of};
+ghost use Rattle.simplex.specs.Exchanges.{TakesAll, CanExchange, ExchangesIn, CanStep, Steps};
 
 use crate::SolveStop;
 use crate::choice::leaving;
@@ -37,9 +35,7 @@ fn take_all(
 
 // Divides row r by its cell at e. Then subtracts it from each other row, times that row's cell at e.
 fn exchange(alloc: Global, rows: &mut [SparseRow], e: usize, r: usize) -> Result<(), SolveStop>
-    requires row { r < length rows.old }
-    requires even { (i : ℕ) → i < length rows.old → places (row_of rows.old i) ≡ places (row_of rows.old r) }
-    requires pivot { (cell_at (row_of rows.old r) e).num ≢ pos 0 }
+    requires { CanExchange rows.old e r }
     ensures { ExchangesIn result rows.old rows.new e r }
 {
     let cell = rows[r].cell(e);
@@ -57,9 +53,7 @@ pub(crate) fn step(
     basis: &mut [usize],
     e: usize,
 ) -> Result<(), SolveStop>
-    requires size { HasSize program.now rows.old basis.old }
-    requires enters { IsEntering program.now (table_of rows.old basis.old) e }
-    requires reached { (k : ℕ) × Reached program.now k (table_of rows.old basis.old) }
+    requires { CanStep program.now rows.old basis.old e }
     ensures { Steps result program.now e rows.old basis.old rows.new basis.new }
 {
     let variables = program.columns() as usize + program.rows() as usize;

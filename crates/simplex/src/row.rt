@@ -1,10 +1,9 @@
 //! A row of a table, and what an exchange does to it.
 
-ghost use Rattle.std.specs.Prelude.{◌≡◌, ◌≢◌, ◌-◌, ◌≤◌, pos, IfOk};
-ghost use Rattle.fraction128.specs.Fraction.{IsForm};
-ghost use Rattle.simplex.specs.Entries.{AreSparse, AreBelow};
+ghost use Rattle.std.specs.Prelude.{◌≡◌, ◌-◌, ◌≤◌, IfOk};
 ghost use Rattle.simplex.specs.Choice.{IsFirstAbove};
-ghost use Rattle.simplex.specs.Rows.{RowDef, places, cell_at, HasForms};
+ghost use Rattle.simplex.specs.CellSteps.{IsDivisor};
+ghost use Rattle.simplex.specs.Rows.{row_with, places, IsSparseRow, IsCellRead};
 ghost use Rattle.simplex.specs.Ends.{AreMinus};
 ghost use Rattle.simplex.specs.RowSteps.{DividesRow, LeavesRow};
 
@@ -37,10 +36,8 @@ impl Model for SparseRow {
 impl SparseRow {
     // The row of these cells.
     pub(crate) fn new(entries: Vec<Entry>, place: usize, limit: Frac) -> SparseRow
-        requires sparse { AreSparse entries.items }
-        requires below { AreBelow place entries.items }
-        requires form { IsForm limit }
-        ensures { result ≡ record { entries = entries.items; place = place; limit = limit } }
+        requires { IsSparseRow (row_with entries.items place limit) }
+        ensures { result ≡ row_with entries.items place limit }
     {
         SparseRow {
             entries,
@@ -51,8 +48,7 @@ impl SparseRow {
 
     // The cell at a place.
     pub(crate) fn cell(&self, v: usize) -> Frac
-        ensures value { result ≡ cell_at self.now v }
-        ensures forms { HasForms self.now }
+        ensures { IsCellRead self.now v result }
     {
         if self.place == v {
             return self.limit;
@@ -86,8 +82,7 @@ impl SparseRow {
 
     // The row with each cell divided.
     pub(crate) fn quotient(&self, alloc: Global, by: Frac) -> Result<SparseRow, SolveStop>
-        requires divisor { by.num ≢ pos 0 }
-        requires form { IsForm by }
+        requires { IsDivisor by }
         ensures { DividesRow result self.now by }
     {
         let limit = self.limit.div(by)?;

@@ -1,9 +1,9 @@
 //! The first table of a program.
 
-ghost use Rattle.std.specs.Prelude.{◌≡◌, ◌<◌, ◌≤◌, ◌^◌, IfOk};
+ghost use Rattle.std.specs.Prelude.{◌<◌, ◌≤◌, IfOk};
 ghost use Rattle.program_form.specs.Program.{IsProgram, columns, height};
-ghost use Rattle.exchange_runs.specs.Table.{variables, first_limit};
-ghost use Rattle.simplex.specs.Starts.{AreFirstEntries, IsFirstRow, AreFirstRows, IsFirstBasis};
+ghost use Rattle.exchange_runs.specs.Table.{variables};
+ghost use Rattle.simplex.specs.Starts.{IsFirstLimit, AreFirstEntries, IsFirstRow, AreFirstRows, IsFirstBasis};
 
 use crate::entries::Entry;
 use crate::row::SparseRow;
@@ -14,8 +14,7 @@ use std::alloc::{AllocError, Global};
 // The limit of row i, or zero for the objective row.
 fn bound_of(program: &SparseProgram, i: usize) -> u64
     requires { i ≤ height program.now }
-    ensures value { result ≡ first_limit program.now i }
-    ensures small { result < 2 ^ 63 }
+    ensures { IsFirstLimit program.now i result }
 {
     if i < program.rows() as usize {
         program.limit(i as u32)

@@ -50,13 +50,6 @@ attained_in_pivot pivot most first sparse limit (inr there) =
     let place = (entry_at pivot.entries there.0).place in
     inl (place, ap unsigned_abs (listed_entry pivot.entries there.0 place sparse.rise there.1 refl) ∙ there.2)
 
--- what is attained by the limit, the denominator or a number is a size of the row
-pub attained_in_row : (row : RowDef) (most first : ℕ) → (first ≡ unsigned_abs row.limit) ⊎ (first ≡ unsigned_abs row.den)
-    → ((most ≡ first) ⊎ ((k : ℕ) × (unsigned_abs (number_at row.nums k) ≡ most))) → IsSizeIn row most
-attained_in_row row most first (inl limit) (inl here) = inr (inl (sym (here ∙ limit)))
-attained_in_row row most first (inr den) (inl here) = inr (inr (sym (here ∙ den)))
-attained_in_row row most first part (inr there) = inl there
-
 -- the second try is one on the row without common divisors
 pub too_large : (row reduced : RowDef) (k most : ℕ) (pivot : PivotDef) → IsSameRow row reduced → IsReduced reduced → IsSizeIn reduced most
     → IsPast reduced k most pivot → IsTooLarge row k pivot

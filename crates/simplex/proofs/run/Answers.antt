@@ -19,10 +19,13 @@ returns-then-exchanges-units-clause-outcome c =
       rw c.deref.ensures.value at (c.in-Some.ensures basis),
     )
 
-pub step-requires-clause-enters : goal.step-requires-clause-enters
-step-requires-clause-enters c =
-    rw (c.deref_mut.ensures.value, c.deref_mut-in-loop-exchanges.ensures.value)
-    (rw c.deref.ensures.value at (c.in-Some.ensures c.loop-exchanges.basis.items))
+pub step-requires : goal.step-requires
+step-requires c =
+    rw (c.deref_mut.ensures.value, c.deref_mut-in-loop-exchanges.ensures.value) (record {
+      size = c.loop-exchanges.invariant.size;
+      enters = rw c.deref.ensures.value at (c.in-Some.ensures c.loop-exchanges.basis.items);
+      reached = (c.loop-exchanges.exchanges, c.loop-exchanges.invariant.reached);
+    })
 
 pub returns-in_err-step-clause-outcome : goal.returns-in_err-step-clause-outcome
 returns-in_err-step-clause-outcome c =

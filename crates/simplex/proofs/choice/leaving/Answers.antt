@@ -9,9 +9,11 @@ use Rattle.simplex.proofs.Ratios.{no_more, ratio_read, has_read, so_far_within, 
 use Rattle.simplex.proofs.choice.leaving.Goals as goal
 use Rattle.simplex.proofs.choice.leaving.Goals.{then-is_above_zero+in_ok-ratio, else-is_above_zero}
 
-pub better_or_first-requires-clause-earlier : goal.better_or_first-requires-clause-earlier
-better_or_first-requires-clause-earlier c =
-    so_far_within c.args.place (table_of c.args.rows.now c.args.basis.now) c.args.e c.loop-i.i c.loop-i.best c.loop-i.invariant
+pub better_or_first-requires : goal.better_or_first-requires
+better_or_first-requires c = record {
+  earlier = so_far_within c.args.place (table_of c.args.rows.now c.args.basis.now) c.args.e c.loop-i.i c.loop-i.best c.loop-i.invariant;
+  within = c.loop-i-test.true;
+}
 
 pub returns-in_err-ratio : goal.returns-in_err-ratio
 returns-in_err-ratio c =

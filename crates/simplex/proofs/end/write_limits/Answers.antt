@@ -11,7 +11,7 @@ use Rattle.simplex.proofs.end.write_limits.Goals.{then-column-values, else-colum
 
 pub loop-i-preserved : goal.loop-i-preserved
 loop-i-preserved c v l =
-    let within : c.loop-i.i < length c.args.rows.now = omega (arith, c.requires.rows, c.loop-i-test.true) in
+    let within : c.loop-i.i < length c.args.rows.now = omega (arith, c.requires.enough, c.loop-i-test.true) in
     let t : Table = table_of c.args.rows.now c.args.basis.now in
     elim c.if-column-values.branch [
       | then-column-values w ↦

@@ -22,4 +22,4 @@ loop-entry-preserved c =
 pub returns : goal.returns
 returns c =
     divided_whole c.loop-entry.entry-index c.args.entries.now c.loop-entry.divided.items c.args.by (omega (arith, c.loop-entry-test.false))
-    c.requires.sparse c.requires.form c.loop-entry.invariant
+    c.requires.sparse c.requires.divisor.form c.loop-entry.invariant

@@ -8,7 +8,7 @@ loop-v-init c =
     let entries = c.args.entries.now in
     let pivot = c.args.pivot.now in
     rw (c.new-left.ensures.items, c.min-v.ensures)
-    (taken_up entries pivot [] c.args.f c.args.end 0 0 0 c.requires.sparse c.requires.pivot_sparse c.requires.below c.requires.pivot_below
+    (taken_up entries pivot [] c.args.f c.args.end 0 0 0 c.requires.row.sparse c.requires.pivot.sparse c.requires.row.below c.requires.pivot.below
     (taken_none entries pivot c.args.f c.args.end) c.variable_behind.result c.variable_behind-2.result
     c.variable_behind.ensures c.variable_behind-2.ensures)
 
@@ -26,17 +26,17 @@ loop-v-preserved c =
     let j = c.count_through-j.result in
     let left = c.push_cell.new.list.items in
     let taken = taken_pushed entries pivot c.loop-v.left.items c.args.f c.args.end c.loop-v.i c.loop-v.j c.loop-v.v
-    c.requires.sparse c.requires.pivot_sparse c.requires.below c.requires.pivot_below c.loop-v.invariant
+    c.requires.row.sparse c.requires.pivot.sparse c.requires.row.below c.requires.pivot.below c.loop-v.invariant
     left c.in_ok-rest.rest i j c.loop-v-test.true c.count_through-i.ensures c.count_through-j.ensures
     (rw (c.value_behind-cell.ensures.value, c.value_behind.ensures.value) at c.in_ok-rest.ensures) c.in_ok-push_cell.ensures in
     rw c.min-v-in-loop-v.ensures
     (taken_up entries pivot left c.args.f c.args.end i j (c.loop-v.v + 1)
-    c.requires.sparse c.requires.pivot_sparse c.requires.below c.requires.pivot_below taken
+    c.requires.row.sparse c.requires.pivot.sparse c.requires.row.below c.requires.pivot.below taken
     c.variable_behind-in-loop-v.result c.variable_behind-in-loop-v-2.result
     c.variable_behind-in-loop-v.ensures c.variable_behind-in-loop-v-2.ensures)
 
 pub returns : goal.returns
 returns c =
     taken_whole c.args.entries.now c.args.pivot.now c.loop-v.left.items c.args.f c.args.end c.loop-v.i c.loop-v.j c.loop-v.v
-    c.requires.sparse c.requires.pivot_sparse c.requires.below c.requires.pivot_below c.loop-v.invariant
+    c.requires.row.sparse c.requires.pivot.sparse c.requires.row.below c.requires.pivot.below c.loop-v.invariant
     (omega (arith, c.loop-v-test.false))

@@ -12,21 +12,16 @@ unreachable-requires c =
     c.rows.ensures.program c.requires.reached.1 c.requires.enters.within in
     none some.0 (omega (arith, some.1, c.requires.size.basic_each)) some.2
 
-pub exchange-requires-clause-row : goal.exchange-requires-clause-row
-exchange-requires-clause-row c =
-    let chosen = rw c.in-Ok-Some.field-0-is at c.in-Ok-Some.ensures in
-    omega (arith, chosen.within, c.requires.size.basic_each, c.requires.size.row_each)
-
-pub exchange-requires-clause-even : goal.exchange-requires-clause-even
-exchange-requires-clause-even c i l =
+pub exchange-requires : goal.exchange-requires
+exchange-requires c =
     let chosen = rw c.in-Ok-Some.field-0-is at c.in-Ok-Some.ensures in
     let size = c.requires.size in
-    size.fits i (omega (arith, l, size.row_each)) ∙ sym (size.fits c.in-Ok-Some.r (omega (arith, chosen.within, size.basic_each)))
-
-pub exchange-requires-clause-pivot : goal.exchange-requires-clause-pivot
-exchange-requires-clause-pivot c =
-    let chosen = rw c.in-Ok-Some.field-0-is at c.in-Ok-Some.ensures in
-    pivot_apart (table_of c.args.rows.now c.args.basis.now) c.args.e c.in-Ok-Some.r chosen.has
+    record {
+      row = omega (arith, chosen.within, size.basic_each, size.row_each);
+      even = λ i l.
+          size.fits i (omega (arith, l, size.row_each)) ∙ sym (size.fits c.in-Ok-Some.r (omega (arith, chosen.within, size.basic_each)));
+      pivot = pivot_apart (table_of c.args.rows.now c.args.basis.now) c.args.e c.in-Ok-Some.r chosen.has;
+    }
 
 pub returns-in_err-exchange : goal.returns-in_err-exchange
 returns-in_err-exchange c =
