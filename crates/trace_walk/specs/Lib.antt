@@ -3,3 +3,4 @@ pub mod LawfulRow
 pub mod NextStretch
 pub mod Reached
 pub mod Walked
+pub mod Given

@@ -1,6 +1,7 @@
 -- How far a schedule is walked: each row before the machine's tick keeps the rules, and this is kept of them.
 use Rattle.std.specs.Prelude.{◌≡◌, ℕ, ◌+◌, ◌≤◌, Result, Ok, Err}
-use Rattle.schedule_model.specs.RowDef.{RowDef, Trace}
+use Rattle.schedule_model.specs.RowDef.{RowDef, Trace, row_in}
+use Rattle.schedule_model.specs.Fitting.{RowsDef}
 use Rattle.schedule_model.specs.Keeping.{KeepsBefore, IsFirstUnlawful}
 use Rattle.schedule_model.specs.declared.rule.Rule.{Rule}
 use Rattle.phase_machine.specs.MachineDef.{MachineDef, under}
@@ -32,3 +33,17 @@ GoesSome keeps kept rows left before after now (Ok n) =
 GoesSome keeps kept rows left before after now (Err (stop.Broken b)) =
     IsFirstUnlawful keeps (under before rows) (before.tick + left) b.tick b.rule
 GoesSome keeps kept rows left before after now (Err stop.Memory) = Unit {0}
+
+-- Are the jobs still the same, and did the machine go on so to tick n?
+pub record WalksTo {R : Type 0} {T : Type 0} (keeps : Rule → Trace → ℕ → Type 0) (kept : Trace → ℕ → R → Type 0) (rows : RowsDef) (n : ℕ)
+    (before after : MachineDef) (now : R) (answer : Result T Unlawful) : Type 0
+  where
+    pub list : after.list ≡ before.list
+    pub walked : GoesOn keeps kept (row_in rows.runs) n before after now answer
+
+-- Are they, and did it take some of the next rows so?
+pub record WalksSome {R : Type 0} (keeps : Rule → Trace → ℕ → Type 0) (kept : Trace → ℕ → R → Type 0) (rows : RowsDef) (left : ℕ)
+    (before after : MachineDef) (now : R) (answer : Result ℕ Unlawful) : Type 0
+  where
+    pub list : after.list ≡ before.list
+    pub walked : GoesSome keeps kept (row_in rows.runs) left before after now answer

@@ -1,8 +1,9 @@
-ghost use Rattle.std.specs.Prelude.{◌≡◌, ◌+◌, ◌<◌, length, true};
-ghost use Rattle.schedule_model.specs.RowDef.{row_in, trace_in, ticks_of};
+ghost use Rattle.std.specs.Prelude.{◌≡◌, ◌+◌, true};
+ghost use Rattle.schedule_model.specs.RowDef.{trace_in, ticks_of};
 ghost use Rattle.schedule_model.specs.Fitting.{is_fitting};
-ghost use Rattle.trace_walk.specs.Runs.{IsInRun, IsBeforeRun, ticks_before};
-ghost use Rattle.trace_walk.specs.Reached.{IsReached, GoesOn, GoesSome};
+ghost use Rattle.trace_walk.specs.Runs.{ticks_before};
+ghost use Rattle.trace_walk.specs.Reached.{WalksSome, WalksTo};
+ghost use Rattle.trace_walk.specs.Given.{CanWalkStretch, CanWalkRun, CanWalkAll};
 ghost use Rattle.trace_walk.specs.Walked.{Walks};
 
 use crate::keeper::Keeper;
@@ -21,13 +22,9 @@ fn walk_stretch<P: Judge, K: Keeper<P>, R: RowReader>(
     keeper: &K,
     notes: &mut K::Notes,
 ) -> Result<u64, Unlawful>
-    requires suits { P.suits protocol.now machine.old.list.set }
-    requires fits { K.fits keeper.now machine.old.list.set }
-    requires run { IsInRun (R.rows rows.now) (R.at rows.now) machine.old left }
-    requires reached { IsReached (P.keeps protocol.now) (K.kept keeper.now protocol.now) (row_in (R.rows rows.now).runs) machine.old notes.old }
-    ensures list { machine.new.list ≡ machine.old.list }
-    ensures walked { GoesSome (P.keeps protocol.now) (K.kept keeper.now protocol.now) (row_in (R.rows rows.now).runs) left
-        machine.old machine.new notes.new result }
+    requires { CanWalkStretch (P.suits protocol.now) (K.fits keeper.now) (P.keeps protocol.now) (K.kept keeper.now protocol.now)
+        (R.rows rows.now) (R.at rows.now) left machine.old notes.old }
+    ensures { WalksSome (P.keeps protocol.now) (K.kept keeper.now protocol.now) (R.rows rows.now) left machine.old machine.new notes.new result }
 {
     let row = &rows.run().row;
     let tick = machine.tick();
@@ -49,14 +46,10 @@ fn walk_run<P: Judge, K: Keeper<P>, R: RowReader>(
     keeper: &K,
     notes: &mut K::Notes,
 ) -> Result<(), Unlawful>
-    requires suits { P.suits protocol.now machine.old.list.set }
-    requires keeper { K.fits keeper.now machine.old.list.set }
-    requires within { R.at rows.now < length (R.rows rows.now).runs }
-    requires before { IsBeforeRun (R.rows rows.now) (R.at rows.now) machine.old }
-    requires reached { IsReached (P.keeps protocol.now) (K.kept keeper.now protocol.now) (row_in (R.rows rows.now).runs) machine.old notes.old }
-    ensures list { machine.new.list ≡ machine.old.list }
-    ensures walked { GoesOn (P.keeps protocol.now) (K.kept keeper.now protocol.now) (row_in (R.rows rows.now).runs)
-        (ticks_before (R.rows rows.now).runs (R.at rows.now + 1)) machine.old machine.new notes.new result }
+    requires { CanWalkRun (P.suits protocol.now) (K.fits keeper.now) (P.keeps protocol.now) (K.kept keeper.now protocol.now)
+        (R.rows rows.now) (R.at rows.now) machine.old notes.old }
+    ensures { WalksTo (P.keeps protocol.now) (K.kept keeper.now protocol.now) (R.rows rows.now) (ticks_before (R.rows rows.now).runs (R.at rows.now + 1))
+        machine.old machine.new notes.new result }
 {
     let mut left = rows.run().ticks;
     while left > 0 {
@@ -73,13 +66,9 @@ fn walk_all<P: Judge, K: Keeper<P>, R: RowReader>(
     keeper: &K,
     notes: &mut K::Notes,
 ) -> Result<(), Unlawful>
-    requires suits { P.suits protocol.now machine.old.list.set }
-    requires keeper { K.fits keeper.now machine.old.list.set }
-    requires first { R.at rows.old ≡ 0 }
-    requires before { IsBeforeRun (R.rows rows.old) 0 machine.old }
-    requires reached { IsReached (P.keeps protocol.now) (K.kept keeper.now protocol.now) (row_in (R.rows rows.old).runs) machine.old notes.old }
-    ensures list { machine.new.list ≡ machine.old.list }
-    ensures walked { GoesOn (P.keeps protocol.now) (K.kept keeper.now protocol.now) (row_in (R.rows rows.old).runs) (ticks_of (R.rows rows.old).runs)
+    requires { CanWalkAll (P.suits protocol.now) (K.fits keeper.now) (P.keeps protocol.now) (K.kept keeper.now protocol.now)
+        (R.rows rows.old) (R.at rows.old) machine.old notes.old }
+    ensures { WalksTo (P.keeps protocol.now) (K.kept keeper.now protocol.now) (R.rows rows.old) (ticks_of (R.rows rows.old).runs)
         machine.old machine.new notes.new result }
 {
     'runs: while rows.is_at_run() {
