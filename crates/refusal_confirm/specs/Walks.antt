@@ -1,8 +1,8 @@
 -- How far a walk over a refusal's steps is.
-use Rattle.std.specs.Prelude.{◌≡◌, ℕ, ◌+◌, ◌<◌, List, map, Bool, true, false}
+use Rattle.std.specs.Prelude.{◌≡◌, ℕ, ◌+◌, ◌<◌, List, Bool, true, false}
 use Rattle.sporadic_model.specs.SetDef.{SetDef}
 use Rattle.program_sources.specs.Bounds.{IsInRange}
-use Rattle.refusal_laws.specs.Steps.{StepDef, step_at, vector_before, PassesLatest}
+use Rattle.refusal_laws.specs.Steps.{StepDef, step_at, costs_of, vector_before, PassesLatest}
 use Rattle.refusal_confirm.specs.Tests.{IsCalm, IsEntered}
 
 -- With `false`: no step before step k has a value above its latest bound, and these are the bounds before step k. With `true`: the step
@@ -13,7 +13,7 @@ StandsAt false set steps k v = IsCalm set steps k × (v ≡ vector_before set st
 
 -- Are these the tasks' costs, and are they bounds in range?
 pub record AreFirstBounds (set : SetDef) (v : List ℕ) : Type 0 where
-  pub first : v ≡ map (λ t. t.cost) set.tasks
+  pub first : v ≡ costs_of set
   pub range : IsInRange set v
 
 -- Is a walk before the first step?

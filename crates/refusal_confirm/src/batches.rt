@@ -4,7 +4,7 @@ ghost use Rattle.std.specs.Prelude.{◌≡◌, ◌+◌, ◌<◌, ◌^◌, length
 ghost use Rattle.program_sources.specs.Recurrence.{source_at};
 ghost use Rattle.refusal_laws.specs.Seen.{step_seen};
 ghost use Rattle.refusal_confirm.specs.Walks.{HasComeTo};
-ghost use Rattle.refusal_confirm.specs.Batches.{IsBatch, SaysOf, AreTested, IsFirstFault};
+ghost use Rattle.refusal_confirm.specs.Batches.{IsBatch, SaysOf, AreAllTested, IsFirstFault};
 ghost use Rattle.refusal_confirm.specs.Given.{IsTestable, AreTestable};
 
 use crate::fault::{Fault, Part, named};
@@ -128,9 +128,8 @@ pub(crate) fn test_batch<R: Threads + Sync, P: ProgramSource + Sync>(
 ) -> Result<Vec<Result<Option<Part>, AllocError>>, AllocError>
     requires serves { P.serves protocol.now set.now }
     requires trials { AreTestable set.now (map step_seen steps.now) start trials.now }
-    ensures len { IfOk result (λ v. length v.items ≡ length trials.now) }
-    ensures each { IfOk result (λ v.
-        AreTested (source_at (P.source protocol.now) set.now) (map step_seen steps.now) start v.items) }
+    ensures { IfOk result (λ v.
+        AreAllTested (source_at (P.source protocol.now) set.now) (map step_seen steps.now) start (length trials.now) v.items) }
 {
     map_indices(
         rt,

@@ -1,6 +1,6 @@
 //! Sums over the columns of a program. They stop growing once they are above what they are compared with.
 
-ghost use Rattle.std.specs.Prelude.{◌≡◌, ◌+◌, ◌-◌, ◌*◌, ◌<◌, ◌≤◌, ◌^◌, ◌↔◌, IsTrue, min, length, slice_index};
+ghost use Rattle.std.specs.Prelude.{◌≡◌, ◌*◌, ◌<◌, ◌≤◌, ◌↔◌, IsTrue, min, length, slice_index};
 ghost use Rattle.number_laws.specs.Sums.{sum_below};
 ghost use Rattle.program_form.specs.Certificate.{dual_seen};
 ghost use Rattle.program_form.specs.Program.{columns, height};
