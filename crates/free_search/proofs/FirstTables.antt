@@ -9,7 +9,7 @@ use Rattle.program_form.specs.Program.{ProgramDef, columns, height, limit}
 use Rattle.exchange_runs.specs.Table.{variables, slack, IsStart}
 use Rattle.exchange_runs.proofs.Found.{listed}
 use Rattle.whole_rows.specs.Rows.{RowDef, limit_of}
-use Rattle.whole_runs.specs.Starts.{IsFirstRow, IsCostRow, AreFirstRows, IsFirstBasis, AreFirstStands, AreFirstOutside}
+use Rattle.whole_runs.specs.Starts.{IsFirstRow, IsCostRow, AreFirstRows, AreFirstStands}
 use Rattle.whole_runs.specs.States.{row_at as seen_at, stand_at, cell_seen, limit_seen, stand_cell, table_cell, HasPlaces, HasSize}
 use Rattle.whole_runs.specs.declared.stands.Stand.{Stand}
 use Rattle.whole_runs.specs.declared.stands.Stand.TheVariants.{Outside, Basic}

@@ -51,6 +51,12 @@ SaysOf (Err e) f steps k = Unit {0}
 abbrev pub AreTested : SourceDef → List StepDef → ℕ → List (Result (Option Part) AllocError) → Type 0
 AreTested f steps start tested = (j : ℕ) (r : Result (Option Part) AllocError) → slice_get tested j ≡ Some r → SaysOf r f steps (start + j)
 
+-- The same for each of so many steps.
+pub record AreAllTested (f : SourceDef) (steps : List StepDef) (start count : ℕ) (tested : List (Result (Option Part) AllocError))
+    : Type 0 where
+  pub len : length tested ≡ count
+  pub each : AreTested f steps start tested
+
 -- Is this the fault of the first step, from this one on, that fails a test?
 pub record NamesFirst (e : Fault) (tested : List (Result (Option Part) AllocError)) (start : ℕ) : Type 0 where
   pub place : ℕ

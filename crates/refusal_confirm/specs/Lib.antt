@@ -3,3 +3,5 @@ pub mod Faults
 pub mod Parts
 pub mod Walks
 pub mod Batches
+pub mod Given
+pub mod Sums

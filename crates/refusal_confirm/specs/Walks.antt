@@ -2,7 +2,7 @@
 use Rattle.std.specs.Prelude.{◌≡◌, ℕ, ◌+◌, ◌<◌, List, Bool, true, false}
 use Rattle.sporadic_model.specs.SetDef.{SetDef}
 use Rattle.program_sources.specs.Bounds.{IsInRange}
-use Rattle.refusal_laws.specs.Steps.{StepDef, step_at, vector_before, PassesLatest}
+use Rattle.refusal_laws.specs.Steps.{StepDef, step_at, costs_of, vector_before, PassesLatest}
 use Rattle.refusal_confirm.specs.Tests.{IsCalm, IsEntered}
 
 -- With `false`: no step before step k has a value above its latest bound, and these are the bounds before step k. With `true`: the step
@@ -10,6 +10,16 @@ use Rattle.refusal_confirm.specs.Tests.{IsCalm, IsEntered}
 abbrev pub StandsAt : Bool → SetDef → List StepDef → ℕ → List ℕ → Type 0
 StandsAt true set steps k v = (j : ℕ) × (k ≡ j + 1) × PassesLatest set (step_at steps j)
 StandsAt false set steps k v = IsCalm set steps k × (v ≡ vector_before set steps k)
+
+-- Are these the tasks' costs, and are they bounds in range?
+pub record AreFirstBounds (set : SetDef) (v : List ℕ) : Type 0 where
+  pub first : v ≡ costs_of set
+  pub range : IsInRange set v
+
+-- Is a walk before the first step?
+pub record IsAtStart (set : SetDef) (v : List ℕ) (over : Bool) : Type 0 where
+  pub bounds : AreFirstBounds set v
+  pub going : over ≡ false
 
 -- Is a walk at step k, and did each step before it pass the tests that need no program?
 pub record HasComeTo (set : SetDef) (steps : List StepDef) (k : ℕ) (v : List ℕ) (over : Bool) : Type 0 where

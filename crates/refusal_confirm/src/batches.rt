@@ -1,11 +1,11 @@
 //! Batches of steps. Threads test the points of a batch at the same time.
 
-ghost use Rattle.std.specs.Prelude.{◌≡◌, ◌+◌, ◌<◌, ◌≤◌, ◌^◌, length, map, slice_get, Some, IfOk};
+ghost use Rattle.std.specs.Prelude.{◌≡◌, ◌+◌, ◌<◌, ◌^◌, length, map, slice_get, Some, IfOk};
 ghost use Rattle.program_sources.specs.Recurrence.{source_at};
-ghost use Rattle.refusal_laws.specs.Steps.{HasDenominators};
 ghost use Rattle.refusal_laws.specs.Seen.{step_seen};
 ghost use Rattle.refusal_confirm.specs.Walks.{HasComeTo};
-ghost use Rattle.refusal_confirm.specs.Batches.{IsTrial, AreTrials, IsBatch, SaysOf, AreTested, IsFirstFault};
+ghost use Rattle.refusal_confirm.specs.Batches.{IsBatch, SaysOf, AreAllTested, IsFirstFault};
+ghost use Rattle.refusal_confirm.specs.Given.{IsTestable, AreTestable};
 
 use crate::fault::{Fault, Part, named};
 use crate::points::fault_of_point;
@@ -84,9 +84,7 @@ fn test_trial<P: ProgramSource>(
     trial: &Trial,
 ) -> Result<Option<Part>, AllocError>
     requires serves { P.serves protocol.now set.now }
-    requires denominators { HasDenominators (map step_seen steps.now) }
-    requires within { k < length steps.now }
-    requires trial { IsTrial set.now (map step_seen steps.now) k trial.now }
+    requires trial { IsTestable set.now (map step_seen steps.now) k trial.now }
     ensures { SaysOf result (source_at (P.source protocol.now) set.now) (map step_seen steps.now) k }
 {
     fault_of_point(alloc, set, protocol, trial.task, &trial.bounds, &steps[k])
@@ -111,10 +109,8 @@ fn test_at<P: ProgramSource>(
     j: usize,
 ) -> Result<Option<Part>, AllocError>
     requires serves { P.serves protocol.now set.now }
-    requires denominators { HasDenominators (map step_seen steps.now) }
     requires place { j < length trials.now }
-    requires within { start + length trials.now ≤ length steps.now }
-    requires trials { AreTrials set.now (map step_seen steps.now) start trials.now }
+    requires trials { AreTestable set.now (map step_seen steps.now) start trials.now }
     ensures { SaysOf result (source_at (P.source protocol.now) set.now) (map step_seen steps.now) (start + j) }
 {
     test_trial(alloc, set, protocol, steps, start + j, trial_at(trials, j))
@@ -131,12 +127,9 @@ pub(crate) fn test_batch<R: Threads + Sync, P: ProgramSource + Sync>(
     trials: &[Trial],
 ) -> Result<Vec<Result<Option<Part>, AllocError>>, AllocError>
     requires serves { P.serves protocol.now set.now }
-    requires denominators { HasDenominators (map step_seen steps.now) }
-    requires within { start + length trials.now ≤ length steps.now }
-    requires trials { AreTrials set.now (map step_seen steps.now) start trials.now }
-    ensures len { IfOk result (λ v. length v.items ≡ length trials.now) }
-    ensures each { IfOk result (λ v.
-        AreTested (source_at (P.source protocol.now) set.now) (map step_seen steps.now) start v.items) }
+    requires trials { AreTestable set.now (map step_seen steps.now) start trials.now }
+    ensures { IfOk result (λ v.
+        AreAllTested (source_at (P.source protocol.now) set.now) (map step_seen steps.now) start (length trials.now) v.items) }
 {
     map_indices(
         rt,

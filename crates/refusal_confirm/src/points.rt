@@ -8,6 +8,7 @@ ghost use Rattle.refusal_laws.specs.Steps.{place_of};
 ghost use Rattle.refusal_laws.specs.Seen.{step_seen};
 ghost use Rattle.refusal_confirm.specs.Tests.{HasSize, ReachesValue};
 ghost use Rattle.refusal_confirm.specs.Parts.{FindsBroken, FindsPart};
+ghost use Rattle.refusal_confirm.specs.Given.{IsStepOf, IsProgramFor};
 
 use crate::fault::Part;
 use crate::sums::{is_worth, keeps_row};
@@ -35,12 +36,8 @@ fn reaches_value<P: ProgramSource>(
     step: &RefusalStep,
 ) -> bool
     requires serves { P.serves protocol.now set.now }
-    requires task { task.0 < length set.now.tasks }
-    requires place { task.0 ≡ place_of (step_seen step.now) }
-    requires range { IsInRange set.now bounds.now }
-    requires program { program.now ≡ (source_at (P.source protocol.now) set.now).program task.0 bounds.now }
-    requires denominator { 1 ≤ step.now.point.den }
-    requires size { HasSize program.now (dual_seen step.now.point) }
+    requires step { IsStepOf set.now task.0 bounds.now (step_seen step.now) }
+    requires program { IsProgramFor (source_at (P.source protocol.now) set.now) task.0 bounds.now (step_seen step.now) program.now }
     ensures { IsTrue result ↔ ReachesValue (source_at (P.source protocol.now) set.now) bounds.now (step_seen step.now) }
 {
     let unblocked = response(set, protocol, task, bounds, 0);

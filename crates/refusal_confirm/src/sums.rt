@@ -1,6 +1,6 @@
 //! Sums over the columns of a program. They stop growing once they are above what they are compared with.
 
-ghost use Rattle.std.specs.Prelude.{◌≡◌, ◌+◌, ◌-◌, ◌*◌, ◌<◌, ◌≤◌, ◌^◌, ◌↔◌, IsTrue, min, length, slice_index};
+ghost use Rattle.std.specs.Prelude.{◌≡◌, ◌*◌, ◌<◌, ◌≤◌, ◌↔◌, IsTrue, min, length, slice_index};
 ghost use Rattle.number_laws.specs.Sums.{sum_below};
 ghost use Rattle.program_form.specs.Certificate.{dual_seen};
 ghost use Rattle.program_form.specs.Program.{columns, height};
@@ -8,12 +8,12 @@ ghost use Rattle.program_form.specs.SparseRows.{number_at, AreCoefficients};
 ghost use Rattle.program_form.specs.Points.{worth};
 ghost use Rattle.refusal_laws.specs.Steps.{whole_worth};
 ghost use Rattle.refusal_confirm.specs.Tests.{HasSize, KeepsRow};
+ghost use Rattle.refusal_confirm.specs.Sums.{IsProduct};
 
 use program_form::{Coefficient, Dual, SparseProgram};
 
 fn product(a: u64, b: u64) -> u128
-    ensures value { result ≡ a * b }
-    ensures most { result < 2 ^ 128 - 1 }
+    ensures { IsProduct a b result }
 {
     u128::from(a) * u128::from(b)
 }

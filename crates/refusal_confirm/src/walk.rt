@@ -1,9 +1,9 @@
 //! Goes over the steps of a refusal, by the tests that need no program.
 
-ghost use Rattle.std.specs.Prelude.{◌≡◌, ◌<◌, false, length, map, slice_set, IfOk};
-ghost use Rattle.program_sources.specs.Bounds.{IsInRange};
+ghost use Rattle.std.specs.Prelude.{◌≡◌, ◌<◌, length, slice_set, IfOk};
 ghost use Rattle.refusal_laws.specs.Seen.{step_seen};
 ghost use Rattle.refusal_confirm.specs.Parts.{Enters, Takes};
+ghost use Rattle.refusal_confirm.specs.Walks.{AreFirstBounds, IsAtStart};
 
 use crate::fault::Part;
 use refusal_laws::RefusalStep;
@@ -21,8 +21,7 @@ pub(crate) struct Walk {
 
 /// Each task's cost.
 fn costs(alloc: Global, set: &TaskSet) -> Result<Vec<u64>, AllocError>
-    ensures first { IfOk result (λ v. v.items ≡ map (λ t. t.cost) set.now.tasks) }
-    ensures range { IfOk result (λ v. IsInRange set.now v.items) }
+    ensures { IfOk result (λ v. AreFirstBounds set.now v.items) }
 {
     let mut costs = Vec::new(alloc);
     for i in 0..set.tasks() {
@@ -33,9 +32,7 @@ fn costs(alloc: Global, set: &TaskSet) -> Result<Vec<u64>, AllocError>
 
 /// A walk before the first step.
 pub(crate) fn start(alloc: Global, set: &TaskSet) -> Result<Walk, AllocError>
-    ensures first { IfOk result (λ w. w.bounds.items ≡ map (λ t. t.cost) set.now.tasks) }
-    ensures range { IfOk result (λ w. IsInRange set.now w.bounds.items) }
-    ensures going { IfOk result (λ w. w.is_over ≡ false) }
+    ensures { IfOk result (λ w. IsAtStart set.now w.bounds.items w.is_over) }
 {
     Ok(Walk {
         bounds: costs(alloc, set)?,

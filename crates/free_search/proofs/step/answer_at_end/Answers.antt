@@ -1,4 +1,3 @@
-use Rattle.std.proofs.Common.{arith}
 use Rattle.free_search.specs.Tables.{table_with}
 use Rattle.free_search.proofs.Answering.{finished, finished_used}
 use Rattle.free_search.proofs.Choosing.{rows_are, last_seen, limits_not_below}

@@ -7,7 +7,8 @@ use Rattle.refusal_laws.specs.Steps.{StepDef}
 use Rattle.refusal_laws.specs.Seen.{step_seen}
 use Rattle.refusal_confirm.specs.Tests.{Passes}
 use Rattle.refusal_confirm.specs.Walks.{HasComeTo}
-use Rattle.refusal_confirm.specs.Batches.{AreTrials, IsFirstFault, StopsAt}
+use Rattle.refusal_confirm.specs.Batches.{IsFirstFault, StopsAt}
+use Rattle.refusal_confirm.specs.Given.{AreTestable}
 use Rattle.refusal_confirm.specs.declared.batches.Trial.{Trial}
 use Rattle.refusal_confirm.specs.declared.fault.Part.{Part}
 use Rattle.refusal_confirm.proofs.BatchLaws.{batch_passes, first_is_fault, stop_is_fault}
@@ -17,7 +18,11 @@ use Rattle.refusal_confirm.proofs.confirming.confirm_in_batches.Goals as goal
 pub test_batch-requires-clause-trials : goal.test_batch-requires-clause-trials
 test_batch-requires-clause-trials g c κs within =
     let steps : List StepDef = map step_seen c.args.steps.now in
-    subst (λ (ts : List Trial). AreTrials c.args.set.now steps c.loop-done.done ts) (sym c.deref.ensures.value) c.in_ok-batch.ensures.each
+    subst (λ (ts : List Trial). AreTestable c.args.set.now steps c.loop-done.done ts) (sym c.deref.ensures.value) (record {
+      denominators = c.requires.denominators;
+      within = c.in_ok-batch.ensures.most;
+      trials = c.in_ok-batch.ensures.each;
+    })
 
 pub returns-in-Err : goal.returns-in-Err
 returns-in-Err g c =
