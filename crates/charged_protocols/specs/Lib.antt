@@ -1,2 +1,4 @@
 pub mod Seen
 pub mod ChargeNow
+pub mod Given
+pub mod Points

@@ -9,6 +9,7 @@ ghost use Rattle.phase_machine.specs.Shows.{Shows};
 ghost use Rattle.phase_machine.specs.Taking.{IsRowFor};
 ghost use Rattle.charge_laws.specs.Charges.{class_at_home, dpcp_charge};
 ghost use Rattle.charged_protocols.specs.Seen.{charge_seen};
+ghost use Rattle.charged_protocols.specs.Given.{AreRowAndHomes, IsChargeNow};
 ghost use Rattle.charged_protocols.specs.ChargeNow.{home_charge_now, dpcp_charge_now};
 
 use crate::shared::charge_to;
@@ -33,11 +34,8 @@ fn class_at_home(machine: &Machine, q: ResourceId, y: JobId) -> Class
 
 /// The charge of a job in a request of the resource: to the job that runs on the resource's home.
 fn charge_at_home(machine: &Machine, row: &Row, q: ResourceId) -> Option<(JobId, Class)>
-    requires suits { EachHasHome machine.now.list.set }
-    requires fits { IsRowFor machine.now.list (row_seen row.now) }
-    requires resource { q.0 < length machine.now.list.set.resources }
-    ensures value { charge_seen result ≡ home_charge_now machine.now (row_seen row.now) q.0 }
-    ensures listed { IfSome result (λ c. c.0.0 < length machine.now.list.jobs) }
+    requires { AreRowAndHomes machine.now.list (row_seen row.now) q.0 }
+    ensures { IsChargeNow machine.now (home_charge_now machine.now (row_seen row.now) q.0) result }
 {
     match column_at(machine, row, home_of(machine, q) as usize - 1) {
         Some(y) => Some((y, class_at_home(machine, q, y))),

@@ -1,6 +1,5 @@
 ghost use Rattle.std.specs.Prelude.{refl};
 ghost use Rattle.sporadic_model.specs.Homes.{EachHasHome};
-ghost use Rattle.sporadic_model.proofs.Laws.{formed_of_accepted};
 ghost use Rattle.sporadic_model.specs.declared.ids.Protocol.TheVariants as protocol;
 ghost use Rattle.schedule_model.specs.Ranks.{mpcp, fmlp_plus};
 ghost use Rattle.schedule_model.specs.Protocols.{shared_rule, dpcp_rule, EachSetSuits};
@@ -10,8 +9,8 @@ ghost use Rattle.charge_laws.proofs.SharedCharging.{shared_charge_blocked};
 ghost use Rattle.charge_laws.proofs.DpcpCharging.{dpcp_charge_blocked};
 ghost use Rattle.charge_laws.proofs.Stretches.{shared_stays_charged, dpcp_stays_charged};
 ghost use Rattle.row_laws.proofs.ChargedTicks.{mpcp_is_charged, fmlp_is_charged, dpcp_is_charged};
-ghost use Rattle.row_laws.proofs.EmptyWindows.{mpcp_point_within, fmlp_point_within, dpcp_point_within};
 ghost use Rattle.row_laws.proofs.InterferingCosts.{mpcp_interferes_within, fmlp_interferes_within, dpcp_interferes_within};
+ghost use Rattle.charged_protocols.specs.Points.{mpcp_meets, fmlp_meets, dpcp_meets};
 
 use crate::distributed::charged_distributed;
 use crate::protocol::ChargedProtocol;
@@ -44,9 +43,7 @@ impl ChargedProtocol for Mpcp {
 
     ghost stays_charged = { λ p. shared_stays_charged EachSetSuits (shared_rule mpcp) };
 
-    ghost meets_rows = { λ p w bounds n j suits accepted lawful keeps listed ended.
-        mpcp_point_within w bounds n j (record { formed = formed_of_accepted w.set accepted; lawful = lawful; listed = listed; ended = ended })
-        keeps };
+    ghost meets_rows = { λ p w bounds n j suits. mpcp_meets w bounds n j };
 }
 
 impl ChargedProtocol for FmlpPlus {
@@ -70,9 +67,7 @@ impl ChargedProtocol for FmlpPlus {
 
     ghost stays_charged = { λ p. shared_stays_charged EachSetSuits (shared_rule fmlp_plus) };
 
-    ghost meets_rows = { λ p w bounds n j suits accepted lawful keeps listed ended.
-        fmlp_point_within w bounds n j (record { formed = formed_of_accepted w.set accepted; lawful = lawful; listed = listed; ended = ended })
-        keeps };
+    ghost meets_rows = { λ p w bounds n j suits. fmlp_meets w bounds n j };
 }
 
 impl ChargedProtocol for Dpcp {
@@ -96,7 +91,5 @@ impl ChargedProtocol for Dpcp {
 
     ghost stays_charged = { λ p. dpcp_stays_charged EachHasHome dpcp_rule };
 
-    ghost meets_rows = { λ p w bounds n j suits accepted lawful keeps listed ended.
-        dpcp_point_within w bounds n j (record { formed = formed_of_accepted w.set accepted; lawful = lawful; listed = listed; ended = ended })
-        keeps };
+    ghost meets_rows = { λ p w bounds n j suits. dpcp_meets w bounds n j };
 }

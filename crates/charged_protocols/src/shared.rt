@@ -8,6 +8,7 @@ ghost use Rattle.phase_machine.specs.Taking.{IsRowFor};
 ghost use Rattle.blocking_columns.specs.declared.columns.Class.{Class as ClassDef};
 ghost use Rattle.charge_laws.specs.Charges.{charge_to, shared_charge};
 ghost use Rattle.charged_protocols.specs.Seen.{charge_seen};
+ghost use Rattle.charged_protocols.specs.Given.{AreRowAndJob, IsChargeNow};
 ghost use Rattle.charged_protocols.specs.ChargeNow.{holder_charge_now, waiting_charge_now, shared_charge_now};
 
 use blocking_columns::Class;
@@ -28,10 +29,8 @@ pub fn charge_to(class: Class, named: Option<JobId>) -> Option<(JobId, Class)>
 
 /// The charge of a job that waits for a resource that `y` holds: `y` if it runs, and else the job that runs on its processor.
 fn charge_by_holder(machine: &Machine, row: &Row, y: JobId) -> Option<(JobId, Class)>
-    requires fits { IsRowFor machine.now.list (row_seen row.now) }
-    requires listed { y.0 < length machine.now.list.jobs }
-    ensures value { charge_seen result ≡ holder_charge_now machine.now (row_seen row.now) y.0 }
-    ensures listed { IfSome result (λ c. c.0.0 < length machine.now.list.jobs) }
+    requires { AreRowAndJob machine.now.list (row_seen row.now) y.0 }
+    ensures { IsChargeNow machine.now (holder_charge_now machine.now (row_seen row.now) y.0) result }
 {
     let running = running_beside(machine, row, y);
     if running == Some(y) {
@@ -42,10 +41,8 @@ fn charge_by_holder(machine: &Machine, row: &Row, y: JobId) -> Option<(JobId, Cl
 
 /// The charge of a job that isn't ready: by the holder of the resource that it requests.
 fn charge_of_waiting(machine: &Machine, row: &Row, j: JobId) -> Option<(JobId, Class)>
-    requires fits { IsRowFor machine.now.list (row_seen row.now) }
-    requires listed { j.0 < length machine.now.list.jobs }
-    ensures value { charge_seen result ≡ waiting_charge_now machine.now (row_seen row.now) j.0 }
-    ensures listed { IfSome result (λ c. c.0.0 < length machine.now.list.jobs) }
+    requires { AreRowAndJob machine.now.list (row_seen row.now) j.0 }
+    ensures { IsChargeNow machine.now (waiting_charge_now machine.now (row_seen row.now) j.0) result }
 {
     match machine.phase(j) {
         Phase::Asking(_, q) => match holder_at(machine, row, q) {
@@ -59,10 +56,8 @@ fn charge_of_waiting(machine: &Machine, row: &Row, j: JobId) -> Option<(JobId, C
 
 /// The charge of a blocked job.
 fn charge_of_blocked(machine: &Machine, row: &Row, j: JobId) -> Option<(JobId, Class)>
-    requires fits { IsRowFor machine.now.list (row_seen row.now) }
-    requires listed { j.0 < length machine.now.list.jobs }
-    ensures value { charge_seen result ≡ shared_charge_now machine.now (row_seen row.now) j.0 }
-    ensures listed { IfSome result (λ c. c.0.0 < length machine.now.list.jobs) }
+    requires { AreRowAndJob machine.now.list (row_seen row.now) j.0 }
+    ensures { IsChargeNow machine.now (shared_charge_now machine.now (row_seen row.now) j.0) result }
 {
     if may_run(machine, &row.holders, j) {
         return charge_to(Class::Preemption, running_beside(machine, row, j));
