@@ -1,5 +1,6 @@
 -- What the answers say of a certificate.
-use Rattle.std.specs.Prelude.{◌≡◌, ℕ, ◌+◌, ◌<◌, ◌≤◌, min, List, length, slice_index, slice_index_or, Option, Some, None, Result, Ok, Err}
+use Rattle.std.specs.Prelude.{◌≡◌, ℕ, ◌+◌, ◌<◌, ◌≤◌, min, List, length, slice_index, slice_index_or, Option, Some, None, option_map}
+use Rattle.std.specs.Prelude.{Result, Ok, Err}
 use Rattle.std.specs.Global.{Global}
 use Rattle.std.specs.declared.vec.Vec.{Vec}
 use Rattle.program_form.specs.Certificate.{DualDef, CertificateDef}
@@ -8,9 +9,11 @@ use Rattle.program_form.specs.Duals.{dual_value}
 use Rattle.program_sources.specs.Recurrence.{SourceDef}
 use Rattle.program_sources.specs.Fitting.{tasks_of}
 use Rattle.program_sources.specs.Valid.{IsValid, dual_at, value_at}
+use Rattle.sporadic_model.specs.SetDef.{SetDef, task_at, latest_bound}
+use Rattle.sporadic_model.specs.declared.ids.TaskId.{TaskId}
 use Rattle.soundness_laws.specs.Analyses.{AreValues}
 use Rattle.schedule_answers.specs.Tests.{HoldsColumn, HoldsColumns, HasDualSize, IsEnough}
-use Rattle.schedule_answers.specs.Failures.{AllPass, IsFirstFailing, IsFailure}
+use Rattle.schedule_answers.specs.Failures.{AllPass, Finds, IsFirstFailing, IsFailure}
 use Rattle.schedule_answers.specs.declared.checked.Valid.{Valid}
 use Rattle.schedule_answers.specs.declared.checked.Invalid.{Invalid}
 use Rattle.schedule_answers.specs.declared.checked.Invalid.TheVariants as invalid
@@ -27,6 +30,11 @@ abbrev pub Judges : Result Valid Invalid → SourceDef → CertificateDef → Ty
 Judges (Ok v) f c = IsValid f c × AreValues f c v.values.items
 Judges (Err invalid.Memory) f c = Unit {0}
 Judges (Err e) f c = IsFailure e f c
+
+-- Is this the first task whose bound passes its latest one?
+abbrev pub FindsLate : Option TaskId → SetDef → List ℕ → Type 0
+FindsLate found set bounds =
+    Finds (option_map (λ x. x.0) found) (length set.tasks) (λ i. slice_index bounds i ≤ latest_bound (task_at set i))
 
 -- Is this what a dual is worth for a program: the first column that it doesn't hold, or its value? A value above the most counts as one
 -- above the most.

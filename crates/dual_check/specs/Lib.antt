@@ -1,3 +1,4 @@
 pub mod Answers
 pub mod Lacks
 pub mod Soundness
+pub mod Given

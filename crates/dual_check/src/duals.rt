@@ -1,13 +1,13 @@
 //! What each task's dual is worth for its program.
 
-ghost use Rattle.std.specs.Prelude.{◌≡◌, ◌<◌, ◌≤◌, ◌^◌, Option, map, length, vec_len, option_map, IfOk};
+ghost use Rattle.std.specs.Prelude.{◌≡◌, ◌<◌, ◌^◌, Option, map, length, vec_len, option_map, IfOk};
 ghost use Rattle.program_form.specs.Certificate.{dual_seen, certificate_seen};
 ghost use Rattle.program_form.specs.Program.{columns, height};
-ghost use Rattle.program_sources.specs.Bounds.{AreWithinDeadlines};
 ghost use Rattle.program_sources.specs.Recurrence.{source_at};
 ghost use Rattle.schedule_answers.specs.Tests.{HoldsColumn};
 ghost use Rattle.schedule_answers.specs.Failures.{Finds};
-ghost use Rattle.dual_check.specs.Answers.{HasDenominators, IsWorth, Weighs, FindsUncovered};
+ghost use Rattle.dual_check.specs.Answers.{IsWorth, Weighs, FindsUncovered};
+ghost use Rattle.dual_check.specs.Given.{CanBeWeighed, IsServedWithin, HasDualForEach};
 
 use crate::lacks::lacks_of;
 use crate::sums::value_to;
@@ -45,9 +45,7 @@ fn weigh(
     dual: &Dual,
     bound: u64,
 ) -> Result<DualWorth, AllocError>
-    requires bound { bound < 2 ^ 63 }
-    requires denominator { 1 ≤ dual.now.den }
-    requires numerators { vec_len dual.now.num ≡ height program.now }
+    requires { CanBeWeighed program.now dual.now bound }
     ensures { IfOk result (λ worth. IsWorth worth program.now (dual_seen dual.now) bound) }
 {
     match first_uncovered(alloc, program, dual)? {
@@ -64,10 +62,8 @@ pub(crate) fn weigh_duals<P: ProgramSource>(
     protocol: &P,
     certificate: &Certificate,
 ) -> Result<Vec<DualWorth>, Invalid>
-    requires serves { P.serves protocol.now set.now }
-    requires within { AreWithinDeadlines set.now certificate.now.bounds.items }
-    requires dual_each { vec_len certificate.now.duals ≡ length set.now.tasks }
-    requires denominators { HasDenominators (certificate_seen certificate.now) }
+    requires at { IsServedWithin (P.serves protocol.now) set.now certificate.now }
+    requires duals { HasDualForEach set.now certificate.now }
     ensures { Weighs result (source_at (P.source protocol.now) set.now) (certificate_seen certificate.now) }
 {
     let mut worths = Vec::new(alloc);

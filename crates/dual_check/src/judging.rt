@@ -7,8 +7,8 @@ ghost use Rattle.sporadic_model.specs.SetDef.{task_at, latest_bound};
 ghost use Rattle.program_sources.specs.Valid.{IsValid};
 ghost use Rattle.program_laws.specs.Programs.{source_of};
 ghost use Rattle.soundness_laws.specs.Sound.{Sound};
-ghost use Rattle.schedule_answers.specs.Failures.{Finds};
-ghost use Rattle.dual_check.specs.Answers.{HasDenominators, worth_at, IsCovering, counted, AreWorths, Judges, Sums};
+ghost use Rattle.dual_check.specs.Answers.{HasDenominators, FindsLate, IsCovering, counted, Judges, Sums};
+ghost use Rattle.dual_check.specs.Given.{IsServedWithin, AreCovering};
 ghost use Rattle.dual_check.specs.Soundness.{SoundUnder};
 
 use crate::duals::{DualWorth, first_uncovered_of, weigh_duals};
@@ -38,8 +38,7 @@ pub fn has_denominators(certificate: &Certificate) -> bool
 /// The first task whose bound passes its latest one.
 fn first_late(set: &TaskSet, bounds: &[u64]) -> Option<TaskId>
     requires { length bounds.now ≡ length set.now.tasks }
-    ensures { Finds (option_map (λ x. x.0) result) (length set.now.tasks)
-        (λ i. slice_index bounds.now i ≤ latest_bound (task_at set.now i)) }
+    ensures { FindsLate result set.now bounds.now }
 {
     (0..set.tasks())
         .map(TaskId)
@@ -66,11 +65,8 @@ fn add_up<P: ProgramSource>(
     certificate: &Certificate,
     worths: &[DualWorth],
 ) -> Result<Vec<u64>, Invalid>
-    requires serves { P.serves protocol.now set.now }
-    requires within { AreWithinDeadlines set.now certificate.now.bounds.items }
-    requires worths { AreWorths (source_at (P.source protocol.now) set.now)
-        (certificate_seen certificate.now) (length set.now.tasks) worths.now }
-    requires covering { (i : ℕ) → i < length set.now.tasks → IsCovering (worth_at worths.now i) }
+    requires at { IsServedWithin (P.serves protocol.now) set.now certificate.now }
+    requires duals { AreCovering (source_at (P.source protocol.now) set.now) (certificate_seen certificate.now) worths.now }
     ensures { Sums result (source_at (P.source protocol.now) set.now) (certificate_seen certificate.now) }
 {
     let mut values = Vec::new(alloc);

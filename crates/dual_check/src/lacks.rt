@@ -1,10 +1,10 @@
 //! What the columns of a program still lack, while a dual's rows are taken one after another.
 
-ghost use Rattle.std.specs.Prelude.{◌≡◌, ℕ, ◌-◌, ◌*◌, length, vec_len, slice_index, IfOk};
+ghost use Rattle.std.specs.Prelude.{◌≡◌, length, vec_len, IfOk};
 ghost use Rattle.program_form.specs.Certificate.{dual_seen};
 ghost use Rattle.program_form.specs.Program.{height};
-ghost use Rattle.program_form.specs.SparseRows.{number_at, AreCoefficients};
-ghost use Rattle.dual_check.specs.Lacks.{AreLacking};
+ghost use Rattle.program_form.specs.SparseRows.{AreCoefficients};
+ghost use Rattle.dual_check.specs.Lacks.{AreLacking, IsRowTaken};
 
 use crate::sums::product;
 use program_form::{Coefficient, Dual, SparseProgram};
@@ -24,8 +24,7 @@ fn dues_of(alloc: Global, program: &SparseProgram, dual: &Dual) -> Result<Vec<u1
 // Takes a row, times its numerator, from what the columns lack.
 fn take_row(lacks: &mut [u128], coefficients: &[Coefficient], numerator: u64)
     requires listed { AreCoefficients (length lacks.old) coefficients.now }
-    ensures one_each { length lacks.new ≡ length lacks.old }
-    ensures each { (c : ℕ) → slice_index lacks.new c ≡ slice_index lacks.old c - numerator * number_at coefficients.now c }
+    ensures { IsRowTaken lacks.old lacks.new coefficients.now numerator }
 {
     // most numerators of a dual are zero, and take nothing
     if numerator == 0 {

@@ -1,8 +1,9 @@
 //! The value of a dual: a sum over the rows of its program. It stops growing once it has reached the number that it is compared with.
 
-ghost use Rattle.std.specs.Prelude.{◌≡◌, ◌+◌, ◌*◌, ◌/◌, ◌<◌, ◌≤◌, ◌^◌, min, length, vec_len, slice_index};
+ghost use Rattle.std.specs.Prelude.{◌≡◌, ◌+◌, ◌*◌, ◌/◌, min, length, slice_index};
 ghost use Rattle.program_form.specs.Program.{height};
 ghost use Rattle.program_form.specs.Duals.{dual_total, dual_value};
+ghost use Rattle.dual_check.specs.Given.{CanBeWeighed};
 
 use program_form::{Dual, SparseProgram};
 
@@ -28,9 +29,7 @@ fn limit_sum(program: &SparseProgram, num: &[u64], most: u128) -> u128
 
 /// The dual's value, in ticks, or `most + 1` if the value is greater.
 pub(crate) fn value_to(program: &SparseProgram, dual: &Dual, most: u64) -> u64
-    requires most { most < 2 ^ 63 }
-    requires denominator { 1 ≤ dual.now.den }
-    requires numerators { vec_len dual.now.num ≡ height program.now }
+    requires { CanBeWeighed program.now dual.now most }
     ensures { result ≡ min (most + 1) (dual_value program.now dual.now.den (λ r. slice_index dual.now.num.items r)) }
 {
     let total = limit_sum(program, &dual.num, product(most + 1, dual.den));
