@@ -5,3 +5,5 @@ pub mod Charging
 pub mod Tally
 pub mod Due
 pub mod Ledgers
+pub mod Given
+pub mod Counting

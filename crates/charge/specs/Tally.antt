@@ -1,5 +1,5 @@
 -- How ticks are counted while a schedule is judged: by places of the table, in its order.
-use Rattle.std.specs.Prelude.{◌≡◌, ℕ, ◌+◌, ◌<◌, ◌==◌, ◌&&◌, Bool, false, nat_lt, if◌then◌else◌, Option, None, Some, option_map}
+use Rattle.std.specs.Prelude.{◌≡◌, ℕ, ◌+◌, ◌<◌, ◌≤◌, ◌==◌, ◌&&◌, Bool, false, nat_lt, if◌then◌else◌, Option, None, Some, option_map}
 use Rattle.std.specs.Prelude.{unwrap_or}
 use Rattle.std.specs.Option.{option_map_or}
 use Rattle.std.specs.Ordering.{nat_cmp, ordering_then}
@@ -7,6 +7,7 @@ use Rattle.std.specs.declared.cmp.Ordering.{Ordering}
 use Rattle.std.specs.BTreeMap.{BTreeMap, get}
 use Rattle.number_laws.specs.Sums.{only_if}
 use Rattle.number_laws.specs.Tests.{count_below}
+use Rattle.sporadic_model.specs.declared.limits.TheConstants.{MOST_TICKS}
 use Rattle.schedule_model.specs.RowDef.{Trace}
 use Rattle.schedule_model.specs.Activity.{task_of}
 use Rattle.blocking_columns.specs.ClassOrder.{class_rank}
@@ -63,6 +64,17 @@ IsTally ticks count = (p : ChargePlace) → get place_cmp ticks p ≡ positive (
 -- What the map has at the place.
 abbrev pub count_at : BTreeMap ChargePlace ℕ → ChargePlace → ℕ
 count_at ticks p = unwrap_or (get place_cmp ticks p) 0
+
+-- Can this many ticks be added at any place? They are one at least, and neither they nor the count of a place are more than a schedule has.
+pub record CanAddTicks (ticks : BTreeMap ChargePlace ℕ) (more : ℕ) : Type 0 where
+  pub some : 1 ≤ more
+  pub most : more ≤ MOST_TICKS
+  pub room : (p : ChargePlace) → count_at ticks p ≤ MOST_TICKS
+
+-- Has the map this many more ticks than before at the named place, and else the counts that it had?
+abbrev pub CountsMore : BTreeMap ChargePlace ℕ → BTreeMap ChargePlace ℕ → Option ChargePlace → ℕ → Type 0
+CountsMore before after named more =
+    (count : ChargePlace → ℕ) → IsTally before count → IsTally after (λ p. count p + only_if (is_place p named) more)
 
 -- To which place is tick t counted for job j? To none if j's window has ended.
 abbrev pub place_at : (Trace → ℕ → ℕ → Option Charge) → Trace → (ℕ → ℕ) → ℕ → ℕ → Option ChargePlace

@@ -19,12 +19,12 @@ pub struct Charger<'a> {
 impl<'a, P: ChargedProtocol> Keeper<P> for Charger<'a> {
     type Notes = Ledger;
 
-    ghost use Rattle.std.specs.Prelude.{◌≡◌, length, slice_index};
-    ghost use Rattle.charge_laws.specs.Windows.{AreBounds};
+    ghost use Rattle.std.specs.Prelude.{length, slice_index};
+    ghost use Rattle.charge.specs.Given.{BoundEachTask};
     ghost use Rattle.charge.specs.Due.{IsClearBelow};
     ghost use Rattle.charge.specs.Ledgers.{IsLedger};
 
-    ghost fits = { λ k set. (length k.bounds.now ≡ length set.tasks) × AreBounds set (slice_index k.bounds.now) };
+    ghost fits = { λ k set. BoundEachTask set k.bounds.now };
 
     ghost kept = { λ k p w n ledger. IsLedger (P.charges p) w (slice_index k.bounds.now) n ledger };
 

@@ -1,15 +1,11 @@
-ghost use Rattle.std.specs.Prelude.{◌≡◌, ℕ, ◌+◌, ◌<◌, ◌≤◌, length, slice_index, option_map, OnOk};
-ghost use Rattle.std.specs.Option.{option_and_then};
-ghost use Rattle.sporadic_model.specs.declared.limits.TheConstants.{MOST_TICKS};
-ghost use Rattle.schedule_model.specs.RowDef.{row_in};
-ghost use Rattle.phase_machine.specs.MachineDef.{under};
-ghost use Rattle.phase_machine.specs.Now.{phase_now, current_now};
+ghost use Rattle.std.specs.Prelude.{◌≡◌, ◌+◌, ◌<◌, length, option_map, OnOk};
+ghost use Rattle.phase_machine.specs.Now.{phase_now};
 ghost use Rattle.blocking_columns.specs.declared.columns.Class.{Class as ClassDef};
 ghost use Rattle.charge_laws.specs.Charges.{Charge};
-ghost use Rattle.charge_laws.specs.Windows.{AreBounds};
-ghost use Rattle.trace_walk.specs.LawfulRow.{IsAtLawfulRow};
 ghost use Rattle.charge.specs.Requests.{request_in};
-ghost use Rattle.charge.specs.Tally.{IsTally, AreCountedAlike, place_of, place_at, ticks_before};
+ghost use Rattle.charge.specs.Tally.{place_of};
+ghost use Rattle.charge.specs.Given.{CanCharge};
+ghost use Rattle.charge.specs.Counting.{place_now, place_of_task, CountsUntil, AreCountedAtOnce};
 
 use crate::due::end_of;
 use crate::tally::{ChargePlace, add_named};
@@ -49,13 +45,9 @@ fn place_at<P: ChargedProtocol, R: RowReader>(
     bounds: &[u64],
     j: JobId,
 ) -> Option<ChargePlace>
-    requires suits { P.suits protocol.now machine.now.list.set }
-    requires row { IsAtLawfulRow (P.keeps protocol.now) (R.rows rows.now) (R.at rows.now) machine.now }
+    requires at { CanCharge (P.suits protocol.now) (P.keeps protocol.now) (R.rows rows.now) (R.at rows.now) machine.now bounds.now }
     requires listed { j.0 < length machine.now.list.jobs }
-    requires one_each { length bounds.now ≡ length machine.now.list.set.tasks }
-    requires bounds { AreBounds machine.now.list.set (slice_index bounds.now) }
-    ensures { result ≡ place_at (P.charges protocol.now) (under machine.now (row_in (R.rows rows.now).runs)) (slice_index bounds.now)
-        machine.now.tick j.0 }
+    ensures { result ≡ place_now (P.charges protocol.now) (R.rows rows.now) machine.now bounds.now j.0 }
 {
     if machine.tick() >= end_of(machine, bounds, j) {
         return None;
@@ -74,14 +66,9 @@ fn place_in<P: ChargedProtocol, R: RowReader>(
     bounds: &[u64],
     x: TaskId,
 ) -> Option<ChargePlace>
-    requires suits { P.suits protocol.now machine.now.list.set }
-    requires row { IsAtLawfulRow (P.keeps protocol.now) (R.rows rows.now) (R.at rows.now) machine.now }
+    requires at { CanCharge (P.suits protocol.now) (P.keeps protocol.now) (R.rows rows.now) (R.at rows.now) machine.now bounds.now }
     requires task { x.0 < length machine.now.list.set.tasks }
-    requires one_each { length bounds.now ≡ length machine.now.list.set.tasks }
-    requires bounds { AreBounds machine.now.list.set (slice_index bounds.now) }
-    ensures { result ≡ option_and_then
-        (place_at (P.charges protocol.now) (under machine.now (row_in (R.rows rows.now).runs)) (slice_index bounds.now) machine.now.tick)
-        (current_now machine.now x.0) }
+    ensures { result ≡ place_of_task (P.charges protocol.now) (R.rows rows.now) machine.now bounds.now x.0 }
 {
     match machine.current(x) {
         Some(j) => place_at(protocol, rows, machine, bounds, j),
@@ -99,18 +86,10 @@ pub(crate) fn charge_ticks<P: ChargedProtocol, R: RowReader>(
     more: u64,
     ticks: &mut BTreeMap<ChargePlace, u64>,
 ) -> Result<(), AllocError>
-    requires suits { P.suits protocol.now machine.now.list.set }
-    requires row { IsAtLawfulRow (P.keeps protocol.now) (R.rows rows.now) (R.at rows.now) machine.now }
-    requires some { 1 ≤ more }
-    requires early { machine.now.tick + more ≤ MOST_TICKS }
-    requires one_each { length bounds.now ≡ length machine.now.list.set.tasks }
-    requires bounds { AreBounds machine.now.list.set (slice_index bounds.now) }
-    requires alike { AreCountedAlike (P.charges protocol.now) (under machine.now (row_in (R.rows rows.now).runs)) (slice_index bounds.now)
-        machine.now.tick more }
-    requires counted { IsTally ticks.old
-        (ticks_before (P.charges protocol.now) (under machine.now (row_in (R.rows rows.now).runs)) (slice_index bounds.now) machine.now.tick) }
-    ensures { OnOk result (IsTally ticks.new (ticks_before (P.charges protocol.now) (under machine.now (row_in (R.rows rows.now).runs))
-        (slice_index bounds.now) (machine.now.tick + more))) }
+    requires at { CanCharge (P.suits protocol.now) (P.keeps protocol.now) (R.rows rows.now) (R.at rows.now) machine.now bounds.now }
+    requires next { AreCountedAtOnce (P.charges protocol.now) (R.rows rows.now) machine.now bounds.now more }
+    requires counted { CountsUntil (P.charges protocol.now) (R.rows rows.now) machine.now bounds.now ticks.old machine.now.tick }
+    ensures { OnOk result (CountsUntil (P.charges protocol.now) (R.rows rows.now) machine.now bounds.now ticks.new (machine.now.tick + more)) }
 {
     for x in 0..tasks_of(machine) {
         add_named(

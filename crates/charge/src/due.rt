@@ -1,9 +1,8 @@
-ghost use Rattle.std.specs.Prelude.{◌≡◌, ℕ, ◌+◌, ◌<◌, ◌≤◌, ◌||◌, Bool, Some, length, slice_index};
-ghost use Rattle.number_laws.specs.Tests.{found_below};
+ghost use Rattle.std.specs.Prelude.{◌≡◌, length};
 ghost use Rattle.schedule_model.specs.Seen.{place_seen};
 ghost use Rattle.phase_machine.specs.Now.{current_now};
-ghost use Rattle.charge_laws.specs.Windows.{AreBounds};
-ghost use Rattle.charge.specs.Due.{end_now, due_of, is_due, least_of, IsClearBelow};
+ghost use Rattle.charge.specs.Given.{BoundEachTask, IsBoundedTask, IsBoundedJob};
+ghost use Rattle.charge.specs.Due.{end_now, due_of, least_of, IsFirstOrDue, IsSoonerDue, IsUntilDue};
 
 use phase_machine::Machine;
 use phase_machine::lookup::{task_of, tasks_of};
@@ -12,9 +11,7 @@ use sporadic_model::TaskId;
 
 /// By when the job is to be finished: by its release plus its task's bound.
 pub(crate) fn end_of(machine: &Machine, bounds: &[u64], j: JobId) -> u64
-    requires listed { j.0 < length machine.now.list.jobs }
-    requires one_each { length bounds.now ≡ length machine.now.list.set.tasks }
-    requires bounds { AreBounds machine.now.list.set (slice_index bounds.now) }
+    requires { IsBoundedJob machine.now bounds.now j.0 }
     ensures { result ≡ end_now machine.now bounds.now j.0 }
 {
     machine.jobs().job(j).release + bounds[task_of(machine, j).0 as usize]
@@ -22,9 +19,7 @@ pub(crate) fn end_of(machine: &Machine, bounds: &[u64], j: JobId) -> u64
 
 /// The task's active job, if its bound ends at the machine's tick.
 fn due_of(machine: &Machine, bounds: &[u64], x: TaskId) -> Option<JobId>
-    requires task { x.0 < length machine.now.list.set.tasks }
-    requires one_each { length bounds.now ≡ length machine.now.list.set.tasks }
-    requires bounds { AreBounds machine.now.list.set (slice_index bounds.now) }
+    requires { IsBoundedTask machine.now bounds.now x.0 }
     ensures { place_seen result ≡ due_of machine.now bounds.now (current_now machine.now x.0) }
 {
     match machine.current(x) {
@@ -46,10 +41,8 @@ fn least_of(first: Option<JobId>, second: Option<JobId>) -> Option<JobId>
 
 /// The first of these two: the given job, and the first active job whose bound ends at the machine's tick.
 pub(crate) fn first_of_due(machine: &Machine, bounds: &[u64], first: Option<JobId>) -> Option<JobId>
-    requires one_each { length bounds.now ≡ length machine.now.list.set.tasks }
-    requires bounds { AreBounds machine.now.list.set (slice_index bounds.now) }
-    ensures { (passes : ℕ → Bool) → place_seen first ≡ found_below (length machine.now.list.jobs) passes
-        → place_seen result ≡ found_below (length machine.now.list.jobs) (λ j. passes j || is_due machine.now bounds.now j) }
+    requires { BoundEachTask machine.now.list.set bounds.now }
+    ensures { IsFirstOrDue machine.now bounds.now (place_seen first) (place_seen result) }
 {
     let mut least = first;
     for x in 0..tasks_of(machine) {
@@ -60,13 +53,8 @@ pub(crate) fn first_of_due(machine: &Machine, bounds: &[u64], first: Option<JobI
 
 /// This many ticks. Or, if the bound of the task's active job ends sooner, the ticks until then.
 fn sooner_due(machine: &Machine, bounds: &[u64], x: TaskId, ticks: u64) -> u64
-    requires task { x.0 < length machine.now.list.set.tasks }
-    requires one_each { length bounds.now ≡ length machine.now.list.set.tasks }
-    requires bounds { AreBounds machine.now.list.set (slice_index bounds.now) }
-    ensures some { 1 ≤ ticks → 1 ≤ result }
-    ensures most { result ≤ ticks }
-    ensures clear { (j : ℕ) → current_now machine.now x.0 ≡ Some j → machine.now.tick < end_now machine.now bounds.now j
-        → machine.now.tick + result ≤ end_now machine.now bounds.now j }
+    requires { IsBoundedTask machine.now bounds.now x.0 }
+    ensures { IsSoonerDue machine.now bounds.now x.0 ticks result }
 {
     match machine.current(x) {
         Some(j) if machine.tick() < end_of(machine, bounds, j) => {
@@ -78,11 +66,8 @@ fn sooner_due(machine: &Machine, bounds: &[u64], x: TaskId, ticks: u64) -> u64
 
 /// This many ticks. Or, if the bound of an active job ends sooner and hasn't ended yet, the ticks until then.
 pub(crate) fn until_due(machine: &Machine, bounds: &[u64], ticks: u64) -> u64
-    requires one_each { length bounds.now ≡ length machine.now.list.set.tasks }
-    requires bounds { AreBounds machine.now.list.set (slice_index bounds.now) }
-    ensures some { 1 ≤ ticks → 1 ≤ result }
-    ensures most { result ≤ ticks }
-    ensures clear { IsClearBelow machine.now bounds.now result (length machine.now.list.set.tasks) }
+    requires { BoundEachTask machine.now.list.set bounds.now }
+    ensures { IsUntilDue machine.now bounds.now ticks result (length machine.now.list.set.tasks) }
 {
     let mut least = ticks;
     for x in 0..tasks_of(machine) {

@@ -1,10 +1,8 @@
-ghost use Rattle.std.specs.Prelude.{◌≡◌, ℕ, ◌+◌, ◌≤◌, Option, OnOk};
-ghost use Rattle.number_laws.specs.Sums.{only_if};
-ghost use Rattle.sporadic_model.specs.declared.limits.TheConstants.{MOST_TICKS};
+ghost use Rattle.std.specs.Prelude.{ℕ, Option, Some, OnOk};
 ghost use Rattle.schedule_model.specs.RowDef.{Trace};
 ghost use Rattle.charge_laws.specs.Charges.{Charge};
 ghost use Rattle.charge.specs.Ledgers.{IsLedger};
-ghost use Rattle.charge.specs.Tally.{IsTally, count_at, is_same_place, is_place};
+ghost use Rattle.charge.specs.Tally.{CanAddTicks, CountsMore};
 
 use blocking_columns::Class;
 use schedule_model::JobId;
@@ -49,11 +47,8 @@ fn add_ticks(
     place: ChargePlace,
     more: u64,
 ) -> Result<(), AllocError>
-    requires some { 1 ≤ more }
-    requires most { more ≤ MOST_TICKS }
-    requires room { count_at ticks.old place ≤ MOST_TICKS }
-    ensures { OnOk result ((count : ChargePlace → ℕ) → IsTally ticks.old count
-        → IsTally ticks.new (λ p. count p + only_if (is_same_place place p) more)) }
+    requires { CanAddTicks ticks.old more }
+    ensures { OnOk result (CountsMore ticks.old ticks.new (Some place) more) }
 {
     let before = ticks.get(&place).copied().unwrap_or(0);
     ticks.insert(place, before + more)?;
@@ -66,11 +61,8 @@ pub(crate) fn add_named(
     named: Option<ChargePlace>,
     more: u64,
 ) -> Result<(), AllocError>
-    requires some { 1 ≤ more }
-    requires most { more ≤ MOST_TICKS }
-    requires room { (p : ChargePlace) → count_at ticks.old p ≤ MOST_TICKS }
-    ensures { OnOk result ((count : ChargePlace → ℕ) → IsTally ticks.old count
-        → IsTally ticks.new (λ p. count p + only_if (is_place p named) more)) }
+    requires { CanAddTicks ticks.old more }
+    ensures { OnOk result (CountsMore ticks.old ticks.new named more) }
 {
     match named {
         Some(place) => add_ticks(ticks, place, more),

@@ -18,19 +18,24 @@ loop-x-init g c =
     c.args.more p)
     c.requires.counted
 
-pub add_named-requires-clause-room : goal.add_named-requires-clause-room
-add_named-requires-clause-room g c = λ p.
-    let w : Trace = under c.args.machine.now (row_in (g.R.RowReader.rows c.args.rows.now).runs) in
-    omega (
-      arith,
-      c.requires.early,
-      count_is c.loop-x.ticks
-          (ticks_with (g.P.ChargedProtocol.charges c.args.protocol.now) w (slice_index c.args.bounds.now)
-          c.args.machine.now.tick c.args.more c.loop-x.x) p
-          c.loop-x.invariant,
-      count_most (g.P.ChargedProtocol.charges c.args.protocol.now) w (slice_index c.args.bounds.now) c.args.machine.now.tick c.args.more
-          c.loop-x.x p,
-    )
+pub add_named-requires : goal.add_named-requires
+add_named-requires g c =
+    let w : Trace = under c.args.machine.now (row_in (g.R.RowReader.rows c.args.rows.now).runs) in record {
+      some = c.requires.next.some;
+      most = omega (arith, c.requires.next.early);
+      room = λ p.
+          omega (
+            arith,
+            c.requires.next.early,
+            count_is c.loop-x.ticks
+                (ticks_with (g.P.ChargedProtocol.charges c.args.protocol.now) w (slice_index c.args.bounds.now)
+                c.args.machine.now.tick c.args.more c.loop-x.x) p
+                c.loop-x.invariant,
+            count_most (g.P.ChargedProtocol.charges c.args.protocol.now) w (slice_index c.args.bounds.now) c.args.machine.now.tick
+                c.args.more
+                c.loop-x.x p,
+          );
+    }
 
 pub loop-x-preserved : goal.loop-x-preserved
 loop-x-preserved g c =
@@ -45,7 +50,7 @@ loop-x-preserved g c =
     + only_if (is_place p o) c.args.more) c.place_in.ensures
     ∙ count_more (g.P.ChargedProtocol.charges c.args.protocol.now) c.args.machine.now (row_in (g.R.RowReader.rows c.args.rows.now).runs)
     (slice_index c.args.bounds.now) c.args.more
-    c.loop-x.x p c.requires.row.shows only (omega (arith, c.loop-x-test.true, c.tasks_of-x-end.ensures.value)))
+    c.loop-x.x p c.requires.at.row.shows only (omega (arith, c.loop-x-test.true, c.tasks_of-x-end.ensures.value)))
     (c.in_ok-add_named.ensures _ c.loop-x.invariant)
 
 pub returns : goal.returns
@@ -58,5 +63,5 @@ returns g c =
     tally_agree c.loop-x.ticks _ _
     (λ p. count_all (g.P.ChargedProtocol.charges c.args.protocol.now) c.args.machine.now (row_in (g.R.RowReader.rows c.args.rows.now).runs)
     (slice_index c.args.bounds.now) c.args.more
-    c.loop-x.x p c.requires.row.shows only c.requires.alike (omega (arith, c.loop-x-test.false, c.tasks_of-x-end.ensures.value)))
+    c.loop-x.x p c.requires.at.row.shows only c.requires.next.alike (omega (arith, c.loop-x-test.false, c.tasks_of-x-end.ensures.value)))
     c.loop-x.invariant
