@@ -12,7 +12,7 @@ use Rattle.number_laws.proofs.CountLaws.{count_below-at_most}
 use Rattle.sporadic_model.specs.declared.limits.TheConstants.{MOST_TICKS}
 use Rattle.schedule_model.specs.declared.limits.TheConstants.{MOST_JOBS}
 use Rattle.schedule_model.specs.JobDef.{JobsDef}
-use Rattle.schedule_model.specs.RowDef.{Trace, jobs_of}
+use Rattle.schedule_model.specs.RowDef.{Trace}
 use Rattle.schedule_model.specs.Measures.{MeasuresDef, measures_of}
 use Rattle.schedule_model.specs.Activity.{task_of}
 use Rattle.blocking_columns.specs.declared.columns.Class.{Class}
@@ -29,6 +29,7 @@ use Rattle.audit_figures.specs.declared.sums.ClassSums.{ClassSums}
 use Rattle.schedule_answers.specs.declared.audited.TaskFigures.{TaskFigures}
 use Rattle.audit_figures.specs.Sums.{counted, item_ticks, item_sums, sums_at}
 use Rattle.audit_figures.specs.Beside.{figures_from}
+use Rattle.audit_figures.specs.Given.{ArePutTogether, AreFiguresOf}
 use Rattle.schedule_answers.specs.TaskAnswers.{no_figures}
 use Rattle.figure_laws.specs.Figures.{is_of_class, class_ticks, class_sum, figures_of, AreFigures, ChargesBlocked}
 use Rattle.audit_figures.proofs.TableSums.{items_sum}
@@ -91,18 +92,13 @@ figures_are charges interferes w n bounds values measured items sums figures job
 pub answer_is : (r : Result (Vec TaskFigures Global) AllocError) (list : JobsDef) (measured : Measured) (bounds values : List ℕ)
     (items : List ChargeItem) (sums : List ClassSums) → length list.jobs ≤ MOST_JOBS → length measured.tasks.items ≡ length list.set.tasks
     → ((x : ℕ) → x < length list.set.tasks → sums_at sums x ≡ item_sums list.jobs x items)
-    → IfOk r (λ v. length v.items ≡ length measured.tasks.items)
-    → IfOk r (λ v. (x : ℕ) → x < length measured.tasks.items → get_or v.items x no_figures
-    ≡ figures_from (get_or measured.tasks.items x no_measure) (slice_index bounds x) (slice_index values x) (sums_at sums x))
-    → IfOk r (λ v. (charges : Trace → ℕ → ℕ → Option Charge) (interferes : Trace → ℕ → ℕ → Bool) (w : Trace) (n : ℕ) → jobs_of w ≡ list
-    → n ≤ MOST_TICKS → ChargesBlocked charges interferes w → AreMeasures interferes w n measured
-    → IsChargeTable charges interferes w (slice_index bounds) n (map item_seen items)
-    → AreFigures charges interferes w (slice_index bounds) (slice_index values) n v.items)
-answer_is (Err e) list measured bounds values items sums jobs one_each summed size put = tt
-answer_is (Ok v) list measured bounds values items sums jobs one_each summed size put =
+    → IfOk r (λ v. ArePutTogether measured.tasks.items bounds values sums v.items)
+    → IfOk r (λ v. AreFiguresOf list measured bounds values items v.items)
+answer_is (Err e) list measured bounds values items sums jobs one_each summed put = tt
+answer_is (Ok v) list measured bounds values items sums jobs one_each summed put =
     λ charges interferes w n same rows only measures table.
     figures_are charges interferes w n bounds values measured items sums v.items
     (subst (λ (l : JobsDef). length l.jobs ≤ MOST_JOBS) (sym same) jobs) rows only measures table
     (subst (λ (l : JobsDef). (x : ℕ) → x < length l.set.tasks → sums_at sums x ≡ item_sums l.jobs x items) (sym same) summed)
-    (size ∙ subst (λ (l : JobsDef). length measured.tasks.items ≡ length l.set.tasks) (sym same) one_each)
-    (λ x l. put x (omega (arith, l, measures.size)))
+    (put.size ∙ subst (λ (l : JobsDef). length measured.tasks.items ≡ length l.set.tasks) (sym same) one_each)
+    (λ x l. put.each x (omega (arith, l, measures.size)))

@@ -1,3 +1,4 @@
 pub mod Sums
 pub mod Beside
 pub mod Walked
+pub mod Given

@@ -1,7 +1,7 @@
 -- The sums of a table of charges. A task's sums are over the items whose blocked job is of the task, by their classes.
-use Rattle.std.specs.Prelude.{ℕ, ◌+◌, ◌-◌, ◌^◌, ◌==◌, ◌&&◌, min, List, slice_index_or, sum_by}
+use Rattle.std.specs.Prelude.{◌≡◌, ℕ, ◌+◌, ◌-◌, ◌<◌, ◌^◌, ◌==◌, ◌&&◌, min, List, length, slice_index_or, sum_by}
 use Rattle.number_laws.specs.Sums.{only_if}
-use Rattle.schedule_model.specs.JobDef.{JobDef, job_of}
+use Rattle.schedule_model.specs.JobDef.{JobDef, JobsDef, job_of}
 use Rattle.blocking_columns.specs.declared.columns.Class.{Class}
 use Rattle.blocking_columns.specs.declared.columns.Class.TheVariants.{Direct, Indirect, Preemption}
 use Rattle.charge.specs.declared.item.ChargeItem.{ChargeItem}
@@ -39,3 +39,13 @@ item_sums jobs x items = record {
   indirect = counted (sum_by (item_ticks jobs x Indirect) items);
   preemption = counted (sum_by (item_ticks jobs x Preemption) items);
 }
+
+-- Has none of so many tasks any ticks yet?
+pub record AreNoSums (tasks : ℕ) (sums : List ClassSums) : Type 0 where
+  pub size : length sums ≡ tasks
+  pub each : (x : ℕ) → sums_at sums x ≡ no_sums
+
+-- Are these the sums of each task of the jobs, over these items?
+pub record AreItemSums (jobs : JobsDef) (items : List ChargeItem) (sums : List ClassSums) : Type 0 where
+  pub size : length sums ≡ length jobs.set.tasks
+  pub each : (x : ℕ) → x < length jobs.set.tasks → sums_at sums x ≡ item_sums jobs.jobs x items

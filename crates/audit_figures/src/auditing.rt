@@ -1,4 +1,4 @@
-ghost use Rattle.std.specs.Prelude.{◌≡◌, true, length, slice_index};
+ghost use Rattle.std.specs.Prelude.{◌≡◌, true, slice_index};
 ghost use Rattle.program_form.specs.Certificate.{certificate_seen};
 ghost use Rattle.sporadic_model.specs.Homes.{HasHomesFor};
 ghost use Rattle.program_sources.specs.Recurrence.{source_at};
@@ -6,10 +6,10 @@ ghost use Rattle.program_laws.specs.Programs.{source_of};
 ghost use Rattle.schedule_model.specs.RowDef.{trace_in, ticks_of};
 ghost use Rattle.schedule_model.specs.Fitting.{is_fitting};
 ghost use Rattle.schedule_model.specs.ByProtocol.{rules_of, interference_of};
-ghost use Rattle.charge_laws.specs.Windows.{AreBounds};
 ghost use Rattle.charge_laws.specs.ByProtocol.{charges_of};
 ghost use Rattle.dual_check.specs.Answers.{HasDenominators};
 ghost use Rattle.figure_laws.specs.Audited.{IsAudited};
+ghost use Rattle.audit_figures.specs.Given.{CanBeWalked, HaveBoundAndValue};
 ghost use Rattle.audit_figures.specs.Walked.{HasFigures};
 
 use crate::beside::figures;
@@ -37,12 +37,8 @@ fn walked_figures<P: ChargedProtocol, R: RowReader>(
     bounds: &[u64],
     values: &[u64],
 ) -> Result<Vec<TaskFigures>, Unlawful>
-    requires suits { P.suits protocol.now jobs.now.set }
-    requires fits { is_fitting (R.rows rows.old) jobs.now ≡ true }
-    requires start { R.at rows.old ≡ 0 }
-    requires one_each { length bounds.now ≡ length jobs.now.set.tasks }
-    requires values { length values.now ≡ length jobs.now.set.tasks }
-    requires bounds { AreBounds jobs.now.set (slice_index bounds.now) }
+    requires rows { CanBeWalked (P.suits protocol.now) jobs.now (R.rows rows.old) (R.at rows.old) }
+    requires given { HaveBoundAndValue jobs.now.set bounds.now values.now }
     ensures { HasFigures (P.keeps protocol.now) (P.interferes protocol.now) (P.charges protocol.now) (trace_in jobs.now (R.rows rows.old).runs)
         (slice_index bounds.now) (slice_index values.now) (ticks_of (R.rows rows.old).runs) result }
 {

@@ -1,15 +1,6 @@
-ghost use Rattle.std.specs.Prelude.{◌≡◌, ℕ, ◌<◌, ◌≤◌, Bool, length, map, slice_index, slice_index_or, Option, IfOk};
-ghost use Rattle.std.specs.List.{All};
-ghost use Rattle.sporadic_model.specs.declared.limits.TheConstants.{MOST_TICKS};
-ghost use Rattle.schedule_model.specs.RowDef.{Trace, jobs_of};
-ghost use Rattle.charge_laws.specs.Charges.{Charge};
-ghost use Rattle.schedule_answers.specs.Conforming.{AreMeasures};
-ghost use Rattle.schedule_answers.specs.TaskAnswers.{no_measure};
-ghost use Rattle.charge.specs.Table.{item_seen, IsChargeTable};
-ghost use Rattle.audit_figures.specs.Sums.{sums_at};
-ghost use Rattle.schedule_answers.specs.TaskAnswers.{no_figures};
-ghost use Rattle.figure_laws.specs.Figures.{AreFigures, ChargesBlocked};
+ghost use Rattle.std.specs.Prelude.{◌≡◌, IfOk};
 ghost use Rattle.audit_figures.specs.Beside.{figures_from};
+ghost use Rattle.audit_figures.specs.Given.{AreBeside, ArePutTogether, AreOfJobs, AreFiguresOf};
 
 use crate::sums::{ClassSums, sums_of_tasks};
 use charge::ChargeTable;
@@ -40,13 +31,8 @@ fn put_together(
     values: &[u64],
     sums: &[ClassSums],
 ) -> Result<Vec<TaskFigures>, AllocError>
-    requires bounds { length bounds.now ≡ length measures.now }
-    requires values { length values.now ≡ length measures.now }
-    requires sums { length sums.now ≡ length measures.now }
-    ensures size { IfOk result (λ v. length v.items ≡ length measures.now) }
-    ensures each { IfOk result (λ v. (x : ℕ) → x < length measures.now → slice_index_or v.items x no_figures
-        ≡ figures_from (slice_index_or measures.now x no_measure) (slice_index bounds.now x) (slice_index values.now x)
-        (sums_at sums.now x)) }
+    requires { AreBeside measures.now bounds.now values.now sums.now }
+    ensures { IfOk result (λ v. ArePutTogether measures.now bounds.now values.now sums.now v.items) }
 {
     let mut figures = Vec::with_capacity(alloc, measures.len())?;
     for x in 0..measures.len() {
@@ -65,14 +51,8 @@ pub(crate) fn figures(
     values: &[u64],
     table: &ChargeTable,
 ) -> Result<Vec<TaskFigures>, AllocError>
-    requires measured { length measured.now.tasks.items ≡ length jobs.now.set.tasks }
-    requires bounds { length bounds.now ≡ length jobs.now.set.tasks }
-    requires values { length values.now ≡ length jobs.now.set.tasks }
-    requires listed { All (λ item. item.blocked.0 < length jobs.now.jobs) table.now.charges.items }
-    ensures { IfOk result (λ v. (charges : Trace → ℕ → ℕ → Option Charge) (interferes : Trace → ℕ → ℕ → Bool) (w : Trace) (n : ℕ)
-        → jobs_of w ≡ jobs.now → n ≤ MOST_TICKS → ChargesBlocked charges interferes w → AreMeasures interferes w n measured.now
-        → IsChargeTable charges interferes w (slice_index bounds.now) n (map item_seen table.now.charges.items)
-        → AreFigures charges interferes w (slice_index bounds.now) (slice_index values.now) n v.items) }
+    requires { AreOfJobs jobs.now measured.now bounds.now values.now table.now.charges.items }
+    ensures { IfOk result (λ v. AreFiguresOf jobs.now measured.now bounds.now values.now table.now.charges.items v.items) }
 {
     jobs.keeps_its_rules();
     let sums = sums_of_tasks(alloc, jobs, table)?;

@@ -1,6 +1,6 @@
-ghost use Rattle.std.specs.Prelude.{◌≡◌, ℕ, ◌<◌, length, slice_set, IfOk};
+ghost use Rattle.std.specs.Prelude.{◌≡◌, ◌<◌, length, slice_set, IfOk};
 ghost use Rattle.std.specs.List.{All};
-ghost use Rattle.audit_figures.specs.Sums.{sums_at, no_sums, sums_with, item_sums};
+ghost use Rattle.audit_figures.specs.Sums.{sums_at, sums_with, AreNoSums, AreItemSums};
 
 use blocking_columns::Class;
 use charge::{ChargeItem, ChargeTable};
@@ -45,8 +45,7 @@ fn add_item(sums: &mut [ClassSums], x: usize, item: &ChargeItem)
 
 /// No ticks yet, for each of so many tasks.
 fn no_sums(alloc: Global, tasks: u32) -> Result<Vec<ClassSums>, AllocError>
-    ensures size { IfOk result (λ v. length v.items ≡ tasks) }
-    ensures each { IfOk result (λ v. (x : ℕ) → sums_at v.items x ≡ no_sums) }
+    ensures { IfOk result (λ v. AreNoSums tasks v.items) }
 {
     let mut sums = Vec::with_capacity(alloc, tasks as usize)?;
     for _ in 0..tasks {
@@ -61,11 +60,9 @@ fn no_sums(alloc: Global, tasks: u32) -> Result<Vec<ClassSums>, AllocError>
 
 /// Adds each item to the sums of its blocked job's task. The sums start empty.
 fn add_items(sums: &mut [ClassSums], jobs: &JobList, items: &[ChargeItem])
-    requires size { length sums.old ≡ length jobs.now.set.tasks }
-    requires none { (x : ℕ) → sums_at sums.old x ≡ no_sums }
+    requires none { AreNoSums (length jobs.now.set.tasks) sums.old }
     requires listed { All (λ item. item.blocked.0 < length jobs.now.jobs) items.now }
-    ensures size { length sums.new ≡ length sums.old }
-    ensures each { (x : ℕ) → x < length sums.old → sums_at sums.new x ≡ item_sums jobs.now.jobs x items.now }
+    ensures { AreItemSums jobs.now items.now sums.new }
 {
     for item in items {
         add_item(sums, jobs.job(item.blocked).task.0 as usize, item);
@@ -78,10 +75,8 @@ pub(crate) fn sums_of_tasks(
     jobs: &JobList,
     table: &ChargeTable,
 ) -> Result<Vec<ClassSums>, AllocError>
-    requires listed { All (λ item. item.blocked.0 < length jobs.now.jobs) table.now.charges.items }
-    ensures size { IfOk result (λ v. length v.items ≡ length jobs.now.set.tasks) }
-    ensures each { IfOk result (λ v. (x : ℕ) → x < length jobs.now.set.tasks
-        → sums_at v.items x ≡ item_sums jobs.now.jobs x table.now.charges.items) }
+    requires { All (λ item. item.blocked.0 < length jobs.now.jobs) table.now.charges.items }
+    ensures { IfOk result (λ v. AreItemSums jobs.now table.now.charges.items v.items) }
 {
     let mut sums = no_sums(alloc, jobs.set().tasks())?;
     add_items(&mut sums, jobs, &table.charges);

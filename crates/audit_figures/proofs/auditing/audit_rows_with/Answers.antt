@@ -10,19 +10,22 @@ use Rattle.soundness_laws.specs.Analyses.{AreValues}
 use Rattle.soundness_laws.specs.Sound.{IsLawfulSchedule, KeepsBounds, Sound}
 use Rattle.figure_laws.specs.Figures.{AreFigures, blocked_sum}
 use Rattle.figure_laws.specs.Audited.{charged_ticks}
+use Rattle.charge.specs.Given.{BoundEachTask}
 use Rattle.audit_figures.proofs.Lawful.{valid_bounds, same_values, lie_within, add_up}
 use Rattle.figure_laws.proofs.AllInside.{all_inside}
 use Rattle.audit_figures.proofs.auditing.audit_rows_with.Goals as goal
 
-pub walked_figures-requires-clause-bounds : goal.walked_figures-requires-clause-bounds
-walked_figures-requires-clause-bounds g c =
+pub walked_figures-requires-clause-given : goal.walked_figures-requires-clause-given
+walked_figures-requires-clause-given g c =
     let f : SourceDef =
     source_at (g.P.ProgramSource.source c.args.protocol.now) c.args.jobs.now.set in
     let cert : CertificateDef = certificate_seen c.args.certificate.now in
     let judged : IsValid f cert × AreValues f cert c.in-Ok.valid.values.items =
     rw c.set-2.ensures at c.in-Ok.ensures.judges in
     let accepted : IsAccepted c.args.jobs.now.set = rw c.set.ensures at c.keeps_the_model.ensures.accepted in
-    rw c.deref.ensures.value (valid_bounds f cert accepted judged.0)
+    let bounded : BoundEachTask c.args.jobs.now.set cert.bounds =
+    record { one_each = judged.0.bound_each; bounds = valid_bounds f cert accepted judged.0 } in
+    record { bounded = rw c.deref.ensures.value bounded; values = rw c.deref-2.ensures.value judged.1.one_each }
 
 pub returns : goal.returns
 returns g c =

@@ -14,9 +14,10 @@ walk-requires-clause-first g c =
       c.new.ensures (g.P.ChargedProtocol.charges c.args.protocol.now) w (slice_index c.args.bounds.now),
     )
 
-pub figures-requires-clause-measured : goal.figures-requires-clause-measured
-figures-requires-clause-measured g c =
+pub figures-requires : goal.figures-requires
+figures-requires g c =
     let w : Trace = trace_in c.args.jobs.now (g.R.RowReader.rows c.args.rows.now).runs in
+    let n : ℕ = ticks_of (g.R.RowReader.rows c.args.rows.now).runs in
     let counts : AreCounts (g.P.BlockingProtocol.interferes c.args.protocol.now) w c.in_ok-machine.machine.tick c.deref.result.now =
     subst (λ counts. AreCounts (g.P.BlockingProtocol.interferes c.args.protocol.now) w c.in_ok-machine.machine.tick counts)
     (sym c.deref.ensures.value)
@@ -26,16 +27,16 @@ figures-requires-clause-measured g c =
     c.in_ok-measured.measured =
     c.in_ok-measured.ensures (g.P.BlockingProtocol.interferes c.args.protocol.now) w c.in_ok-machine.ensures.list
     c.in_ok-machine.ensures.shows counts in
-    measures.size
-
-pub figures-requires-clause-listed : goal.figures-requires-clause-listed
-figures-requires-clause-listed g c =
-    let w : Trace = trace_in c.args.jobs.now (g.R.RowReader.rows c.args.rows.now).runs in
-    let n : ℕ = ticks_of (g.R.RowReader.rows c.args.rows.now).runs in
-    items_listed (g.P.ChargedProtocol.charges c.args.protocol.now) (g.P.BlockingProtocol.interferes c.args.protocol.now) w
-    (slice_index c.args.bounds.now) n c.in_ok-table.table.charges.items
-    (c.in_ok-table.ensures c.args.protocol.now w (slice_index c.args.bounds.now) n c.requires.suits
-    c.keeps_its_rules.ensures.lawful c.in_ok-machine.ensures.lawful c.in_ok-machine.ensures.are_kept.1)
+    record {
+      measured = measures.size;
+      bounds = c.requires.given.bounded.one_each;
+      values = c.requires.given.values;
+      listed =
+          items_listed (g.P.ChargedProtocol.charges c.args.protocol.now) (g.P.BlockingProtocol.interferes c.args.protocol.now) w
+          (slice_index c.args.bounds.now) n c.in_ok-table.table.charges.items
+          (c.in_ok-table.ensures c.args.protocol.now w (slice_index c.args.bounds.now) n c.requires.rows.suits
+          c.keeps_its_rules.ensures.lawful c.in_ok-machine.ensures.lawful c.in_ok-machine.ensures.are_kept.1);
+    }
 
 pub returns : goal.returns
 returns g c =
@@ -53,7 +54,7 @@ returns g c =
     c.in_ok-machine.ensures.shows counts) in
     let table : IsChargeTable (g.P.ChargedProtocol.charges c.args.protocol.now) (g.P.BlockingProtocol.interferes c.args.protocol.now) w
     (slice_index c.args.bounds.now) n (map item_seen c.in_ok-table.table.charges.items) =
-    c.in_ok-table.ensures c.args.protocol.now w (slice_index c.args.bounds.now) n c.requires.suits
+    c.in_ok-table.ensures c.args.protocol.now w (slice_index c.args.bounds.now) n c.requires.rows.suits
     c.keeps_its_rules.ensures.lawful c.in_ok-machine.ensures.lawful c.in_ok-machine.ensures.are_kept.1 in (
       c.in_ok-machine.ensures.lawful,
       c.in_ok-figures.ensures (g.P.ChargedProtocol.charges c.args.protocol.now) (g.P.BlockingProtocol.interferes c.args.protocol.now) w n
