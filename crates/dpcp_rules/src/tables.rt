@@ -1,4 +1,4 @@
-ghost use Rattle.std.specs.Prelude.{◌≡◌, ℕ, ◌<◌, ◌≤◌, length, min, replicate};
+ghost use Rattle.std.specs.Prelude.{◌≡◌, ℕ, ◌<◌, length, min, replicate};
 ghost use Rattle.sporadic_model.specs.Homes.{EachHasHome};
 ghost use Rattle.dpcp_rules.specs.Homes.{waiting_place, kept_place, entry_at};
 ghost use Rattle.dpcp_rules.specs.Tables.{IsPlace, TellsFirst, TellsBars, AreTables};
