@@ -6,10 +6,11 @@ use Rattle.sporadic_model.specs.SetDef.{SetDef}
 use Rattle.sporadic_model.specs.Users.{count_of, is_user}
 use Rattle.sporadic_model.specs.declared.ids.ResourceId.{ResourceId}
 use Rattle.blocking_columns.specs.Columns.{have_one_processor}
+use Rattle.blocking_columns.specs.Windows.{requests_in}
 use Rattle.indirect_constraints.specs.Rows.{is_beside}
-use Rattle.closer_laws.specs.CloserRows.{is_shared_out}
-use Rattle.closer_mpcp_laws.specs.CloserMpcpRows.{goes_first, goes_before, is_away, away_holdings}
-use Rattle.mpcp_window_laws.specs.WaitRows.{held_in_waits}
+use Rattle.closer_laws.specs.CloserRows.{is_shared_out, is_held_there}
+use Rattle.closer_mpcp_laws.specs.CloserMpcpRows.{goes_first, goes_before, is_away, away_holdings, shared_holdings}
+use Rattle.mpcp_window_laws.specs.WaitRows.{requests_in_waits, held_in_waits}
 use Rattle.closer_mpcp.specs.declared.places.Place.{Place}
 use Rattle.closer_mpcp.specs.declared.places.Place.TheVariants as place
 
@@ -36,6 +37,10 @@ has_lower p set i x r = any_below (length set.tasks) (λ y. nat_lt i y && (is_lo
 abbrev pub lower_held : Place → SetDef → ℕ → ℕ → ℕ → ℕ
 lower_held p set i x r = only_if (has_lower p set i x r) (count_of set i r)
 
+-- How many requests of r can y hold on x's processor while i waits for them, if it is another task there and higher than i?
+abbrev pub held_by : SetDef → (ℕ → ℕ) → ℕ → ℕ → ℕ → ℕ → ℕ
+held_by set bounds i x y r = only_if (nat_lt y i && is_beside set x y) (requests_in_waits set bounds i r y r)
+
 -- How many requests of r can be held beside x while i waits for them?
 abbrev pub held_beside : SetDef → (ℕ → ℕ) → ℕ → ℕ → ℕ → ℕ
 held_beside set bounds i x r = held_in_waits set i bounds x r
@@ -45,6 +50,18 @@ held_beside set bounds i x r = held_in_waits set i bounds x r
 abbrev pub counts : SetDef → ℕ → ℕ → Option ResourceId → ℕ → Bool
 counts set i x q r = is_shared_out set i r && passes set x q r
 
--- How many requests of x can then run while i waits for r?
+-- How many requests that i waits for, and that are shared out, can be held beside x, where x may run its requests of q meanwhile?
+abbrev pub holdings_in_waits : SetDef → (ℕ → ℕ) → ℕ → ℕ → Option ResourceId → ℕ
+holdings_in_waits set bounds i x q = shared_holdings set (held_in_waits set i bounds x) i x (passes set x q)
+
+-- How many requests of r by y can run within i's bound, if y is higher than i and on another processor than x?
+abbrev pub requests_away : SetDef → (ℕ → ℕ) → ℕ → ℕ → ℕ → ℕ → ℕ
+requests_away set bounds i x y r = only_if (nat_lt y i && is_away set x y) (requests_in set bounds i y r)
+
+-- How many requests of x can run while i waits for r, and a task of x's processor holds it?
 abbrev pub runs_there : SetDef → (ℕ → ℕ) → ℕ → ℕ → ℕ → ℕ
 runs_there set bounds i x r = count_of set i r + away_holdings set bounds i x r
+
+-- The same if a task of x's processor can hold r while i waits for it, and none if not.
+abbrev pub run_of : SetDef → (ℕ → ℕ) → ℕ → ℕ → ℕ → ℕ
+run_of set bounds i x r = only_if (is_held_there set i x r) (runs_there set bounds i x r)

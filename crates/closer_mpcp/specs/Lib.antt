@@ -1,4 +1,6 @@
+pub mod Amounts
 pub mod Given
 pub mod Holdings
+pub mod Rows
 pub mod Tables
 pub mod Windows

@@ -1,14 +1,23 @@
 -- What searches and limits look up. In each, i is the analysed task.
-use Rattle.std.specs.Prelude.{◌≡◌, ℕ, ◌<◌, ◌≤◌, ◌==◌, List, [], length, slice_index, slice_index_or}
+use Rattle.std.specs.Prelude.{◌≡◌, ℕ, ◌*◌, ◌<◌, ◌≤◌, ◌==◌, List, [], length, slice_index, slice_index_or}
 use Rattle.number_laws.specs.Sums.{sum_below, only_if}
 use Rattle.sporadic_model.specs.SetDef.{SetDef, task_at}
-use Rattle.sporadic_model.specs.Users.{used_by}
+use Rattle.sporadic_model.specs.Users.{used_by, count_of, length_of}
 use Rattle.blocking_columns.specs.Windows.{requests_during}
 use Rattle.closer_laws.specs.CloserRows.{is_shared_out}
-use Rattle.mpcp_window_laws.specs.MpcpWindows.{longest_first, time_first, longest_lower_holding}
+use Rattle.closer_mpcp_laws.specs.CloserMpcpRows.{goes_first}
+use Rattle.mpcp_window_laws.specs.MpcpWindows.{longest_first, time_first, longest_lower_holding, ticks_instead}
+use Rattle.closer_mpcp.specs.Given.{AreRequestsIn}
 use Rattle.closer_mpcp.specs.Holdings.{held_beside}
 use Rattle.closer_mpcp.specs.declared.first_ticks.FirstTicks.{FirstTicks}
 use Rattle.closer_mpcp.specs.declared.lower_holders.OtherHolders.{OtherHolders}
+
+-- Is it said how long x's requests of r last, if they go first while another task of its processor holds q: one, and all that one job makes?
+pub record AreFirstOfResource (set : SetDef) (x q r : ℕ) (first : FirstTicks) : Type 0 where
+  pub longest : first.longest ≡ only_if (goes_first set x r q) (length_of set x r)
+  pub all : first.all ≡ only_if (goes_first set x r q) (count_of set x r * length_of set x r)
+  pub longest_to : first.longest ≤ 1000000000
+  pub all_to : first.all ≤ 1000000000000
 
 -- Is it said how long x's requests last that go first while another task of its processor holds q: the longest one, and all that one job
 -- makes?
@@ -22,6 +31,12 @@ pub record AreFirstOf (set : SetDef) (x q : ℕ) (first : FirstTicks) : Type 0 w
 pub record AreFirst (set : SetDef) (q : ℕ) (first : List FirstTicks) : Type 0 where
   pub enough : length set.tasks ≤ length first
   pub each : (x : ℕ) → x < length set.tasks → AreFirstOf set x q (slice_index_or first x (record { longest = 0; all = 0 }))
+
+-- Is x a task of the set, and q a resource of which it is said so?
+pub record AreTaskAndFirst (set : SetDef) (x q : ℕ) (ticks : List FirstTicks) : Type 0 where
+  pub task : x < length set.tasks
+  pub resource : q < length set.resources
+  pub first : AreFirst set q ticks
 
 -- Is this what others may do with q while i waits for it?
 pub record AreHolders (set : SetDef) (i q : ℕ) (holders : OtherHolders) : Type 0 where
@@ -39,6 +54,16 @@ pub record AreHoldings (set : SetDef) (bounds : ℕ → ℕ) (i q span : ℕ) (h
   pub one_each : length holdings ≡ 65
   pub each : (k : ℕ) → k < 65 → slice_index holdings k ≡ holdings_on set bounds i q span k
   pub small : (k : ℕ) → k < 65 → slice_index holdings k ≤ 128000000000000
+
+-- Is it said while a request of q by i waits, at these bounds, and is x a task?
+pub record AreHoldingsFor (set : SetDef) (bounds : List ℕ) (i q span : ℕ) (held : List ℕ) (x : ℕ) : Type 0 where
+  pub request : AreRequestsIn set bounds span i q
+  pub holdings : AreHoldings set (slice_index bounds) i q span held
+  pub runner : x < length set.tasks
+
+-- For how many ticks may all tasks run instead of the holders, in a span of ticks?
+abbrev pub all_ticks_instead : SetDef → (ℕ → ℕ) → ℕ → ℕ → ℕ → ℕ
+all_ticks_instead set bounds i q span = sum_below (length set.tasks) (ticks_instead set bounds i q span)
 
 -- How many requests of r can be held beside x while i waits for them, if r is shared out?
 abbrev pub shared_beside : SetDef → (ℕ → ℕ) → ℕ → ℕ → ℕ → ℕ

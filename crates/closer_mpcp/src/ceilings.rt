@@ -1,9 +1,9 @@
 //! Which requests may run on a processor before the one of a ready holder.
 
-ghost use Rattle.std.specs.Prelude.{◌≡◌, ◌<◌, length, IfSome};
+ghost use Rattle.std.specs.Prelude.{◌≡◌, ◌<◌, length};
 ghost use Rattle.blocking_columns.specs.Ceilings.{remote_ceiling_rank};
 ghost use Rattle.closer_mpcp_laws.specs.CloserMpcpRows.{goes_first, goes_before};
-ghost use Rattle.closer_mpcp.specs.Given.{AreTaskAndResource};
+ghost use Rattle.closer_mpcp.specs.Given.{AreTaskAndResource, AreTaskAndTwoResources, AreTaskAndNamed};
 ghost use Rattle.closer_mpcp.specs.Holdings.{passes};
 
 use sporadic_model::{ResourceId, TaskId, TaskSet};
@@ -21,8 +21,7 @@ fn ceiling_seen(set: &TaskSet, q: ResourceId, k: u32) -> u32
 
 /// May `x` run a request of `q` on its processor while another task is ready there that holds `r`?
 pub(crate) fn goes_first(set: &TaskSet, x: TaskId, q: ResourceId, r: ResourceId) -> bool
-    requires first { AreTaskAndResource set.now x.0 q.0 }
-    requires second { r.0 < length set.now.resources }
+    requires { AreTaskAndTwoResources set.now x.0 q.0 r.0 }
     ensures { result ≡ goes_first set.now x.0 q.0 r.0 }
 {
     let processor = set.processor(x);
@@ -45,8 +44,7 @@ fn goes_before(set: &TaskSet, x: TaskId, r: ResourceId) -> bool
 
 /// May it run its requests of this resource so, or any of its own where none is named?
 pub(crate) fn passes(set: &TaskSet, x: TaskId, q: Option<ResourceId>, r: ResourceId) -> bool
-    requires held { AreTaskAndResource set.now x.0 r.0 }
-    requires first { IfSome q (λ a. a.0 < length set.now.resources) }
+    requires { AreTaskAndNamed set.now x.0 q r.0 }
     ensures { result ≡ passes set.now x.0 q r.0 }
 {
     match q {

@@ -1,11 +1,8 @@
 //! How long the requests of a task last that go first. That doesn't depend on the bounds, or on how long a job waits.
 
-ghost use Rattle.std.specs.Prelude.{◌≡◌, ◌*◌, ◌<◌, ◌≤◌, length};
-ghost use Rattle.number_laws.specs.Sums.{only_if};
-ghost use Rattle.sporadic_model.specs.Users.{count_of, length_of};
-ghost use Rattle.closer_mpcp_laws.specs.CloserMpcpRows.{goes_first};
-ghost use Rattle.closer_mpcp.specs.Given.{AreTaskAndResource};
-ghost use Rattle.closer_mpcp.specs.Tables.{AreFirst, AreFirstOf};
+ghost use Rattle.std.specs.Prelude.{◌<◌, length};
+ghost use Rattle.closer_mpcp.specs.Given.{AreTaskAndResource, AreTaskAndTwoResources};
+ghost use Rattle.closer_mpcp.specs.Tables.{AreFirst, AreFirstOf, AreFirstOfResource};
 
 use crate::ceilings::goes_first;
 use sporadic_model::{ResourceId, TaskId, TaskSet};
@@ -22,12 +19,8 @@ pub(crate) struct FirstTicks {
 
 // The requests of `r` by `x`, if they go first while another task of `x`'s processor holds `q`.
 fn first_of_resource(set: &TaskSet, x: TaskId, q: ResourceId, r: ResourceId) -> FirstTicks
-    requires request { AreTaskAndResource set.now x.0 r.0 }
-    requires held { q.0 < length set.now.resources }
-    ensures longest { result.longest ≡ only_if (goes_first set.now x.0 r.0 q.0) (length_of set.now x.0 r.0) }
-    ensures all { result.all ≡ only_if (goes_first set.now x.0 r.0 q.0) (count_of set.now x.0 r.0 * length_of set.now x.0 r.0) }
-    ensures longest_to { result.longest ≤ 1000000000 }
-    ensures all_to { result.all ≤ 1000000000000 }
+    requires { AreTaskAndTwoResources set.now x.0 r.0 q.0 }
+    ensures { AreFirstOfResource set.now x.0 q.0 r.0 result }
 {
     if goes_first(set, x, r, q) {
         let length = set.length(x, r);

@@ -1,7 +1,8 @@
 //! What can be held beside each task, computed once for all rows of a program.
 
-ghost use Rattle.std.specs.Prelude.{◌≡◌, ◌<◌, ◌≤◌, length, slice_index, IfOk};
-ghost use Rattle.closer_mpcp.specs.Given.{AreTaskAndResource, AreWaitsAt, AreSharedWaitsAt};
+ghost use Rattle.std.specs.Prelude.{◌<◌, length, slice_index, IfOk};
+ghost use Rattle.closer_mpcp.specs.Amounts.{IsAmount};
+ghost use Rattle.closer_mpcp.specs.Given.{AreTaskAndResource, AreWaitsAndRequest, AreSharedWaitsAt};
 ghost use Rattle.closer_mpcp.specs.Holdings.{held_beside};
 ghost use Rattle.closer_mpcp.specs.Tables.{shared_beside, AreHeldBeside, AreHeldBesideEach};
 
@@ -30,10 +31,8 @@ fn held_beside(
     bounds: &[u64],
     windows: &[Option<u64>],
 ) -> u64
-    requires waits { AreWaitsAt set.now bounds.now i.0 windows.now }
-    requires held { AreTaskAndResource set.now x.0 r.0 }
-    ensures value { result ≡ held_beside set.now (slice_index bounds.now) i.0 x.0 r.0 }
-    ensures most { result ≤ 128000000001000 }
+    requires { AreWaitsAndRequest set.now bounds.now i.0 windows.now x.0 r.0 }
+    ensures { IsAmount result (held_beside set.now (slice_index bounds.now) i.0 x.0 r.0) 128000000001000 }
 {
     let higher = held_in_waits(set, i, x, r, bounds, windows);
     if share_processor(set, x, i) {
@@ -55,8 +54,7 @@ fn shared_beside(
 ) -> u64
     requires waits { AreSharedWaitsAt set.now bounds.now i.0 shared.now windows.now }
     requires held { AreTaskAndResource set.now x.0 r.0 }
-    ensures value { result ≡ shared_beside set.now (slice_index bounds.now) i.0 x.0 r.0 }
-    ensures most { result ≤ 128000000001000 }
+    ensures { IsAmount result (shared_beside set.now (slice_index bounds.now) i.0 x.0 r.0) 128000000001000 }
 {
     if shared[r.0 as usize] {
         held_beside(set, i, x, r, bounds, windows)

@@ -1,15 +1,14 @@
 //! How many requests that the analysed task waits for can be held beside another task, and away from it.
 
-ghost use Rattle.std.specs.Prelude.{◌≡◌, ℕ, ◌<◌, ◌≤◌, ◌&&◌, nat_lt, length, slice_index, IfSome};
+ghost use Rattle.std.specs.Prelude.{◌≡◌, ◌<◌, ◌&&◌, nat_lt, length, slice_index, IfSome};
 ghost use Rattle.number_laws.specs.Sums.{only_if};
-ghost use Rattle.blocking_columns.specs.Windows.{requests_in, requests_by_higher};
+ghost use Rattle.blocking_columns.specs.Windows.{requests_by_higher};
 ghost use Rattle.closer_laws.specs.CloserRows.{is_held_there};
 ghost use Rattle.closer_mpcp_laws.specs.CloserMpcpRows.{is_away, shared_holdings, away_row};
-ghost use Rattle.mpcp_window_laws.specs.WaitRows.{held_in_waits};
 ghost use Rattle.shared_requests.specs.Held.{AreSharedOut};
-ghost use Rattle.closer_mpcp.specs.Given.{AreTwoTasks, AreTaskAndResource, AreTwoTasksAndResource, IsTaskAt, IsRequestAt};
-ghost use Rattle.closer_mpcp.specs.Holdings.{passes, is_lower_at, has_lower, lower_held};
-ghost use Rattle.closer_mpcp.specs.Holdings.{runs_there};
+ghost use Rattle.closer_mpcp.specs.Amounts.{IsAmount};
+ghost use Rattle.closer_mpcp.specs.Given.{AreTwoTasks, AreTaskAndNamed, AreTwoTasksAndResource, IsTaskAt, IsRequestAt, AreRequestAndTask};
+ghost use Rattle.closer_mpcp.specs.Holdings.{passes, holdings_in_waits, is_lower_at, has_lower, lower_held, requests_away, runs_there, run_of};
 ghost use Rattle.closer_mpcp.specs.Tables.{AreHeldBesideEach};
 
 use crate::ceilings::passes;
@@ -30,8 +29,7 @@ fn requests_away(
 ) -> u64
     requires request { IsRequestAt set.now bounds.now i.0 r.0 }
     requires others { AreTwoTasks set.now x.0 y.0 }
-    ensures value { result ≡ only_if (nat_lt y.0 i.0 && is_away set.now x.0 y.0) (requests_in set.now (slice_index bounds.now) i.0 y.0 r.0) }
-    ensures most { result ≤ 2000000000000 }
+    ensures { IsAmount result (requests_away set.now (slice_index bounds.now) i.0 x.0 y.0 r.0) 2000000000000 }
 {
     if y < i && is_at(set, Place::Away, x, y) {
         cnt(set, i, y, r, bounds)
@@ -42,10 +40,8 @@ fn requests_away(
 
 // How many requests of `r` can higher tasks than `i` make there within the bound of a job of `i`?
 fn higher_away(set: &TaskSet, i: TaskId, x: TaskId, r: ResourceId, bounds: &[u64]) -> u64
-    requires request { IsRequestAt set.now bounds.now i.0 r.0 }
-    requires runner { x.0 < length set.now.tasks }
-    ensures value { result ≡ requests_by_higher set.now (slice_index bounds.now) i.0 (is_away set.now x.0) r.0 }
-    ensures most { result ≤ 128000000000000 }
+    requires { AreRequestAndTask set.now bounds.now i.0 r.0 x.0 }
+    ensures { IsAmount result (requests_by_higher set.now (slice_index bounds.now) i.0 (is_away set.now x.0) r.0) 128000000000000 }
 {
     // a set has at most 64 tasks, so the sum fits
     let _tasks = set.tasks();
@@ -87,8 +83,7 @@ fn has_lower(set: &TaskSet, place: Place, i: TaskId, x: TaskId, r: ResourceId) -
 /// How many requests of `r` can lower tasks than `i` at this place of `x` hold while a job of `i` waits for them?
 pub(crate) fn lower_held(set: &TaskSet, place: Place, i: TaskId, x: TaskId, r: ResourceId) -> u64
     requires { AreTwoTasksAndResource set.now i.0 x.0 r.0 }
-    ensures value { result ≡ lower_held place set.now i.0 x.0 r.0 }
-    ensures most { result ≤ 1000 }
+    ensures { IsAmount result (lower_held place set.now i.0 x.0 r.0) 1000 }
 {
     if has_lower(set, place, i, x, r) {
         set.count(i, r)
@@ -105,8 +100,7 @@ fn count_if_passing(
     r: ResourceId,
     held: u64,
 ) -> u64
-    requires held { AreTaskAndResource set.now x.0 r.0 }
-    requires first { IfSome q (λ a. a.0 < length set.now.resources) }
+    requires { AreTaskAndNamed set.now x.0 q r.0 }
     ensures { result ≡ only_if (passes set.now x.0 q r.0) held }
 {
     // beside most tasks nothing is held, and what passes costs more to tell
@@ -130,8 +124,7 @@ pub(crate) fn shared_holdings(
     requires tasks { AreTwoTasks set.now i.0 x.0 }
     requires first { IfSome q (λ a. a.0 < length set.now.resources) }
     requires held { AreHeldBesideEach set.now (slice_index bounds.now) i.0 held.now.requests.items }
-    ensures value { result ≡ shared_holdings set.now (held_in_waits set.now i.0 (slice_index bounds.now) x.0) i.0 x.0 (passes set.now x.0 q) }
-    ensures most { result ≤ 4096000000032000 }
+    ensures { IsAmount result (holdings_in_waits set.now (slice_index bounds.now) i.0 x.0 q) 4096000000032000 }
 {
     // a set has at most 32 resources, so the sum fits
     let _resources = set.resources();
@@ -155,10 +148,8 @@ fn is_held_there(set: &TaskSet, i: TaskId, x: TaskId, r: ResourceId, shared: &[b
 
 // How many requests of `x` can then run while `i` waits for `r`?
 fn runs_there(set: &TaskSet, i: TaskId, x: TaskId, r: ResourceId, bounds: &[u64]) -> u64
-    requires request { IsRequestAt set.now bounds.now i.0 r.0 }
-    requires runner { x.0 < length set.now.tasks }
-    ensures value { result ≡ runs_there set.now (slice_index bounds.now) i.0 x.0 r.0 }
-    ensures most { result ≤ 128000000002000 }
+    requires { AreRequestAndTask set.now bounds.now i.0 r.0 x.0 }
+    ensures { IsAmount result (runs_there set.now (slice_index bounds.now) i.0 x.0 r.0) 128000000002000 }
 {
     let higher = higher_away(set, i, x, r, bounds);
     set.count(i, r) + (higher + lower_held(set, Place::Away, i, x, r))
@@ -173,11 +164,9 @@ fn run_of(
     shared: &[bool],
     bounds: &[u64],
 ) -> u64
-    requires request { IsRequestAt set.now bounds.now i.0 r.0 }
-    requires runner { x.0 < length set.now.tasks }
+    requires request { AreRequestAndTask set.now bounds.now i.0 r.0 x.0 }
     requires shared { AreSharedOut set.now i.0 shared.now }
-    ensures value { result ≡ only_if (is_held_there set.now i.0 x.0 r.0) (runs_there set.now (slice_index bounds.now) i.0 x.0 r.0) }
-    ensures most { result ≤ 128000000002000 }
+    ensures { IsAmount result (run_of set.now (slice_index bounds.now) i.0 x.0 r.0) 128000000002000 }
 {
     if is_held_there(set, i, x, r, shared) {
         runs_there(set, i, x, r, bounds)

@@ -1,10 +1,9 @@
 //! Whether the windows of a task's requests are the same at other bounds.
 
-ghost use Rattle.std.specs.Prelude.{◌≡◌, ℕ, ◌<◌, ◌≤◌, true, length, slice_index, IsTrue};
-ghost use Rattle.sporadic_model.specs.Users.{is_user};
-ghost use Rattle.blocking_columns.specs.Windows.{jobs_during};
+ghost use Rattle.std.specs.Prelude.{◌<◌, ◌≤◌, length, slice_index, IsTrue};
 ghost use Rattle.mpcp_window_laws.specs.KeptWindows.{KeepsWindow, KeepsWindows};
 ghost use Rattle.closer_mpcp.specs.Given.{AreTaskAndResource, AreTwoBounds};
+ghost use Rattle.closer_mpcp.specs.Windows.{KeepsJobsOfUsers};
 
 use crate::lower_holders::other_holders;
 use crate::searching::window_with;
@@ -23,8 +22,7 @@ fn keeps_jobs_of_users(
     requires resource { q.0 < length set.now.resources }
     requires span { span ≤ 1000000000 }
     requires bounds { AreTwoBounds set.now earlier.now bounds.now }
-    ensures { IsTrue result → (x : ℕ) → x < length set.now.tasks → is_user set.now q.0 x ≡ true
-        → jobs_during set.now (slice_index earlier.now) span x ≡ jobs_during set.now (slice_index bounds.now) span x }
+    ensures { IsTrue result → KeepsJobsOfUsers set.now (slice_index earlier.now) (slice_index bounds.now) span q.0 }
 {
     for x in 0..set.tasks() {
         let task = TaskId(x);

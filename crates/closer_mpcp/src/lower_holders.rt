@@ -1,10 +1,11 @@
 //! For how long a lower task may hold what the analysed task waits for. That doesn't depend on the bounds.
 
-ghost use Rattle.std.specs.Prelude.{◌≡◌, ◌<◌, ◌≤◌, length};
+ghost use Rattle.std.specs.Prelude.{◌≡◌};
 ghost use Rattle.number_laws.specs.Sums.{only_if};
 ghost use Rattle.mpcp_window_laws.specs.MpcpWindows.{may_run_instead, holding_ticks, may_hold_before, longest_lower_holding};
+ghost use Rattle.closer_mpcp.specs.Amounts.{IsAmount};
 ghost use Rattle.closer_mpcp.specs.Given.{AreTwoTasks, AreTaskAndResource, AreTwoTasksAndResource};
-ghost use Rattle.closer_mpcp.specs.Tables.{AreFirst, AreHolders};
+ghost use Rattle.closer_mpcp.specs.Tables.{AreFirst, AreTaskAndFirst, AreHolders};
 
 use crate::first_ticks::{FirstTicks, first_of_tasks};
 use fragments::{share_processor, uses};
@@ -29,10 +30,8 @@ fn may_run_instead(set: &TaskSet, i: TaskId, y: TaskId, x: TaskId) -> bool
 
 // For how many ticks may `y` hold `q` while `i` waits?
 fn holding_ticks(set: &TaskSet, i: TaskId, q: ResourceId, first: &[FirstTicks], y: TaskId) -> u64
-    requires held { AreTaskAndResource set.now y.0 q.0 }
-    requires first { AreFirst set.now q.0 first.now }
-    ensures value { result ≡ holding_ticks set.now i.0 q.0 y.0 }
-    ensures most { result ≤ 65000000000 }
+    requires { AreTaskAndFirst set.now y.0 q.0 first.now }
+    ensures { IsAmount result (holding_ticks set.now i.0 q.0 y.0) 65000000000 }
 {
     let mut total = set.length(y, q);
     for x in 0..set.tasks() {
@@ -55,8 +54,7 @@ fn may_hold_before(set: &TaskSet, i: TaskId, q: ResourceId, y: TaskId) -> bool
 fn lower_holding(set: &TaskSet, i: TaskId, q: ResourceId, first: &[FirstTicks], y: TaskId) -> u64
     requires held { AreTwoTasksAndResource set.now i.0 y.0 q.0 }
     requires first { AreFirst set.now q.0 first.now }
-    ensures value { result ≡ only_if (may_hold_before set.now i.0 q.0 y.0) (holding_ticks set.now i.0 q.0 y.0) }
-    ensures most { result ≤ 65000000000 }
+    ensures { IsAmount result (only_if (may_hold_before set.now i.0 q.0 y.0) (holding_ticks set.now i.0 q.0 y.0)) 65000000000 }
 {
     if may_hold_before(set, i, q, y) {
         holding_ticks(set, i, q, first, y)
@@ -67,10 +65,8 @@ fn lower_holding(set: &TaskSet, i: TaskId, q: ResourceId, first: &[FirstTicks], 
 
 // For how many ticks may the longest such holding last?
 fn longest_lower_holding(set: &TaskSet, i: TaskId, q: ResourceId, first: &[FirstTicks]) -> u64
-    requires request { AreTaskAndResource set.now i.0 q.0 }
-    requires first { AreFirst set.now q.0 first.now }
-    ensures value { result ≡ longest_lower_holding set.now i.0 q.0 }
-    ensures most { result ≤ 65000000000 }
+    requires { AreTaskAndFirst set.now i.0 q.0 first.now }
+    ensures { IsAmount result (longest_lower_holding set.now i.0 q.0) 65000000000 }
 {
     let users = set.users(q);
     let mut longest = 0;

@@ -6,9 +6,9 @@ ghost use Rattle.schedule_model.specs.Protocols.{EachSetSuits};
 ghost use Rattle.program_sources.specs.Bounds.{AreWithinDeadlines};
 ghost use Rattle.blocking_columns.specs.ColumnDef.{column_seen};
 ghost use Rattle.blocking_columns.specs.Columns.{columns_of};
+ghost use Rattle.blocking_columns.specs.Given.{AreColumnsAt};
 ghost use Rattle.mpcp_window_laws.specs.WaitRows.{mpcp_closer_rows, mpcp_closer_program};
 ghost use Rattle.mpcp_window_laws.proofs.Programs.{mpcp_closer_is_program};
-ghost use Rattle.closer_mpcp.specs.Given.{IsTaskAt};
 
 use crate::rows::add_closer_rows;
 use fragments::{Fragment, RowTaker, columns_stand_in_order, fragments};
@@ -26,8 +26,7 @@ fn add_rows<T: RowTaker>(
     bounds: &[u64],
     columns: &[Fragment],
 ) -> Result<(), AllocError>
-    requires task { IsTaskAt set.now bounds.now i.0 }
-    requires columns { map column_seen columns.now ≡ columns_of protocol.Mpcp set.now i.0 }
+    requires { AreColumnsAt protocol.Mpcp set.now bounds.now i.0 columns.now }
     ensures { OnOk result (T.takes taker.old (map column_seen columns.now) (mpcp_closer_rows set.now i.0) bounds.now taker.new) }
 {
     columns_stand_in_order(set, Protocol::Mpcp, i, columns);

@@ -1,21 +1,21 @@
 //! The closer rows.
 
-ghost use Rattle.std.specs.Prelude.{◌≡◌, ◌<◌, ◌≤◌, ◌+◌, ◌&&◌, not, false, [], ◌∷◌, ◌++◌, map, length, slice_index, OnOk, if◌then◌else◌};
+ghost use Rattle.std.specs.Prelude.{◌≡◌, ◌<◌, ◌≤◌, ◌+◌, ◌&&◌, not, false, [], ◌∷◌, map, length, slice_index, OnOk, if◌then◌else◌};
 ghost use Rattle.std.specs.List.{AllWithin};
 ghost use Rattle.std.proofs.Common.{ap};
 ghost use Rattle.number_laws.specs.Sums.{flag};
 ghost use Rattle.blocking_columns.specs.declared.columns.Class.TheVariants.{Indirect, Preemption};
-ghost use Rattle.blocking_columns.specs.ColumnDef.{column_seen, is_class, AreKnown};
+ghost use Rattle.blocking_columns.specs.ColumnDef.{column_seen, is_class};
+ghost use Rattle.blocking_columns.specs.Given.{AreKnownAt, AreLaidOut};
 ghost use Rattle.blocking_columns.specs.Columns.{is_lower_local};
-ghost use Rattle.fragments.specs.Constraints.{per, per_pair, per_where};
-ghost use Rattle.closer_laws.specs.CloserRows.{is_shared_out, requests_where, local_preemption_row};
+ghost use Rattle.closer_laws.specs.CloserRows.{is_shared_out, requests_where};
 ghost use Rattle.closer_mpcp_laws.specs.CloserMpcpRows.{shared_holding_row, resource_holding_row, away_row};
-ghost use Rattle.closer_mpcp_laws.specs.CloserMpcpRows.{shared_interval_row, lower_wait_row, further_rows};
-ghost use Rattle.mpcp_window_laws.specs.WaitRows.{held_in_waits, wait_rows};
+ghost use Rattle.closer_mpcp_laws.specs.CloserMpcpRows.{shared_interval_row, lower_wait_row};
+ghost use Rattle.mpcp_window_laws.specs.WaitRows.{held_in_waits};
 ghost use Rattle.shared_requests.specs.Held.{AreSharedOut};
-ghost use Rattle.closer_mpcp.specs.Given.{IsTaskAt, AreLaidOut};
+ghost use Rattle.closer_mpcp.specs.Given.{AreLaidOutWithWindows};
+ghost use Rattle.closer_mpcp.specs.Rows.{holding_rows, interval_rows, single_rows, rows_below_waits, closer_rows};
 ghost use Rattle.closer_mpcp.specs.Tables.{AreHeldBesideEach};
-ghost use Rattle.closer_mpcp.specs.Windows.{AreWaitWindows};
 
 use crate::held::{HeldBesideTasks, held_beside_each};
 use crate::holdings::{run_beside_away_holdings, shared_holdings};
@@ -277,10 +277,7 @@ fn add_holding_rows<T: RowTaker>(
 ) -> Result<(), AllocError>
     requires columns { AreLaidOut set.now bounds.now i.0 columns.now places.now }
     requires held { AreHeldBesideEach set.now (slice_index bounds.now) i.0 held.now.requests.items }
-    ensures { OnOk result (T.takes taker.old (map column_seen columns.now)
-        (per (length set.now.tasks) (shared_holding_row set.now (held_in_waits set.now i.0) i.0)
-        ++ per_pair (length set.now.tasks) (length set.now.resources) (resource_holding_row set.now (held_in_waits set.now i.0) i.0))
-        bounds.now taker.new) }
+    ensures { OnOk result (T.takes taker.old (map column_seen columns.now) (holding_rows set.now i.0) bounds.now taker.new) }
 {
     let of_tasks = SharedHoldingRows { held };
     add_per_task(alloc, taker, &of_tasks, set, i, bounds, columns, places)?;
@@ -313,8 +310,7 @@ fn add_interval_rows<T: RowTaker>(
 ) -> Result<(), AllocError>
     requires columns { AreLaidOut set.now bounds.now i.0 columns.now places.now }
     requires intervals { intervals ≡ 1 + requests_where set.now i.0 (is_shared_out set.now i.0) }
-    ensures { OnOk result (T.takes taker.old (map column_seen columns.now)
-        (per_where (is_lower_local set.now i.0) (length set.now.tasks) (shared_interval_row set.now i.0)) bounds.now taker.new) }
+    ensures { OnOk result (T.takes taker.old (map column_seen columns.now) (interval_rows set.now i.0) bounds.now taker.new) }
 {
     let rows = SharedIntervalRows(SharedIntervalRow { intervals });
     add_per_lower_task(alloc, taker, &rows, set, i, bounds, columns, places)
@@ -330,11 +326,9 @@ fn add_single_rows<T: RowTaker>(
     columns: &[Fragment],
     intervals: u64,
 ) -> Result<(), AllocError>
-    requires task { IsTaskAt set.now bounds.now i.0 }
-    requires known { AreKnown (length set.now.tasks) (length set.now.resources) columns.now }
+    requires columns { AreKnownAt set.now bounds.now i.0 columns.now }
     requires intervals { intervals ≡ 1 + requests_where set.now i.0 (is_shared_out set.now i.0) }
-    ensures { OnOk result (T.takes taker.old (map column_seen columns.now)
-        (local_preemption_row set.now i.0 ∷ lower_wait_row set.now i.0 ∷ []) bounds.now taker.new) }
+    ensures { OnOk result (T.takes taker.old (map column_seen columns.now) (single_rows set.now i.0) bounds.now taker.new) }
 {
     let all = (0, columns.len());
     add_row_limited(
@@ -363,10 +357,8 @@ fn add_further_rows<T: RowTaker>(
     places: &[TaskPlace],
     windows: &[Option<u64>],
 ) -> Result<(), AllocError>
-    requires columns { AreLaidOut set.now bounds.now i.0 columns.now places.now }
-    requires windows { AreWaitWindows set.now (slice_index bounds.now) i.0 windows.now }
-    ensures { OnOk result (T.takes taker.old (map column_seen columns.now) (further_rows set.now (held_in_waits set.now i.0) i.0)
-        bounds.now taker.new) }
+    requires { AreLaidOutWithWindows set.now bounds.now i.0 columns.now places.now windows.now }
+    ensures { OnOk result (T.takes taker.old (map column_seen columns.now) (rows_below_waits set.now i.0) bounds.now taker.new) }
 {
     let shared = shared_out(alloc, set, i)?;
     let intervals = 1 + requests_shared_out(set, i, &shared);
@@ -390,8 +382,7 @@ pub(crate) fn add_closer_rows<T: RowTaker>(
     places: &[TaskPlace],
 ) -> Result<(), AllocError>
     requires { AreLaidOut set.now bounds.now i.0 columns.now places.now }
-    ensures { OnOk result (T.takes taker.old (map column_seen columns.now)
-        (further_rows set.now (held_in_waits set.now i.0) i.0 ++ wait_rows set.now i.0) bounds.now taker.new) }
+    ensures { OnOk result (T.takes taker.old (map column_seen columns.now) (closer_rows set.now i.0) bounds.now taker.new) }
 {
     let windows = wait_windows(alloc, set, i, bounds)?;
     add_further_rows(alloc, taker, set, i, bounds, columns, places, &windows)?;

@@ -1,10 +1,9 @@
 //! The window of a request.
 
-ghost use Rattle.std.specs.Prelude.{◌≡◌, ◌<◌, ◌≤◌, slice_index, IfSome};
-ghost use Rattle.sporadic_model.specs.SetDef.{task_at};
-ghost use Rattle.mpcp_window_laws.specs.MpcpWindows.{wait_window};
+ghost use Rattle.std.specs.Prelude.{slice_index};
 ghost use Rattle.closer_mpcp.specs.Given.{IsRequestAt};
 ghost use Rattle.closer_mpcp.specs.Tables.{AreHolders};
+ghost use Rattle.closer_mpcp.specs.Windows.{IsWindow};
 
 use crate::lower_holders::{OtherHolders, other_holders};
 use crate::ticks::ticks_held;
@@ -23,8 +22,7 @@ pub(crate) fn window_with(
 ) -> Option<u64>
     requires request { IsRequestAt set.now bounds.now i.0 q.0 }
     requires holders { AreHolders set.now i.0 q.0 holders.now }
-    ensures value { result ≡ wait_window set.now (slice_index bounds.now) i.0 q.0 }
-    ensures within { IfSome result (λ w. (1 ≤ w) × (w ≤ (task_at set.now i.0).deadline)) }
+    ensures { IsWindow set.now (slice_index bounds.now) i.0 q.0 result }
 {
     let deadline = set.deadline(i);
     let mut span = 1u64;
@@ -41,8 +39,7 @@ pub(crate) fn window_with(
 /// The same, where it isn't known yet what others may do with `q`.
 pub(crate) fn wait_window(set: &TaskSet, i: TaskId, q: ResourceId, bounds: &[u64]) -> Option<u64>
     requires { IsRequestAt set.now bounds.now i.0 q.0 }
-    ensures value { result ≡ wait_window set.now (slice_index bounds.now) i.0 q.0 }
-    ensures within { IfSome result (λ w. (1 ≤ w) × (w ≤ (task_at set.now i.0).deadline)) }
+    ensures { IsWindow set.now (slice_index bounds.now) i.0 q.0 result }
 {
     window_with(set, i, q, bounds, &other_holders(set, i, q))
 }

@@ -1,11 +1,12 @@
 //! For how many ticks other tasks may hold a resource in a span of ticks from the issue of a request on.
 
-ghost use Rattle.std.specs.Prelude.{◌≡◌, ◌<◌, ◌≤◌, ◌*◌, nat_lt, length, slice_index};
+ghost use Rattle.std.specs.Prelude.{◌≡◌, ◌≤◌, ◌*◌, nat_lt, length, slice_index};
 ghost use Rattle.number_laws.specs.Sums.{only_if, sum_below};
 ghost use Rattle.blocking_columns.specs.Windows.{jobs_during, requests_during};
 ghost use Rattle.mpcp_window_laws.specs.MpcpWindows.{own_ticks, holdings_beside, ticks_instead, ticks_held};
+ghost use Rattle.closer_mpcp.specs.Amounts.{IsAmount};
 ghost use Rattle.closer_mpcp.specs.Given.{AreJobsIn, AreRequestsIn};
-ghost use Rattle.closer_mpcp.specs.Tables.{AreFirst, AreHoldings, AreHolders};
+ghost use Rattle.closer_mpcp.specs.Tables.{AreFirst, AreHoldings, AreHoldingsFor, AreHolders, all_ticks_instead};
 
 use crate::first_ticks::FirstTicks;
 use crate::lower_holders::OtherHolders;
@@ -14,8 +15,7 @@ use sporadic_model::{ResourceId, TaskId, TaskSet, jobs_in};
 /// How many jobs of `x` can run in a span of ticks?
 pub(crate) fn jobs_during(set: &TaskSet, bounds: &[u64], span: u64, x: TaskId) -> u64
     requires { AreJobsIn set.now bounds.now span x.0 }
-    ensures value { result ≡ jobs_during set.now (slice_index bounds.now) span x.0 }
-    ensures most { result ≤ 2000000000 }
+    ensures { IsAmount result (jobs_during set.now (slice_index bounds.now) span x.0) 2000000000 }
 {
     // no bound and jitter together are above the deadline of their task, which is within the limits of every set
     let _tasks = set.tasks();
@@ -27,8 +27,7 @@ pub(crate) fn jobs_during(set: &TaskSet, bounds: &[u64], span: u64, x: TaskId) -
 fn ticks_of_jobs(set: &TaskSet, bounds: &[u64], span: u64, x: TaskId, time: u64) -> u128
     requires jobs { AreJobsIn set.now bounds.now span x.0 }
     requires time { time ≤ 32000000000000 }
-    ensures value { result ≡ jobs_during set.now (slice_index bounds.now) span x.0 * time }
-    ensures most { result ≤ 64000000000000000000000 }
+    ensures { IsAmount result (jobs_during set.now (slice_index bounds.now) span x.0 * time) 64000000000000000000000 }
 {
     u128::from(jobs_during(set, bounds, span, x)) * u128::from(time)
 }
@@ -43,8 +42,7 @@ fn own_ticks_of(
     x: TaskId,
 ) -> u128
     requires { AreRequestsIn set.now bounds.now span x.0 q.0 }
-    ensures value { result ≡ only_if (nat_lt x.0 i.0) (own_ticks set.now (slice_index bounds.now) q.0 span x.0) }
-    ensures most { result ≤ 64000000000000000000000 }
+    ensures { IsAmount result (only_if (nat_lt x.0 i.0) (own_ticks set.now (slice_index bounds.now) q.0 span x.0)) 64000000000000000000000 }
 {
     if x < i {
         let time = set.count(x, q) * set.length(x, q);
@@ -57,8 +55,7 @@ fn own_ticks_of(
 // For how many ticks may requests of `q` by tasks higher than `i` run?
 fn own_ticks(set: &TaskSet, i: TaskId, q: ResourceId, bounds: &[u64], span: u64) -> u128
     requires { AreRequestsIn set.now bounds.now span i.0 q.0 }
-    ensures value { result ≡ sum_below i.0 (own_ticks set.now (slice_index bounds.now) q.0 span) }
-    ensures most { result ≤ 4096000000000000000000000 }
+    ensures { IsAmount result (sum_below i.0 (own_ticks set.now (slice_index bounds.now) q.0 span)) 4096000000000000000000000 }
 {
     // a set has at most 64 tasks, so the sum fits
     let _tasks = set.tasks();
@@ -73,8 +70,7 @@ fn own_ticks(set: &TaskSet, i: TaskId, q: ResourceId, bounds: &[u64], span: u64)
 // How often may jobs of `y` hold `q` in the span, if it is higher than `i`?
 fn holdings_by(set: &TaskSet, i: TaskId, q: ResourceId, bounds: &[u64], span: u64, y: TaskId) -> u64
     requires { AreRequestsIn set.now bounds.now span y.0 q.0 }
-    ensures value { result ≡ only_if (nat_lt y.0 i.0) (requests_during set.now (slice_index bounds.now) span y.0 q.0) }
-    ensures most { result ≤ 2000000000000 }
+    ensures { IsAmount result (only_if (nat_lt y.0 i.0) (requests_during set.now (slice_index bounds.now) span y.0 q.0)) 2000000000000 }
 {
     let count = set.count(y, q);
     // most tasks don't request it
@@ -111,11 +107,8 @@ fn holdings_beside(
     holdings: &[u64],
     x: TaskId,
 ) -> u64
-    requires request { AreRequestsIn set.now bounds.now span i.0 q.0 }
-    requires runner { x.0 < length set.now.tasks }
-    requires holdings { AreHoldings set.now (slice_index bounds.now) i.0 q.0 span holdings.now }
-    ensures value { result ≡ holdings_beside set.now (slice_index bounds.now) i.0 q.0 span x.0 }
-    ensures most { result ≤ 128000000000000 }
+    requires { AreHoldingsFor set.now bounds.now i.0 q.0 span holdings.now x.0 }
+    ensures { IsAmount result (holdings_beside set.now (slice_index bounds.now) i.0 q.0 span x.0) 128000000000000 }
 {
     if x == i {
         return 0;
@@ -136,12 +129,9 @@ fn ticks_by(
     holdings: &[u64],
     x: TaskId,
 ) -> u128
-    requires request { AreRequestsIn set.now bounds.now span i.0 q.0 }
-    requires runner { x.0 < length set.now.tasks }
+    requires holdings { AreHoldingsFor set.now bounds.now i.0 q.0 span holdings.now x.0 }
     requires first { AreFirst set.now q.0 first.now }
-    requires holdings { AreHoldings set.now (slice_index bounds.now) i.0 q.0 span holdings.now }
-    ensures value { result ≡ ticks_instead set.now (slice_index bounds.now) i.0 q.0 span x.0 }
-    ensures most { result ≤ 64000000000000000000000 }
+    ensures { IsAmount result (ticks_instead set.now (slice_index bounds.now) i.0 q.0 span x.0) 64000000000000000000000 }
 {
     let of_runner = first[x.0 as usize];
     // most tasks have no request that goes first
@@ -168,8 +158,7 @@ fn ticks_instead(
 ) -> u128
     requires request { AreRequestsIn set.now bounds.now span i.0 q.0 }
     requires first { AreFirst set.now q.0 first.now }
-    ensures value { result ≡ sum_below (length set.now.tasks) (ticks_instead set.now (slice_index bounds.now) i.0 q.0 span) }
-    ensures most { result ≤ 4096000000000000000000000 }
+    ensures { IsAmount result (all_ticks_instead set.now (slice_index bounds.now) i.0 q.0 span) 4096000000000000000000000 }
 {
     let holdings = holdings_on(set, i, q, bounds, span);
     let mut total = 0u128;

@@ -3,7 +3,7 @@
 ghost use Rattle.std.specs.Prelude.{◌≡◌, ◌<◌, map, length, slice_index, OnOk};
 ghost use Rattle.blocking_columns.specs.ColumnDef.{column_seen};
 ghost use Rattle.mpcp_window_laws.specs.WaitRows.{direct_wait_row, wait_rows};
-ghost use Rattle.closer_mpcp.specs.Given.{AreLaidOut};
+ghost use Rattle.closer_mpcp.specs.Given.{AreLaidOutWithWindows};
 ghost use Rattle.closer_mpcp.specs.Windows.{AreWaitWindows};
 
 use crate::waits::requests_in_waits;
@@ -83,8 +83,7 @@ pub(crate) fn add_wait_rows<T: RowTaker>(
     places: &[TaskPlace],
     windows: &[Option<u64>],
 ) -> Result<(), AllocError>
-    requires columns { AreLaidOut set.now bounds.now i.0 columns.now places.now }
-    requires windows { AreWaitWindows set.now (slice_index bounds.now) i.0 windows.now }
+    requires { AreLaidOutWithWindows set.now bounds.now i.0 columns.now places.now windows.now }
     ensures { OnOk result (T.takes taker.old (map column_seen columns.now) (wait_rows set.now i.0) bounds.now taker.new) }
 {
     let rows = DirectWaitRows { windows };

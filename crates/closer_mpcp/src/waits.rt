@@ -1,10 +1,10 @@
 //! How many requests of other tasks can run, and how many can be held, while the analysed task waits for a resource.
 
-ghost use Rattle.std.specs.Prelude.{◌≡◌, ◌<◌, ◌≤◌, ◌&&◌, nat_lt, slice_index};
-ghost use Rattle.number_laws.specs.Sums.{only_if};
-ghost use Rattle.indirect_constraints.specs.Rows.{is_beside};
+ghost use Rattle.std.specs.Prelude.{slice_index};
 ghost use Rattle.mpcp_window_laws.specs.WaitRows.{requests_in_windows, requests_in_waits, held_in_waits};
-ghost use Rattle.closer_mpcp.specs.Given.{AreTaskAndResource, AreTwoTasksAndResource, AreWaitsAt};
+ghost use Rattle.closer_mpcp.specs.Amounts.{IsAmount};
+ghost use Rattle.closer_mpcp.specs.Given.{AreTwoTasksAndResource, AreWaitsAt, AreWaitsAndRequest};
+ghost use Rattle.closer_mpcp.specs.Holdings.{held_by};
 
 use crate::places::{Place, is_at};
 use crate::ticks::jobs_during;
@@ -21,10 +21,8 @@ fn requests_in_windows(
     bounds: &[u64],
     windows: &[Option<u64>],
 ) -> u64
-    requires waits { AreWaitsAt set.now bounds.now i.0 windows.now }
-    requires other { AreTaskAndResource set.now x.0 q.0 }
-    ensures value { result ≡ requests_in_windows set.now (slice_index bounds.now) i.0 q.0 x.0 q.0 }
-    ensures most { result ≤ 2000000000000000 }
+    requires { AreWaitsAndRequest set.now bounds.now i.0 windows.now x.0 q.0 }
+    ensures { IsAmount result (requests_in_windows set.now (slice_index bounds.now) i.0 q.0 x.0 q.0) 2000000000000000 }
 {
     let requests = set.count(i, q);
     // only what `i` requests has a window
@@ -46,10 +44,8 @@ pub(crate) fn requests_in_waits(
     bounds: &[u64],
     windows: &[Option<u64>],
 ) -> u64
-    requires waits { AreWaitsAt set.now bounds.now i.0 windows.now }
-    requires other { AreTaskAndResource set.now x.0 q.0 }
-    ensures value { result ≡ requests_in_waits set.now (slice_index bounds.now) i.0 q.0 x.0 q.0 }
-    ensures most { result ≤ 2000000000000 }
+    requires { AreWaitsAndRequest set.now bounds.now i.0 windows.now x.0 q.0 }
+    ensures { IsAmount result (requests_in_waits set.now (slice_index bounds.now) i.0 q.0 x.0 q.0) 2000000000000 }
 {
     cnt(set, i, x, q, bounds).min(requests_in_windows(set, i, x, q, bounds, windows))
 }
@@ -67,9 +63,7 @@ fn held_by(
 ) -> u64
     requires waits { AreWaitsAt set.now bounds.now i.0 windows.now }
     requires held { AreTwoTasksAndResource set.now x.0 y.0 r.0 }
-    ensures value { result ≡ only_if (nat_lt y.0 i.0 && is_beside set.now x.0 y.0)
-        (requests_in_waits set.now (slice_index bounds.now) i.0 r.0 y.0 r.0) }
-    ensures most { result ≤ 2000000000000 }
+    ensures { IsAmount result (held_by set.now (slice_index bounds.now) i.0 x.0 y.0 r.0) 2000000000000 }
 {
     if y < i && is_at(set, Place::Beside, x, y) {
         requests_in_waits(set, i, y, r, bounds, windows)
@@ -87,10 +81,8 @@ pub(crate) fn held_in_waits(
     bounds: &[u64],
     windows: &[Option<u64>],
 ) -> u64
-    requires waits { AreWaitsAt set.now bounds.now i.0 windows.now }
-    requires held { AreTaskAndResource set.now x.0 r.0 }
-    ensures value { result ≡ held_in_waits set.now i.0 (slice_index bounds.now) x.0 r.0 }
-    ensures most { result ≤ 128000000000000 }
+    requires { AreWaitsAndRequest set.now bounds.now i.0 windows.now x.0 r.0 }
+    ensures { IsAmount result (held_in_waits set.now i.0 (slice_index bounds.now) x.0 r.0) 128000000000000 }
 {
     // a set has at most 64 tasks, so the sum fits
     let _tasks = set.tasks();

@@ -1,10 +1,8 @@
 //! The windows of a task's requests, computed once for all of its rows.
 
-ghost use Rattle.std.specs.Prelude.{◌≡◌, ◌<◌, ◌≤◌, true, slice_index, IfOk, unwrap_or};
-ghost use Rattle.sporadic_model.specs.Users.{is_user};
-ghost use Rattle.mpcp_window_laws.specs.MpcpWindows.{wait_window};
+ghost use Rattle.std.specs.Prelude.{slice_index, IfOk};
 ghost use Rattle.closer_mpcp.specs.Given.{IsTaskAt, IsRequestAt};
-ghost use Rattle.closer_mpcp.specs.Windows.{AreWaitWindows};
+ghost use Rattle.closer_mpcp.specs.Windows.{AreWaitWindows, IsWindowIfUsed};
 
 use crate::searching::wait_window;
 use fragments::uses;
@@ -14,8 +12,7 @@ use std::alloc::{AllocError, Global};
 // The window of a request of `q` by `i`, if `i` requests it.
 fn window_if_used(set: &TaskSet, i: TaskId, q: ResourceId, bounds: &[u64]) -> Option<u64>
     requires { IsRequestAt set.now bounds.now i.0 q.0 }
-    ensures value { is_user set.now q.0 i.0 ≡ true → result ≡ wait_window set.now (slice_index bounds.now) i.0 q.0 }
-    ensures small { unwrap_or result 0 ≤ 1000000000 }
+    ensures { IsWindowIfUsed set.now (slice_index bounds.now) i.0 q.0 result }
 {
     // no deadline is above the limits of every set
     let _deadline = set.deadline(i);

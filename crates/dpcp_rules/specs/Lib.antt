@@ -1,4 +1,7 @@
 pub mod Homes
+pub mod Given
+pub mod Tables
+pub mod Verdicts
 pub mod TaskOrder
 pub mod RowTests
 pub mod Blocked

@@ -1,4 +1,4 @@
-ghost use Rattle.std.specs.Prelude.{◌≡◌, ℕ, ◌<◌, length, IfSome};
+ghost use Rattle.std.specs.Prelude.{◌≡◌, ℕ, ◌<◌, length};
 ghost use Rattle.sporadic_model.specs.Homes.{EachHasHome};
 ghost use Rattle.schedule_model.specs.RowDef.{RowDef};
 ghost use Rattle.schedule_model.specs.DpcpRules.{KeepsRun};
@@ -8,6 +8,8 @@ ghost use Rattle.phase_machine.specs.MachineDef.{under};
 ghost use Rattle.phase_machine.specs.Shows.{Shows};
 ghost use Rattle.phase_machine.specs.Taking.{IsRowFor};
 ghost use Rattle.dpcp_rules.specs.Blocked.{is_interfered, blocked_now};
+ghost use Rattle.dpcp_rules.specs.Given.{AreRowAndJobServed};
+ghost use Rattle.shared_rules.specs.Given.{AreTwoJobs};
 
 use crate::lookup::AtHomes;
 use phase_machine::Machine;
@@ -17,8 +19,7 @@ use schedule_model::{JobId, Row};
 
 /// Is the job that runs on the job's processor a Local job of a higher task of it?
 fn is_interfered(machine: &Machine, j: JobId, running: Option<JobId>) -> bool
-    requires listed { j.0 < length machine.now.list.jobs }
-    requires running { IfSome running (λ r. r.0 < length machine.now.list.jobs) }
+    requires { AreTwoJobs machine.now.list j.0 running }
     ensures { result ≡ is_interfered machine.now j.0 (place_seen running) }
 {
     match running {
@@ -36,9 +37,7 @@ fn is_interfered(machine: &Machine, j: JobId, running: Option<JobId>) -> bool
 /// Is the job active, and neither running nor interfered with?
 #[tactic(auto, unfolding(crate::specs::Blocked::blocked_now))]
 fn is_blocked(machine: &Machine, row: &Row, j: JobId) -> bool
-    requires suits { EachHasHome machine.now.list.set }
-    requires fits { IsRowFor machine.now.list (row_seen row.now) }
-    requires listed { j.0 < length machine.now.list.jobs }
+    requires { AreRowAndJobServed machine.now (row_seen row.now) j.0 }
     ensures { result ≡ blocked_now machine.now (row_seen row.now) j.0 }
 {
     machine.active(j)

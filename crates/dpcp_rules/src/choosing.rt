@@ -1,13 +1,12 @@
-ghost use Rattle.std.specs.Prelude.{◌≡◌, ℕ, ◌<◌, length, map, Some, None, IfSome, option_map};
+ghost use Rattle.std.specs.Prelude.{◌≡◌, length, map};
 ghost use Rattle.sporadic_model.specs.Homes.{EachHasHome};
-ghost use Rattle.schedule_model.specs.RowDef.{RowDef};
-ghost use Rattle.schedule_model.specs.Chosen.{IsSized, IsDpcpChoice};
+ghost use Rattle.schedule_model.specs.Chosen.{IsSized};
 ghost use Rattle.schedule_model.specs.Seen.{row_seen, place_seen};
-ghost use Rattle.phase_machine.specs.MachineDef.{under};
-ghost use Rattle.phase_machine.specs.Shows.{Shows};
 ghost use Rattle.shared_choosing.specs.Scene.{place_in, running_in};
 ghost use Rattle.shared_choosing.specs.Filling.{filled};
-ghost use Rattle.dpcp_rules.specs.Choosing.{grant_claim, AreHolders, IsRunning};
+ghost use Rattle.dpcp_rules.specs.Choosing.{grant_claim, NamesResource, AreHolders, IsRunning};
+ghost use Rattle.dpcp_rules.specs.Given.{IsJobServed, ArePlacesServed};
+ghost use Rattle.dpcp_rules.specs.Verdicts.{IsChosen};
 
 use crate::judging::is_due;
 use crate::lookup::AtHomes;
@@ -22,10 +21,8 @@ use sporadic_model::ResourceId;
 
 /// The resource that is granted to the job: the one that it requests, if it waits and is due.
 fn grant_claim(machine: &Machine, tables: &Tables, j: JobId) -> Option<ResourceId>
-    requires suits { EachHasHome machine.now.list.set }
-    requires listed { j.0 < length machine.now.list.jobs }
-    ensures value { option_map (λ q. q.0) result ≡ grant_claim machine.now tables.now.first.keys tables.now.bars.keys j.0 }
-    ensures within { IfSome result (λ q. q.0 < length machine.now.list.set.resources) }
+    requires { IsJobServed machine.now j.0 }
+    ensures { NamesResource machine.now (grant_claim machine.now tables.now.first.keys tables.now.bars.keys j.0) result }
 {
     if machine.waiting(j) && is_due(machine, tables, j) {
         return requested(machine, j);
@@ -56,8 +53,7 @@ impl<'a> Visitor for Granting<'a> {
 
 /// Names the holders of the row: those that are kept, and those that are due.
 fn grant_all(machine: &Machine, tables: &Tables, holders: &mut [Option<JobId>])
-    requires suits { EachHasHome machine.now.list.set }
-    requires len { length holders.old ≡ length machine.now.list.set.resources }
+    requires { ArePlacesServed machine.now holders.old }
     ensures len { length holders.new ≡ length holders.old }
     ensures granted { AreHolders machine.now tables.now.first.keys tables.now.bars.keys (place_in (map place_seen holders.new)) }
 {
@@ -68,8 +64,7 @@ fn grant_all(machine: &Machine, tables: &Tables, holders: &mut [Option<JobId>])
 /// Names what runs, given the holders: on each processor the holder of the highest task. If there is none, it is the Local job of the
 /// highest task.
 fn run_all(machine: &Machine, holders: &[Option<JobId>], running: &mut [Option<JobId>])
-    requires suits { EachHasHome machine.now.list.set }
-    requires holders { length holders.now ≡ length machine.now.list.set.resources }
+    requires holders { ArePlacesServed machine.now holders.now }
     requires len { length running.old ≡ machine.now.list.set.processors }
     ensures len { length running.new ≡ length running.old }
     ensures running { IsRunning machine.now (place_in (map place_seen holders.now)) (running_in (map place_seen running.new)) }
@@ -107,9 +102,7 @@ impl<'a> RowChoice for DpcpChoice<'a> {
 pub fn choose(machine: &Machine, row: &mut Row)
     requires suits { EachHasHome machine.now.list.set }
     requires sized { IsSized machine.now.list.set (row_seen row.old) }
-    ensures sized { IsSized machine.now.list.set (row_seen row.new) }
-    ensures chosen { (rows : ℕ → RowDef) → Shows machine.now rows → rows machine.now.tick ≡ row_seen row.new
-        → IsDpcpChoice (under machine.now rows) machine.now.tick }
+    ensures { IsChosen machine.now (row_seen row.new) }
 {
     let tables = tables_of(machine);
     choose_row(&DpcpChoice { tables: &tables }, machine, row);

@@ -1,17 +1,15 @@
-ghost use Rattle.std.specs.Prelude.{◌≡◌, ℕ, ◌<◌, length, Option, IfSome};
+ghost use Rattle.std.specs.Prelude.{◌≡◌};
 ghost use Rattle.sporadic_model.specs.Homes.{EachHasHome};
-ghost use Rattle.schedule_model.specs.RowDef.{RowDef};
 ghost use Rattle.schedule_model.specs.Seen.{row_seen, place_seen};
-ghost use Rattle.schedule_model.specs.Protocols.{dpcp_rule};
-ghost use Rattle.phase_machine.specs.MachineDef.{under};
-ghost use Rattle.phase_machine.specs.Shows.{Shows};
 ghost use Rattle.phase_machine.specs.Taking.{IsRowFor};
-ghost use Rattle.phase_machine.specs.Judged.{Judged};
 ghost use Rattle.shared_rules.specs.RowTests.{each_current, passes_keep, by_rule};
 ghost use Rattle.dpcp_rules.specs.RowTests.{passes_run, is_due, request_passes, passes_grant};
 ghost use Rattle.dpcp_rules.specs.RowTests.{idle_passes, passes_idle, goes_first, priority_passes};
 ghost use Rattle.dpcp_rules.specs.RowTests.{passes_priority};
 ghost use Rattle.dpcp_rules.specs.TaskOrder.{task_now};
+ghost use Rattle.dpcp_rules.specs.Given.{IsJobServed, IsRowServed, AreRowAndJobServed};
+ghost use Rattle.shared_rules.specs.Given.{AreRowAndTwoJobs};
+ghost use Rattle.dpcp_rules.specs.Verdicts.{IsJudgement};
 
 use crate::Dpcp;
 use crate::lookup::{AtHomes, keeps_the_model};
@@ -26,8 +24,7 @@ use shared_rules::walking::{JobTest, each_passes};
 
 /// Is the job's task the first of those that wait at its processor, and higher than every ceiling that is kept there?
 pub(crate) fn is_due(machine: &Machine, tables: &Tables, j: JobId) -> bool
-    requires suits { EachHasHome machine.now.list.set }
-    requires listed { j.0 < length machine.now.list.jobs }
+    requires { IsJobServed machine.now j.0 }
     ensures { result ≡ is_due machine.now tables.now.first.keys tables.now.bars.keys j.0 }
 {
     keeps_the_model(machine);
@@ -38,9 +35,7 @@ pub(crate) fn is_due(machine: &Machine, tables: &Tables, j: JobId) -> bool
 
 /// If the job waits: does it hold the resource that it requests exactly if it is due?
 fn request_passes(machine: &Machine, tables: &Tables, row: &Row, j: JobId) -> bool
-    requires suits { EachHasHome machine.now.list.set }
-    requires fits { IsRowFor machine.now.list (row_seen row.now) }
-    requires listed { j.0 < length machine.now.list.jobs }
+    requires { AreRowAndJobServed machine.now (row_seen row.now) j.0 }
     ensures { result ≡ request_passes machine.now tables.now.first.keys tables.now.bars.keys (row_seen row.now) j.0 }
 {
     !machine.waiting(j) || holds(machine, &row.holders, j) == is_due(machine, tables, j)
@@ -65,8 +60,7 @@ impl<'a> JobTest for RequestTest<'a> {
 
 /// Does each active job that waits hold the resource that it requests exactly if it is due?
 fn requests_pass(machine: &Machine, tables: &Tables, row: &Row) -> bool
-    requires suits { EachHasHome machine.now.list.set }
-    requires fits { IsRowFor machine.now.list (row_seen row.now) }
+    requires { IsRowServed machine.now (row_seen row.now) }
     ensures { result ≡ each_current machine.now (request_passes machine.now tables.now.first.keys tables.now.bars.keys (row_seen row.now)) }
 {
     each_passes(&RequestTest { tables, row }, machine)
@@ -74,9 +68,7 @@ fn requests_pass(machine: &Machine, tables: &Tables, row: &Row) -> bool
 
 /// Idle, for one job: does something run where the job would run?
 fn idle_passes(machine: &Machine, row: &Row, j: JobId) -> bool
-    requires suits { EachHasHome machine.now.list.set }
-    requires fits { IsRowFor machine.now.list (row_seen row.now) }
-    requires listed { j.0 < length machine.now.list.jobs }
+    requires { AreRowAndJobServed machine.now (row_seen row.now) j.0 }
     ensures { result ≡ idle_passes machine.now (row_seen row.now) j.0 }
 {
     running_instead(&AtHomes, machine, row, j).is_some()
@@ -116,9 +108,7 @@ fn goes_first<O: Order>(
     j: JobId,
     running: Option<JobId>,
 ) -> bool
-    requires fits { IsRowFor machine.now.list (row_seen row.now) }
-    requires listed { j.0 < length machine.now.list.jobs }
-    requires running { IfSome running (λ r. r.0 < length machine.now.list.jobs) }
+    requires { AreRowAndTwoJobs machine.now.list (row_seen row.now) j.0 running }
     ensures { result ≡ goes_first machine.now (O.run order.now machine.now) (row_seen row.now) j.0 (place_seen running) }
 {
     let Some(r) = running else {
@@ -134,9 +124,7 @@ fn goes_first<O: Order>(
 
 /// Priority, for one job: does what runs where the job would run go no later?
 fn priority_passes<O: Order>(order: &O, machine: &Machine, row: &Row, j: JobId) -> bool
-    requires suits { EachHasHome machine.now.list.set }
-    requires fits { IsRowFor machine.now.list (row_seen row.now) }
-    requires listed { j.0 < length machine.now.list.jobs }
+    requires { AreRowAndJobServed machine.now (row_seen row.now) j.0 }
     ensures { result ≡ priority_passes machine.now (O.run order.now machine.now) (row_seen row.now) j.0 }
 {
     goes_first(
@@ -179,8 +167,7 @@ pub fn passes_priority<O: Order>(order: &O, machine: &Machine, row: &Row) -> boo
 /// due?
 #[tactic(auto, unfolding(crate::specs::RowTests::passes_grant))]
 fn passes_grant(machine: &Machine, tables: &Tables, row: &Row) -> bool
-    requires suits { EachHasHome machine.now.list.set }
-    requires fits { IsRowFor machine.now.list (row_seen row.now) }
+    requires { IsRowServed machine.now (row_seen row.now) }
     ensures { result ≡ passes_grant machine.now tables.now.first.keys tables.now.bars.keys (row_seen row.now) }
 {
     holders_pass(machine, row) && requests_pass(machine, tables, row)
@@ -211,10 +198,8 @@ impl<'a> RuleTests for DpcpTests<'a> {
 
 /// Ok if the row keeps all five rules. Else the first rule that it breaks.
 pub(crate) fn judge(machine: &Machine, row: &Row) -> Result<(), Rule>
-    requires suits { EachHasHome machine.now.list.set }
-    requires fits { IsRowFor machine.now.list (row_seen row.now) }
-    ensures { (rows : ℕ → RowDef) → Shows machine.now rows → rows machine.now.tick ≡ row_seen row.now
-        → Judged dpcp_rule (under machine.now rows) machine.now.tick result }
+    requires { IsRowServed machine.now (row_seen row.now) }
+    ensures { IsJudgement machine.now (row_seen row.now) result }
 {
     let tables = tables_of(machine);
     match first_failed(&DpcpTests { tables: &tables }, machine, row) {

@@ -1,7 +1,7 @@
-ghost use Rattle.std.specs.Prelude.{◌≡◌, ℕ, ◌<◌, ◌≤◌, length, min, replicate};
-ghost use Rattle.sporadic_model.specs.Accepted.{IsAccepted};
+ghost use Rattle.std.specs.Prelude.{◌≡◌, ℕ, ◌<◌, length, min, replicate};
 ghost use Rattle.sporadic_model.specs.Homes.{EachHasHome};
-ghost use Rattle.dpcp_rules.specs.Homes.{ceiling_now, waiting_place, kept_place, entry_at, IsLeast};
+ghost use Rattle.dpcp_rules.specs.Homes.{waiting_place, kept_place, entry_at};
+ghost use Rattle.dpcp_rules.specs.Tables.{IsPlace, TellsFirst, TellsBars, AreTables};
 ghost use Rattle.dpcp_rules.specs.declared.tables.TheConstants.{PLACES};
 
 use crate::lookup::{AtHomes, ceiling_of, home_of, keeps_the_model};
@@ -63,8 +63,7 @@ pub struct Tables {
 fn waiting_place(machine: &Machine, x: TaskId) -> u32
     requires suits { EachHasHome machine.now.list.set }
     requires task { x.0 < length machine.now.list.set.tasks }
-    ensures value { result ≡ waiting_place machine.now x.0 }
-    ensures most { result ≤ machine.now.list.set.processors }
+    ensures { IsPlace machine.now (waiting_place machine.now x.0) result }
 {
     match machine.current(x) {
         Some(j) if machine.waiting(j) => AtHomes.column_of(machine, j),
@@ -76,8 +75,7 @@ fn waiting_place(machine: &Machine, x: TaskId) -> u32
 fn kept_place(machine: &Machine, q: ResourceId) -> u32
     requires suits { EachHasHome machine.now.list.set }
     requires resource { q.0 < length machine.now.list.set.resources }
-    ensures value { result ≡ kept_place machine.now q.0 }
-    ensures most { result ≤ machine.now.list.set.processors }
+    ensures { IsPlace machine.now (kept_place machine.now q.0) result }
 {
     if kept(machine, q).is_some() {
         return home_of(machine, q);
@@ -88,8 +86,7 @@ fn kept_place(machine: &Machine, q: ResourceId) -> u32
 /// For each processor the first task that waits there, or the number of tasks if none does.
 fn waiting_table(machine: &Machine) -> Table
     requires suits { EachHasHome machine.now.list.set }
-    ensures least { IsLeast (waiting_place machine.now) (λ x. x)
-        (length machine.now.list.set.tasks) (length machine.now.list.set.tasks) result.keys }
+    ensures least { TellsFirst machine.now result.keys }
 {
     keeps_the_model(machine);
     let mut table = Table::new(tasks_of(machine));
@@ -102,8 +99,7 @@ fn waiting_table(machine: &Machine) -> Table
 /// For each processor the least ceiling of a resource that is kept there, or the number of tasks if none is.
 fn kept_table(machine: &Machine) -> Table
     requires suits { EachHasHome machine.now.list.set }
-    ensures least { IsLeast (kept_place machine.now) (ceiling_now machine.now)
-        (length machine.now.list.set.tasks) (length machine.now.list.set.resources) result.keys }
+    ensures least { TellsBars machine.now result.keys }
 {
     keeps_the_model(machine);
     let mut table = Table::new(tasks_of(machine));
@@ -119,11 +115,7 @@ fn kept_table(machine: &Machine) -> Table
 /// What waits and what is kept at the machine's tick.
 pub(crate) fn tables_of(machine: &Machine) -> Tables
     requires suits { EachHasHome machine.now.list.set }
-    ensures first { IsLeast (waiting_place machine.now) (λ x. x)
-        (length machine.now.list.set.tasks) (length machine.now.list.set.tasks) result.first.keys }
-    ensures bars { IsLeast (kept_place machine.now) (ceiling_now machine.now)
-        (length machine.now.list.set.tasks) (length machine.now.list.set.resources) result.bars.keys }
-    ensures accepted { IsAccepted machine.now.list.set }
+    ensures { AreTables machine.now result.first.keys result.bars.keys }
 {
     keeps_the_model(machine);
     Tables {

@@ -2,3 +2,4 @@ pub mod Windows
 pub mod Times
 pub mod Amounts
 pub mod Served
+pub mod Given

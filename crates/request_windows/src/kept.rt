@@ -1,9 +1,7 @@
 //! The windows of a task's requests, computed once for all of its rows.
 
-ghost use Rattle.std.specs.Prelude.{◌≡◌, ◌<◌, ◌≤◌, true, length, slice_index, IfOk, unwrap_or};
-ghost use Rattle.sporadic_model.specs.Users.{is_user};
-ghost use Rattle.window_laws.specs.Windows.{window_of};
-ghost use Rattle.request_windows.specs.Windows.{AreWindows};
+ghost use Rattle.std.specs.Prelude.{◌<◌, length, slice_index, IfOk};
+ghost use Rattle.request_windows.specs.Windows.{AreWindows, IsWindowIfUsed};
 ghost use Rattle.request_windows.specs.Served.{IsServed};
 
 use crate::searching::window;
@@ -15,8 +13,7 @@ use std::alloc::{AllocError, Global};
 fn window_if_used(set: &TaskSet, i: TaskId, q: ResourceId, bounds: &[u64]) -> Option<u64>
     requires served { IsServed set.now i.0 bounds.now }
     requires resource { q.0 < length set.now.resources }
-    ensures value { is_user set.now q.0 i.0 ≡ true → result ≡ window_of set.now (slice_index bounds.now) i.0 q.0 }
-    ensures small { unwrap_or result 0 ≤ 1000000000 }
+    ensures { IsWindowIfUsed set.now (slice_index bounds.now) i.0 q.0 result }
 {
     // no deadline is above the limits of every set
     let _deadline = set.deadline(i);

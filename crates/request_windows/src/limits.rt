@@ -1,14 +1,13 @@
 //! The limit of a row of windows.
 
-ghost use Rattle.std.specs.Prelude.{◌≡◌, ◌<◌, ◌≤◌, ◌*◌, true, length, slice_index};
+ghost use Rattle.std.specs.Prelude.{◌≡◌, ◌<◌, length, slice_index};
 ghost use Rattle.std.proofs.Props.{props};
-ghost use Rattle.number_laws.specs.Sums.{only_if};
-ghost use Rattle.sporadic_model.specs.Users.{is_user, count_of};
 ghost use Rattle.program_sources.specs.Bounds.{AreWithinDeadlines};
 ghost use Rattle.blocking_columns.specs.Windows.{jobs_in};
-ghost use Rattle.window_laws.specs.WindowRows.{meets_there, requests_there, requests_met, window_row};
-ghost use Rattle.request_windows.specs.Windows.{AreWindows};
+ghost use Rattle.window_laws.specs.WindowRows.{requests_there, requests_met, window_row};
+ghost use Rattle.request_windows.specs.Windows.{AreWindows, requests_by};
 ghost use Rattle.request_windows.specs.Amounts.{IsAmount};
+ghost use Rattle.request_windows.specs.Given.{IsRequested};
 
 use fragments::{home, uses};
 use sporadic_model::{ResourceId, TaskId, TaskSet, jobs_in};
@@ -31,8 +30,7 @@ pub(crate) struct Meeting<'a> {
 
 // How many of them can run within the window of a request of `q` by `i`? If that has no window, the bound of the job takes its place.
 fn requests_there(at: &Meeting, q: ResourceId) -> u64
-    requires own { q.0 < length at.now.set.now.resources }
-    requires user { is_user at.now.set.now q.0 at.now.i.0 ≡ true }
+    requires { IsRequested at.now.set.now at.now.i.0 q.0 }
     ensures { IsAmount result (requests_there at.now.set.now (slice_index at.now.bounds.now) at.now.i.0 at.now.x.0 at.now.r.0 q.0) 2000000000000 }
 {
     // no bound and jitter together are above the deadline of their task, which is within the limits of every set
@@ -45,8 +43,7 @@ fn requests_there(at: &Meeting, q: ResourceId) -> u64
 // How many of them within the windows of all requests of `q` that a job of `i` makes, if `q` and `r` have one home?
 fn requests_by(at: &Meeting, q: ResourceId) -> u64
     requires { q.0 < length at.now.set.now.resources }
-    ensures { IsAmount result (only_if (meets_there at.now.set.now at.now.i.0 at.now.r.0 q.0) (count_of at.now.set.now at.now.i.0 q.0
-        * requests_there at.now.set.now (slice_index at.now.bounds.now) at.now.i.0 at.now.x.0 at.now.r.0 q.0)) 2000000000000000 }
+    ensures { IsAmount result (requests_by at.now.set.now (slice_index at.now.bounds.now) at.now.i.0 at.now.x.0 at.now.r.0 q.0) 2000000000000000 }
 {
     if uses(at.set, at.i, q) && home(at.set, q) == home(at.set, at.r) {
         at.set.count(at.i, q) * requests_there(at, q)

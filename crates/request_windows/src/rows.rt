@@ -1,12 +1,10 @@
 //! The rows of windows.
 
 ghost use Rattle.std.specs.Prelude.{◌≡◌, ◌<◌, map, length, slice_index, OnOk};
-ghost use Rattle.blocking_columns.specs.ColumnDef.{column_seen, AreKnown};
-ghost use Rattle.blocking_columns.specs.Stretches.{AreInOrder};
-ghost use Rattle.blocking_columns.specs.TaskPlaces.{ArePlaces};
+ghost use Rattle.blocking_columns.specs.ColumnDef.{column_seen};
 ghost use Rattle.window_laws.specs.WindowRows.{window_row, window_rows};
 ghost use Rattle.request_windows.specs.Windows.{AreWindows};
-ghost use Rattle.request_windows.specs.Served.{IsServed};
+ghost use Rattle.request_windows.specs.Given.{AreServedAndLaidOut};
 
 use crate::kept::windows_of;
 use crate::limits::{Meeting, limit};
@@ -94,10 +92,7 @@ pub(crate) fn add_window_rows<T: RowTaker>(
     columns: &[Fragment],
     places: &[TaskPlace],
 ) -> Result<(), AllocError>
-    requires served { IsServed set.now i.0 bounds.now }
-    requires known { AreKnown (length set.now.tasks) (length set.now.resources) columns.now }
-    requires order { AreInOrder columns.now }
-    requires places { ArePlaces set.now (slice_index bounds.now) i.0 (length set.now.tasks) columns.now places.now }
+    requires { AreServedAndLaidOut set.now bounds.now i.0 columns.now places.now }
     ensures { OnOk result (T.takes taker.old (map column_seen columns.now) (window_rows set.now i.0) bounds.now taker.new) }
 {
     let windows = windows_of(alloc, set, i, bounds)?;

@@ -6,6 +6,7 @@ ghost use Rattle.sporadic_model.specs.Homes.{EachHasHome};
 ghost use Rattle.sporadic_model.specs.Users.{is_user};
 ghost use Rattle.program_sources.specs.Bounds.{AreWithinDeadlines};
 ghost use Rattle.window_laws.specs.Windows.{window_of};
+ghost use Rattle.request_windows.specs.Windows.{IsWindow};
 
 use crate::ticks::{Request, own_and_lower, ticks_there, times_of_higher};
 use fragments::home;
@@ -13,8 +14,7 @@ use sporadic_model::{ResourceId, TaskId, TaskSet};
 
 // The least number of ticks that is enough, from below. If a number isn't, no number is that is less than what can run in that many ticks.
 fn search(at: &Request) -> Option<u64>
-    ensures value { result ≡ window_of at.now.set.now (slice_index at.now.bounds.now) at.now.i.0 at.now.q.0 }
-    ensures within { IfSome result (λ w. (1 ≤ w) × (w ≤ (task_at at.now.set.now at.now.i.0).deadline)) }
+    ensures { IsWindow at.now.set.now (slice_index at.now.bounds.now) at.now.i.0 at.now.q.0 result }
 {
     let deadline = at.set.deadline(at.i);
     let own = own_and_lower(at);

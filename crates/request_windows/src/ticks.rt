@@ -1,15 +1,13 @@
 //! How many ticks of requests may run on a processor.
 
-ghost use Rattle.std.specs.Prelude.{◌≡◌, ◌<◌, ◌≤◌, ◌*◌, ◌+◌, length, slice_index};
+ghost use Rattle.std.specs.Prelude.{◌≡◌, ◌<◌, ◌≤◌, ◌*◌, length, slice_index};
 ghost use Rattle.std.proofs.Props.{props};
-ghost use Rattle.number_laws.specs.Sums.{only_if, sum_below};
 ghost use Rattle.sporadic_model.specs.Users.{count_of, length_of};
-ghost use Rattle.sporadic_model.specs.Homes.{home_in};
-ghost use Rattle.schedule_model.specs.Measures.{greatest_below};
 ghost use Rattle.program_sources.specs.Bounds.{AreWithinDeadlines};
 ghost use Rattle.blocking_columns.specs.Windows.{jobs_during};
-ghost use Rattle.window_laws.specs.Windows.{time_at, may_hold_up, longest_lower, ticks_by, ticks_there};
-ghost use Rattle.request_windows.specs.Times.{AreTimes, own_and_lower};
+ghost use Rattle.window_laws.specs.Windows.{time_at, may_hold_up, longest_lower, ticks_there};
+ghost use Rattle.request_windows.specs.Times.{AreTimes, own_and_lower, longest_by, ticks_by_higher};
+ghost use Rattle.request_windows.specs.Given.{AreTaskAndResource, AreSpanAndTime, IsCountedBefore};
 ghost use Rattle.request_windows.specs.Amounts.{IsAmount};
 
 use fragments::{ceiling_place, home, uses};
@@ -17,8 +15,7 @@ use sporadic_model::{ResourceId, TaskId, TaskSet, jobs_in};
 
 // How many ticks may all requests of the resource by one job of the task run?
 fn time_of(set: &TaskSet, x: TaskId, q: ResourceId) -> u64
-    requires task { x.0 < length set.now.tasks }
-    requires resource { q.0 < length set.now.resources }
+    requires { AreTaskAndResource set.now x.0 q.0 }
     ensures { IsAmount result (count_of set.now x.0 q.0 * length_of set.now x.0 q.0) 1000000000000 }
 {
     set.count(x, q) * set.length(x, q)
@@ -57,8 +54,7 @@ pub(crate) fn times_of_higher(set: &TaskSet, i: TaskId, k: u32) -> [u64; 64]
 
 // May a request of `q` by `x`, which is lower than `i`, hold up a request of `i` on processor `k`?
 fn holds_up(set: &TaskSet, i: TaskId, k: u32, x: TaskId, q: ResourceId) -> bool
-    requires other { x.0 < length set.now.tasks }
-    requires resource { q.0 < length set.now.resources }
+    requires { AreTaskAndResource set.now x.0 q.0 }
     ensures { result ≡ may_hold_up set.now i.0 k x.0 q.0 }
 {
     i < x && home(set, q) == k && uses(set, x, q) && ceiling_place(set, q) <= i.0
@@ -67,8 +63,7 @@ fn holds_up(set: &TaskSet, i: TaskId, k: u32, x: TaskId, q: ResourceId) -> bool
 // How many ticks may the longest of these requests by `x` last?
 fn longest_by(set: &TaskSet, i: TaskId, k: u32, x: TaskId) -> u64
     requires { x.0 < length set.now.tasks }
-    ensures { IsAmount result (greatest_below (length set.now.resources)
-        (λ q. only_if (may_hold_up set.now i.0 k x.0 q) (length_of set.now x.0 q))) 1000000000 }
+    ensures { IsAmount result (longest_by set.now i.0 k x.0) 1000000000 }
 {
     let used = set.used_by(x);
     let mut longest = 0;
@@ -112,9 +107,7 @@ pub(crate) fn own_and_lower(at: &Request) -> u64
 
 // How many ticks may requests of jobs of `x` run in a span of ticks, if those of one job run for `time`?
 fn ticks_by(at: &Request, span: u64, x: TaskId, time: u64) -> u128
-    requires task { x.0 < length at.now.set.now.tasks }
-    requires span { span ≤ 1000000000 }
-    requires time { time ≤ 32000000000000 }
+    requires { AreSpanAndTime at.now.set.now x.0 span time }
     ensures { IsAmount result (jobs_during at.now.set.now (slice_index at.now.bounds.now) span x.0 * time) 64000000000000000000000 }
 {
     // most tasks run nothing there
@@ -132,8 +125,7 @@ fn ticks_by(at: &Request, span: u64, x: TaskId, time: u64) -> u128
 fn ticks_by_higher(at: &Request, k: u32, times: &[u64], span: u64) -> u128
     requires times { AreTimes at.now.set.now at.now.i.0 k times.now }
     requires span { span ≤ 1000000000 }
-    ensures { IsAmount result (sum_below at.now.i.0 (ticks_by at.now.set.now (slice_index at.now.bounds.now) k span))
-        (at.now.i.0 * 64000000000000000000000) }
+    ensures { IsAmount result (ticks_by_higher at.now.set.now (slice_index at.now.bounds.now) at.now.i.0 k span) (at.now.i.0 * 64000000000000000000000) }
 {
     let mut total = 0u128;
     for x in 0..at.i.0 {
@@ -144,8 +136,7 @@ fn ticks_by_higher(at: &Request, k: u32, times: &[u64], span: u64) -> u128
 
 /// Let the request be open. How many ticks may requests run at its resource's home in this span from its issue on?
 pub(crate) fn ticks_there(at: &Request, own: u64, times: &[u64], span: u64) -> u128
-    requires own { own ≡ own_and_lower at.now.set.now at.now.i.0 at.now.q.0 }
-    requires times { AreTimes at.now.set.now at.now.i.0 (home_in at.now.set.now at.now.q.0) times.now }
+    requires counted { IsCountedBefore at.now.set.now at.now.i.0 at.now.q.0 own times.now }
     requires span { span ≤ 1000000000 }
     ensures { result ≡ ticks_there at.now.set.now (slice_index at.now.bounds.now) at.now.i.0 at.now.q.0 span }
 {

@@ -90,8 +90,8 @@ loop-k-preserved c =
       most = omega (arith, c.loop-k.invariant.most, small c);
     }
 
-pub returns-clause-value : goal.returns-clause-value
-returns-clause-value c =
+pub returns : goal.returns
+returns c =
     let set = c.args.set.now in
     let i = c.args.i.0 in
     let x = c.args.x.0 in
@@ -100,20 +100,19 @@ returns-clause-value c =
     let whole : c.loop-k.total + sum_by (λ (r : ResourceId). only_if (counts set i x q r.0) (held_beside set (slice_index c.args.bounds.now) i x r.0)) []
     ≡ sum_by (λ (r : ResourceId). only_if (counts set i x q r.0) (held_beside set (slice_index c.args.bounds.now) i x r.0)) used =
     rw (drop_all c.loop-k.k used (omega (arith, c.loop-k-test.false))) at c.loop-k.invariant.value in
-    omega (
-      arith,
-      whole,
-      used_sum set i (counts set i x q) (held_beside set (slice_index c.args.bounds.now) i x) used c.used_by-used.ensures.value,
-    )
-
-pub returns-clause-most : goal.returns-clause-most
-returns-clause-most c =
     let few = used_few c.args.set.now c.args.i.0 c.used_by-used.result.now c.used_by-used.ensures.value in
-    omega (
-      arith,
-      few,
-      c.loop-k.auto.k-end,
-      c.resources-resources.ensures.value,
-      c.resources-resources.ensures.most,
-      c.loop-k.invariant.most,
-    )
+    record {
+      value = omega (
+        arith,
+        whole,
+        used_sum set i (counts set i x q) (held_beside set (slice_index c.args.bounds.now) i x) used c.used_by-used.ensures.value,
+      );
+      most = omega (
+        arith,
+        few,
+        c.loop-k.auto.k-end,
+        c.resources-resources.ensures.value,
+        c.resources-resources.ensures.most,
+        c.loop-k.invariant.most,
+      );
+    }

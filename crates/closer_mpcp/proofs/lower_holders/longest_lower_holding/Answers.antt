@@ -11,8 +11,8 @@ use Rattle.closer_mpcp.proofs.lower_holders.longest_lower_holding.Goals as goal
 not_in_use : (lower apart : Bool) (n : ℕ) → only_if (lower && (false && apart)) n ≡ 0
 not_in_use lower apart n = grind (arith)
 
-pub returns-clause-value : goal.returns-clause-value
-returns-clause-value c =
+pub returns : goal.returns
+returns c =
     let set = c.args.set.now in
     let i = c.args.i.0 in
     let q = c.args.q.0 in
@@ -23,4 +23,7 @@ returns-clause-value c =
     let all : greatest_of (map f users) ≡ longest_lower_holding set i q = greatest_where_kept (λ (y : TaskId). y.0) users (is_user set q)
     (λ y. only_if (may_hold_before set i q y) (holding_ticks set i q y)) (length set.tasks) c.users-users.ensures.value
     (λ y unused. rw unused (not_in_use (nat_lt i y) (not (have_one_processor set y i)) (holding_ticks set i q y))) in
-    omega (arith, whole, all)
+    record {
+      value = omega (arith, whole, all);
+      most = c.loop-y.invariant.most;
+    }

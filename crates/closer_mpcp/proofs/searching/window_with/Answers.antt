@@ -1,4 +1,4 @@
-use Rattle.std.proofs.Common.{◌≤◌, suc, sym, arith}
+use Rattle.std.proofs.Common.{rules, ◌≤◌, suc, sym, arith}
 use Rattle.std.specs.Prelude.{slice_index}
 use Rattle.sporadic_model.specs.SetDef.{task_at}
 use Rattle.window_laws.proofs.Enough.{none_below_next, least_is, none_is}
@@ -6,13 +6,16 @@ use Rattle.mpcp_window_laws.specs.MpcpWindows.{ticks_held}
 use Rattle.mpcp_window_laws.proofs.Rising.{ticks_held_rise}
 use Rattle.closer_mpcp.proofs.searching.window_with.Goals as goal
 
-pub returns-then-held-from-clause-value : goal.returns-then-held-from-clause-value
-returns-then-held-from-clause-value c =
+pub returns-then-held-from : goal.returns-then-held-from
+returns-then-held-from c =
     let held : ticks_held c.args.set.now (slice_index c.args.bounds.now) c.args.i.0 c.args.q.0 c.loop-span.span ≤ c.loop-span.span =
     omega (arith, c.ticks_held-held.ensures, c.from.ensures, c.if-held-from.true) in
-    sym (least_is (ticks_held c.args.set.now (slice_index c.args.bounds.now) c.args.i.0 c.args.q.0)
-    (suc (task_at c.args.set.now c.args.i.0).deadline) c.loop-span.span c.loop-span.invariant.none c.loop-span.invariant.from
-    (omega (arith, c.loop-span-test.true, c.deadline-deadline.ensures.value)) held)
+    record {
+      value = sym (least_is (ticks_held c.args.set.now (slice_index c.args.bounds.now) c.args.i.0 c.args.q.0)
+          (suc (task_at c.args.set.now c.args.i.0).deadline) c.loop-span.span c.loop-span.invariant.none c.loop-span.invariant.from
+          (omega (arith, c.loop-span-test.true, c.deadline-deadline.ensures.value)) held);
+      within = search rules;
+    }
 
 pub loop-span-preserved : goal.loop-span-preserved
 loop-span-preserved c = record {
@@ -35,8 +38,11 @@ loop-span-preserved c = record {
   );
 }
 
-pub returns-clause-value : goal.returns-clause-value
-returns-clause-value c =
-    sym (none_is (ticks_held c.args.set.now (slice_index c.args.bounds.now) c.args.i.0 c.args.q.0)
-    (suc (task_at c.args.set.now c.args.i.0).deadline) c.loop-span.span c.loop-span.invariant.none
-    (omega (arith, c.loop-span-test.false, c.deadline-deadline.ensures.value)))
+pub returns : goal.returns
+returns c =
+    record {
+      value = sym (none_is (ticks_held c.args.set.now (slice_index c.args.bounds.now) c.args.i.0 c.args.q.0)
+          (suc (task_at c.args.set.now c.args.i.0).deadline) c.loop-span.span c.loop-span.invariant.none
+          (omega (arith, c.loop-span-test.false, c.deadline-deadline.ensures.value)));
+      within = search rules;
+    }

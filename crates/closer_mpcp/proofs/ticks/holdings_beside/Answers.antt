@@ -6,14 +6,17 @@ use Rattle.mpcp_window_laws.specs.MpcpWindows.{holdings_beside}
 use Rattle.closer_mpcp.proofs.OnProcessors.{beside_and_own, none_for_itself}
 use Rattle.closer_mpcp.proofs.ticks.holdings_beside.Goals as goal
 
-pub returns-then-eq-clause-value : goal.returns-then-eq-clause-value
-returns-then-eq-clause-value c =
+pub returns-then-eq : goal.returns-then-eq
+returns-then-eq c =
     let set = c.args.set.now in
     let i = c.args.i.0 in
     let bounds = slice_index c.args.bounds.now in
     let same : i ≡ c.args.x.0 = sym (eqb-true c.args.x.0 i (sym c.eq.ensures ∙ c.if-eq.true)) in
-    subst (λ (x : ℕ). 0 ≡ holdings_beside set bounds i c.args.q.0 c.args.span x) same
-    (sym (none_for_itself set i (λ y. requests_during set bounds c.args.span y c.args.q.0)))
+    record {
+      value = subst (λ (x : ℕ). 0 ≡ holdings_beside set bounds i c.args.q.0 c.args.span x) same
+          (sym (none_for_itself set i (λ y. requests_during set bounds c.args.span y c.args.q.0)));
+      most = omega arith;
+    }
 
 pub bounds-holdings-processor : goal.bounds-holdings-processor
 bounds-holdings-processor c =
@@ -35,5 +38,11 @@ parts c =
 pub overflow_sub-result : goal.overflow_sub-result
 overflow_sub-result c = omega (arith, parts c)
 
-pub returns-clause-value : goal.returns-clause-value
-returns-clause-value c = omega (arith, parts c)
+pub returns : goal.returns
+returns c =
+    let most : c.processor.result < 65 = omega (arith, c.processor.ensures.most, c.tasks-tasks.ensures.sizes.processors_to) in
+    let all = c.requires.holdings.small c.processor.result most in
+    record {
+      value = omega (arith, parts c);
+      most = omega (arith, all);
+    }

@@ -17,23 +17,22 @@ overflow_add-total c =
       c.own_ticks_of-total.ensures.most,
     )
 
-pub returns-clause-value : goal.returns-clause-value
-returns-clause-value c =
+pub returns : goal.returns
+returns c =
     let set = c.args.set.now in
     let q = c.args.q.0 in
     let bounds = slice_index c.args.bounds.now in
-    all_higher_users set c.args.i.0 q (own_ticks set bounds q c.args.span) c.users-users.result.now c.loop-x.x-index c.loop-x.total
-    c.users-users.ensures.value c.requires.task (λ y unused. none_own set bounds q c.args.span y unused) (omega (arith, c.loop-x-test.false))
-    c.loop-x.invariant.value
-
-pub returns-clause-most : goal.returns-clause-most
-returns-clause-most c =
     let few = users_few c.args.set.now c.args.q.0 c.users-users.result.now c.users-users.ensures.value in
-    omega (
-      arith,
-      few,
-      c.loop-x.auto.x-index-end,
-      c.tasks-tasks.ensures.value,
-      c.tasks-tasks.ensures.most,
-      c.loop-x.invariant.most,
-    )
+    record {
+      value = all_higher_users set c.args.i.0 q (own_ticks set bounds q c.args.span) c.users-users.result.now c.loop-x.x-index c.loop-x.total
+          c.users-users.ensures.value c.requires.task (λ y unused. none_own set bounds q c.args.span y unused) (omega (arith, c.loop-x-test.false))
+          c.loop-x.invariant.value;
+      most = omega (
+        arith,
+        few,
+        c.loop-x.auto.x-index-end,
+        c.tasks-tasks.ensures.value,
+        c.tasks-tasks.ensures.most,
+        c.loop-x.invariant.most,
+      );
+    }
