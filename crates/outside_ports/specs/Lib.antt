@@ -4,6 +4,7 @@ pub mod Past
 pub mod Ports
 pub mod Noted
 pub mod Readings
+pub mod Calls
 pub mod Loads
 pub mod Prefix
 pub mod Answers

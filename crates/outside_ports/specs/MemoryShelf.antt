@@ -4,6 +4,7 @@ use Rattle.std.specs.List.{list_any}
 use Rattle.outside_ports.specs.Counts.{counted}
 use Rattle.outside_ports.specs.Names.{Inputs, bytes_of}
 use Rattle.outside_ports.specs.Past.{Asked}
+use Rattle.outside_ports.specs.Ports.{ShelfDef}
 use Rattle.outside_ports.specs.declared.shelf.ShelfFault.{ShelfFault}
 use Rattle.outside_ports.specs.declared.shelf.ShelfFault.TheVariants.{Absent, Failed}
 
@@ -27,6 +28,18 @@ fails_next shelf = list_any (λ number. number == counted shelf.calls) shelf.fai
 -- Will no call fail?
 abbrev pub never_fails : MemoryShelf → Bool
 never_fails shelf = length shelf.failing == 0
+
+-- What contracts see of it as of a shelf. It tells all.
+abbrev pub as_shelf : MemoryShelf → ShelfDef
+as_shelf shelf = record {
+  names = Some shelf.inputs;
+  rest = Some shelf.rest;
+  given = shelf.given;
+  faults = shelf.faults;
+  calls = shelf.calls;
+  steady = never_fails shelf;
+  readings = shelf.readings;
+}
 
 -- Is there an input?
 abbrev pub found : Option (List ℕ) → Result (Unit {0}) ShelfFault

@@ -1,7 +1,8 @@
 -- A sink in memory: a room for bytes, and a list of the writes that fail.
-use Rattle.std.specs.Prelude.{◌≡◌, ℕ, ◌==◌, ◌||◌, ◌-◌, Bool, List, length, if◌then◌else◌}
+use Rattle.std.specs.Prelude.{◌≡◌, ℕ, ◌==◌, ◌||◌, ◌-◌, Bool, List, length, Some, if◌then◌else◌}
 use Rattle.std.specs.List.{list_any}
 use Rattle.outside_ports.specs.Counts.{counted}
+use Rattle.outside_ports.specs.Ports.{SinkDef}
 
 -- `bytes` are written already, `room` is the most of them, `piece` is the most bytes of one write, `calls` counts
 -- the writes, and `failing` lists the numbers of writes that fail
@@ -20,6 +21,10 @@ faults_next sink = list_any (λ number. number == counted sink.calls) sink.faili
 -- How many more bytes will it take with no fault? None if some write may fail.
 abbrev pub room_left : MemorySink → ℕ
 room_left sink = if length sink.failing == 0 then sink.room - length sink.bytes else 0
+
+-- What contracts see of it as of a sink. It tells all.
+abbrev pub as_sink : MemorySink → SinkDef
+as_sink sink = record { written = Some sink.bytes; faults = sink.faults; calls = sink.calls; room = room_left sink }
 
 -- What does every write do to the sink's counts? It is counted, and so is its fault; what was given to `new` stays.
 pub record CountsWrite (old new : MemorySink) : Type 0 where

@@ -1,5 +1,5 @@
 -- What contracts see of a shelf and of a sink.
-use Rattle.std.specs.Prelude.{ℕ, Bool, List, Option}
+use Rattle.std.specs.Prelude.{ℕ, Bool, false, List, Option, Some, None}
 use Rattle.outside_ports.specs.Names.{Inputs}
 use Rattle.outside_ports.specs.Past.{Asked}
 
@@ -22,3 +22,19 @@ pub record SinkDef : Type 0 where
   pub faults : ℕ
   pub calls : ℕ
   pub room : ℕ
+
+-- A shelf that tells no inputs, counts no calls and promises nothing of later ones.
+abbrev pub untold : ℕ → ℕ → List Asked → ShelfDef
+untold given faults readings = record {
+  names = None;
+  rest = None;
+  given = given;
+  faults = faults;
+  calls = 0;
+  steady = false;
+  readings = readings;
+}
+
+-- A sink that tells its bytes, counts no writes and promises no room.
+abbrev pub uncounted : List ℕ → ℕ → SinkDef
+uncounted written faults = record { written = Some written; faults = faults; calls = 0; room = 0 }

@@ -1,11 +1,10 @@
-ghost use Rattle.std.specs.Prelude.{◌≡◌, ℕ, ◌+◌, ◌^◌, ◌-◌, ◌<◌, ◌≤◌, [], min, length, Result, IfErr, OnOk, OnErr, MatchResult};
-ghost use Rattle.std.specs.Prelude.{None, false};
-ghost use Rattle.std.specs.Io.{ReadsAtMost};
+ghost use Rattle.std.specs.Prelude.{◌≡◌, ◌<◌, [], length};
 ghost use Rattle.std.specs.IoError.{error_kind};
-ghost use Rattle.outside_ports.specs.Counts.{Rose};
+ghost use Rattle.outside_ports.specs.Calls.{Reads};
 ghost use Rattle.outside_ports.specs.Openings.{fault_by, IsTaken, FollowsOpening};
 ghost use Rattle.outside_ports.specs.Openings.{FollowsRead, faults_called};
-ghost use Rattle.outside_ports.specs.Readings.{AsksFor, ReadsOn};
+ghost use Rattle.outside_ports.specs.Ports.{untold};
+ghost use Rattle.outside_ports.specs.Readings.{AsksFor};
 
 use crate::history::{History, Note};
 use crate::opener::Opener;
@@ -42,15 +41,7 @@ impl<O: Opener + Drop> FileShelf<O> {
 }
 
 impl<O: Opener + Drop> Shelf for FileShelf<O> {
-    ghost seen = { λ s. record {
-      names = None;
-      rest = None;
-      given = s.given;
-      faults = s.faults;
-      calls = 0;
-      steady = false;
-      readings = s.history.past.readings;
-    } };
+    ghost seen = { λ s. untold s.given s.faults s.history.past.readings };
 
     ghost start_gives = { λ s name answer t. FollowsOpening (O.opens s.opener name) s.faults answer t.file t.faults };
 
@@ -67,14 +58,8 @@ impl<O: Opener + Drop> Shelf for FileShelf<O> {
         requires { 0 < length buffer.old }
         ensures gives { FollowsRead O.File.remaining self.old.file self.new.file result buffer.new }
         ensures counts { self.new.faults ≡ faults_called self.old.faults result }
-        ensures bound { ReadsAtMost result buffer.new }
-        ensures given { MatchResult result (λ n. self.new.given ≡ min (self.old.given + n) (2 ^ 64 - 1))
-            (λ _. self.new.given ≡ self.old.given) }
-        ensures later { self.old.faults ≤ self.new.faults }
-        ensures calm { OnOk result (self.new.faults ≡ self.old.faults) }
-        ensures failed { OnErr result (Rose self.old.faults self.new.faults) }
-        ensures only { IfErr result (λ e. e ≡ ShelfFault.Failed) }
-        ensures reads { ReadsOn self.old.history.past.readings self.new.history.past.readings result buffer.new }
+        ensures reads { Reads (untold self.old.given self.old.faults self.old.history.past.readings)
+            (untold self.new.given self.new.faults self.new.history.past.readings) result buffer.new }
     {
         let count = match &mut self.file {
             None => 0,

@@ -1,12 +1,7 @@
-ghost use Rattle.std.specs.Prelude.{◌≡◌, ℕ, ◌+◌, ◌-◌, ◌^◌, ◌<◌, ◌≤◌, ◌↔◌, [], true, min, length, Some};
-ghost use Rattle.std.specs.Prelude.{None, is_some, IsTrue, IfErr, IsOk, IfOk, IsErr, IsErrOf, OnOk, OnErr, MatchResult};
-ghost use Rattle.std.specs.Io.{ReadsAtMost};
-ghost use Rattle.std.specs.Io.KnownBytes.{ReadConsumes, IsAtEnd};
-ghost use Rattle.outside_ports.specs.Counts.{Rose};
-ghost use Rattle.outside_ports.specs.Names.{Opens, IsAbsent};
-ghost use Rattle.outside_ports.specs.MemoryShelf.{never_fails, fails_next, start_answer, CountsCall, MovesFront};
+ghost use Rattle.std.specs.Prelude.{◌≡◌, ℕ, ◌+◌, ◌^◌, ◌<◌, ◌↔◌, [], min, length, IsTrue, IfOk, IsErr};
+ghost use Rattle.outside_ports.specs.Calls.{Starts, Reads};
+ghost use Rattle.outside_ports.specs.MemoryShelf.{as_shelf, fails_next, start_answer, CountsCall, MovesFront};
 ghost use Rattle.outside_ports.specs.MemoryShelfView.{inputs_of, rest_at, IsPlaceOf};
-ghost use Rattle.outside_ports.specs.Readings.{AsksFor, ReadsOn};
 
 use crate::history::{History, Note};
 use crate::shelf::{Shelf, ShelfFault};
@@ -72,15 +67,7 @@ impl MemShelf {
 }
 
 impl Shelf for MemShelf {
-    ghost seen = { λ s. record {
-      names = Some s.inputs;
-      rest = Some s.rest;
-      given = s.given;
-      faults = s.faults;
-      calls = s.calls;
-      steady = never_fails s;
-      readings = s.readings;
-    } };
+    ghost seen = { as_shelf };
 
     ghost start_gives = { λ s name answer t. answer ≡ start_answer s name };
 
@@ -91,21 +78,7 @@ impl Shelf for MemShelf {
     fn start(&mut self, name: &str) -> Result<(), ShelfFault>
         ensures counts { CountsCall self.old self.new }
         ensures answer { result ≡ start_answer self.old name.now }
-        ensures same { Some self.new.inputs ≡ Some self.old.inputs }
-        ensures tells { is_some (Some self.new.rest) ≡ is_some (Some self.old.rest) }
-        ensures opens { OnOk result (Opens (Some self.old.inputs) name.now (Some self.new.rest)) }
-        ensures closes { OnErr result (IsAtEnd (Some self.new.rest)) }
-        ensures given { self.new.given ≡ 0 }
-        ensures later { self.old.faults ≤ self.new.faults }
-        ensures calm { OnOk result (self.new.faults ≡ self.old.faults) }
-        ensures want { IsErrOf result ShelfFault.Memory → self.new.faults ≡ self.old.faults }
-        ensures absent { IsErrOf result ShelfFault.Absent → IsAbsent (Some self.old.inputs) name.now self.old.faults self.new.faults }
-        ensures failed { IsErrOf result ShelfFault.Failed → Rose self.old.faults self.new.faults }
-        ensures gives { Unit {0} }
-        ensures asks { AsksFor self.old.readings self.new.readings name.now result }
-        ensures one_call { self.new.calls ≤ self.old.calls + 1 }
-        ensures steady { never_fails self.old ≡ true
-            → (never_fails self.new ≡ true) × (self.new.faults ≡ self.old.faults) × (IsErrOf result ShelfFault.Failed → ⊥) }
+        ensures starts { Starts (as_shelf self.old) (as_shelf self.new) name.now result }
     {
         self.calls = self.calls.saturating_add(1);
         self.given = 0;
@@ -134,19 +107,7 @@ impl Shelf for MemShelf {
         ensures counts { CountsCall self.old self.new }
         ensures listed { (IsErr result) ↔ (IsTrue (fails_next self.old)) }
         ensures exact { IfOk result (λ n. n ≡ min (min self.old.piece (length buffer.old)) (length self.old.rest)) }
-        ensures same { Some self.new.inputs ≡ Some self.old.inputs }
-        ensures tells { is_some (Some self.new.rest) ≡ is_some (Some self.old.rest) }
-        ensures bound { ReadsAtMost result buffer.new }
-        ensures bytes { ReadConsumes (Some self.old.rest) (Some self.new.rest) result buffer.new }
-        ensures given { MatchResult result (λ n. self.new.given ≡ min (self.old.given + n) (2 ^ 64 - 1))
-            (λ _. self.new.given ≡ self.old.given) }
-        ensures later { self.old.faults ≤ self.new.faults }
-        ensures calm { OnOk result (self.new.faults ≡ self.old.faults) }
-        ensures failed { OnErr result (Rose self.old.faults self.new.faults) }
-        ensures only { IfErr result (λ e. e ≡ ShelfFault.Failed) }
-        ensures reads { ReadsOn self.old.readings self.new.readings result buffer.new }
-        ensures one_call { self.new.calls ≤ self.old.calls + 1 }
-        ensures steady { never_fails self.old ≡ true → (never_fails self.new ≡ true) × (self.new.faults ≡ self.old.faults) × IsOk result }
+        ensures reads { Reads (as_shelf self.old) (as_shelf self.new) result buffer.new }
     {
         self.calls = self.calls.saturating_add(1);
         if self.failing.contains(&self.calls) {

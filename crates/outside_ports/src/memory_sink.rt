@@ -1,9 +1,7 @@
-ghost use Rattle.std.specs.Prelude.{◌≡◌, ℕ, ◌+◌, ◌-◌, ◌<◌, ◌≤◌, ◌↔◌, [], min, length, Some, is_some, IsTrue, IfOk};
-ghost use Rattle.std.specs.Prelude.{IsErr, OnErr, MatchResult, ◌==◌, ◌||◌};
+ghost use Rattle.std.specs.Prelude.{◌≡◌, ℕ, ◌-◌, ◌<◌, ◌↔◌, [], min, length, IsTrue, IfOk, IsErr, ◌==◌, ◌||◌};
 ghost use Rattle.std.specs.List.{list_any};
-ghost use Rattle.std.specs.Io.KnownBytes.{WriteAppends};
-ghost use Rattle.outside_ports.specs.Counts.{Rose};
-ghost use Rattle.outside_ports.specs.MemorySink.{room_left, faults_next, CountsWrite};
+ghost use Rattle.outside_ports.specs.Calls.{Writes};
+ghost use Rattle.outside_ports.specs.MemorySink.{as_sink, faults_next, CountsWrite};
 
 use crate::sink::{Sink, SinkFault};
 use std::alloc::{AllocError, Global};
@@ -65,12 +63,7 @@ impl MemSink {
 }
 
 impl Sink for MemSink {
-    ghost seen = { λ s. record {
-      written = Some s.bytes;
-      faults = s.faults;
-      calls = s.calls;
-      room = room_left s;
-    } };
+    ghost seen = { as_sink };
 
     /// A fault comes exactly if the number of this write is in `failing`, or the room is full. Any other write takes as many bytes as the
     /// least of `piece`, the length of the given bytes and the room that is left.
@@ -79,15 +72,7 @@ impl Sink for MemSink {
         ensures counts { CountsWrite self.old self.new }
         ensures fault { (IsErr result) ↔ (IsTrue (faults_next self.old)) }
         ensures exact { IfOk result (λ n. n ≡ min (min self.old.piece (length piece.now)) (self.old.room - length self.old.bytes)) }
-        ensures some { IfOk result (λ n. 0 < n) }
-        ensures bound { IfOk result (λ n. n ≤ length piece.now) }
-        ensures tells { is_some (Some self.new.bytes) ≡ is_some (Some self.old.bytes) }
-        ensures appends { WriteAppends (Some self.old.bytes) (Some self.new.bytes) result piece.now }
-        ensures later { self.old.faults ≤ self.new.faults }
-        ensures failed { OnErr result (Rose self.old.faults self.new.faults) }
-        ensures one_call { self.new.calls ≤ self.old.calls + 1 }
-        ensures takes { length piece.now ≤ room_left self.old → MatchResult result
-            (λ n. (room_left self.old ≤ room_left self.new + n) × (self.new.faults ≡ self.old.faults)) (λ _. ⊥) }
+        ensures writes { Writes (as_sink self.old) (as_sink self.new) result piece.now }
     {
         self.calls = self.calls.saturating_add(1);
         let left = self.room - self.bytes.len();

@@ -1,7 +1,8 @@
-ghost use Rattle.std.specs.Prelude.{◌≡◌, ◌<◌, ◌≤◌, [], length, IfOk, OnErr, Some, is_some};
+ghost use Rattle.std.specs.Prelude.{◌≡◌, ◌<◌, [], length, Some};
 ghost use Rattle.std.specs.Io.KnownBytes.{WriteAppends};
-ghost use Rattle.outside_ports.specs.Counts.{Rose};
+ghost use Rattle.outside_ports.specs.Calls.{Writes};
 ghost use Rattle.outside_ports.specs.Openings.{FollowsWrite, faults_called};
+ghost use Rattle.outside_ports.specs.Ports.{uncounted};
 
 use crate::history::{History, Note};
 use crate::sink::{Sink, SinkFault};
@@ -32,19 +33,15 @@ impl<W: Write + Drop> OutSink<W> {
 }
 
 impl<W: Write + Drop> Sink for OutSink<W> {
-    ghost seen = { λ s. record { written = Some s.history.past.written; faults = s.faults; calls = 0; room = 0 } };
+    ghost seen = { λ s. uncounted s.history.past.written s.faults };
 
     /// Each write passes exactly this piece to the writer (`passes`). A write that took no byte is a fault. Each fault is counted.
     fn write(&mut self, piece: &[u8]) -> Result<usize, SinkFault>
         requires { 0 < length piece.now }
         ensures counts { self.new.faults ≡ faults_called self.old.faults result }
         ensures passes { WriteAppends (W.contents self.old.out) (W.contents self.new.out) result piece.now }
-        ensures some { IfOk result (λ n. 0 < n) }
-        ensures bound { IfOk result (λ n. n ≤ length piece.now) }
-        ensures tells { is_some (Some self.new.history.past.written) ≡ is_some (Some self.old.history.past.written) }
-        ensures appends { WriteAppends (Some self.old.history.past.written) (Some self.new.history.past.written) result piece.now }
-        ensures later { self.old.faults ≤ self.new.faults }
-        ensures failed { OnErr result (Rose self.old.faults self.new.faults) }
+        ensures writes { Writes (uncounted self.old.history.past.written self.old.faults)
+            (uncounted self.new.history.past.written self.new.faults) result piece.now }
     {
         let answer = self.out.write(piece);
         let result = bytes_taken(answer);

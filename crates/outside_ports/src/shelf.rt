@@ -1,11 +1,6 @@
-ghost use Rattle.std.specs.Prelude.{◌≡◌, ℕ, ◌+◌, ◌-◌, ◌^◌, ◌<◌, ◌≤◌, min, true, List, length, is_some, IsSome};
-ghost use Rattle.std.specs.Prelude.{Result, IsOk, IfErr, IsErrOf, OnOk, OnErr, MatchResult};
-ghost use Rattle.std.specs.Io.{ReadsAtMost};
-ghost use Rattle.std.specs.Io.KnownBytes.{ReadConsumes, IsAtEnd};
-ghost use Rattle.outside_ports.specs.Counts.{Rose};
-ghost use Rattle.outside_ports.specs.Names.{Opens, IsAbsent};
+ghost use Rattle.std.specs.Prelude.{ℕ, ◌<◌, List, length, IsSome, Result};
+ghost use Rattle.outside_ports.specs.Calls.{Starts, Reads};
 ghost use Rattle.outside_ports.specs.Ports.{ShelfDef};
-ghost use Rattle.outside_ports.specs.Readings.{AsksFor, ReadsOn};
 ghost use Rattle.outside_ports.specs.declared.shelf.ShelfFault.{ShelfFault};
 
 use thiserror::Error;
@@ -48,43 +43,21 @@ pub trait Shelf {
     ///
     /// `Absent` comes only if the told names lack this one. If names are not told, it comes only if the count of faults rose. `Failed`
     /// comes only if the count rose. `Memory` comes only for want of memory. It leaves the count as it was, and so does a start that
-    /// succeeds. The readings get this name, and why it wasn't started (`asks`).
+    /// succeeds. The readings get this name, and why it wasn't started (`asks`). The record `Starts` (`specs/Calls.antt`) has a field
+    /// for each of these.
     fn start(&mut self, name: &str) -> Result<(), ShelfFault>
-        ensures same { (seen self.new).names ≡ (seen self.old).names }
-        ensures tells { is_some (seen self.new).rest ≡ is_some (seen self.old).rest }
-        ensures opens { OnOk result (Opens (seen self.old).names name.now (seen self.new).rest) }
-        ensures closes { OnErr result (IsAtEnd (seen self.new).rest) }
-        ensures given { (seen self.new).given ≡ 0 }
-        ensures later { (seen self.old).faults ≤ (seen self.new).faults }
-        ensures calm { OnOk result ((seen self.new).faults ≡ (seen self.old).faults) }
-        ensures want { IsErrOf result ShelfFault.Memory → (seen self.new).faults ≡ (seen self.old).faults }
-        ensures absent { IsErrOf result ShelfFault.Absent → IsAbsent (seen self.old).names name.now (seen self.old).faults (seen self.new).faults }
-        ensures failed { IsErrOf result ShelfFault.Failed → Rose (seen self.old).faults (seen self.new).faults }
-        ensures gives { start_gives self.old name.now result self.new }
-        ensures asks { AsksFor (seen self.old).readings (seen self.new).readings name.now result }
-        ensures one_call { (seen self.new).calls ≤ (seen self.old).calls + 1 }
-        ensures steady { (seen self.old).steady ≡ true → ((seen self.new).steady ≡ true) × ((seen self.new).faults ≡ (seen self.old).faults) × (IsErrOf result ShelfFault.Failed → ⊥) };
+        ensures starts { Starts (seen self.old) (seen self.new) name.now result }
+        ensures gives { start_gives self.old name.now result self.new };
 
     /// Moves bytes from the front of the rest to the front of the buffer, and says how many. It says 0 if the rest is empty or no input is
     /// started.
     ///
     /// The only error is `Failed`. It comes only if the count of faults rose, and no byte was moved. A read that succeeds leaves the count
-    /// as it was. The readings get the bytes at the front of the buffer (`reads`).
+    /// as it was. The readings get the bytes at the front of the buffer (`reads`). The record `Reads` (`specs/Calls.antt`) has a
+    /// field for each of these.
     fn read(&mut self, buffer: &mut [u8]) -> Result<usize, ShelfFault>
         requires { 0 < length buffer.old }
-        ensures same { (seen self.new).names ≡ (seen self.old).names }
-        ensures tells { is_some (seen self.new).rest ≡ is_some (seen self.old).rest }
-        ensures bound { ReadsAtMost result buffer.new }
-        ensures bytes { ReadConsumes (seen self.old).rest (seen self.new).rest result buffer.new }
-        ensures given { MatchResult result (λ n. (seen self.new).given ≡ min ((seen self.old).given + n) (2 ^ 64 - 1))
-            (λ _. (seen self.new).given ≡ (seen self.old).given) }
-        ensures later { (seen self.old).faults ≤ (seen self.new).faults }
-        ensures calm { OnOk result ((seen self.new).faults ≡ (seen self.old).faults) }
-        ensures failed { OnErr result (Rose (seen self.old).faults (seen self.new).faults) }
-        ensures only { IfErr result (λ e. e ≡ ShelfFault.Failed) }
-        ensures reads { ReadsOn (seen self.old).readings (seen self.new).readings result buffer.new }
-        ensures one_call { (seen self.new).calls ≤ (seen self.old).calls + 1 }
-        ensures steady { (seen self.old).steady ≡ true → ((seen self.new).steady ≡ true) × ((seen self.new).faults ≡ (seen self.old).faults) × IsOk result };
+        ensures reads { Reads (seen self.old) (seen self.new) result buffer.new };
 
     // a shelf that tells its names with their bytes tells the rest too
     ghost tells_rest: { (s : Self) → IsSome (seen s).names → IsSome (seen s).rest };

@@ -1,6 +1,5 @@
-ghost use Rattle.std.specs.Prelude.{◌≡◌, ℕ, ◌+◌, ◌-◌, ◌<◌, ◌≤◌, List, length, Option, is_some, IfOk, OnErr, MatchResult};
-ghost use Rattle.std.specs.Io.KnownBytes.{WriteAppends};
-ghost use Rattle.outside_ports.specs.Counts.{Rose};
+ghost use Rattle.std.specs.Prelude.{◌<◌, length};
+ghost use Rattle.outside_ports.specs.Calls.{Writes};
 ghost use Rattle.outside_ports.specs.Ports.{SinkDef};
 
 use thiserror::Error;
@@ -21,16 +20,8 @@ pub trait Sink {
     ghost seen: { Self → SinkDef };
 
     /// Appends 1 byte or more from the front of the piece, and says how many. An error comes only if the count of faults rose, and then
-    /// nothing was appended.
+    /// nothing was appended. The record `Writes` (`specs/Calls.antt`) has a field for each of these.
     fn write(&mut self, piece: &[u8]) -> Result<usize, SinkFault>
         requires { 0 < length piece.now }
-        ensures some { IfOk result (λ n. 0 < n) }
-        ensures bound { IfOk result (λ n. n ≤ length piece.now) }
-        ensures tells { is_some (seen self.new).written ≡ is_some (seen self.old).written }
-        ensures appends { WriteAppends (seen self.old).written (seen self.new).written result piece.now }
-        ensures later { (seen self.old).faults ≤ (seen self.new).faults }
-        ensures failed { OnErr result (Rose (seen self.old).faults (seen self.new).faults) }
-        ensures one_call { (seen self.new).calls ≤ (seen self.old).calls + 1 }
-        ensures takes { length piece.now ≤ (seen self.old).room → MatchResult result
-            (λ n. ((seen self.old).room ≤ (seen self.new).room + n) × ((seen self.new).faults ≡ (seen self.old).faults)) (λ _. ⊥) };
+        ensures writes { Writes (seen self.old) (seen self.new) result piece.now };
 }
