@@ -152,7 +152,8 @@ multiplier_not_below : (p : ProgramDef) (t : Table) (d : ℤ) (z : ℕ → ℕ �
 multiplier_not_below p t d z r m k h last l positive up =
     let cell : ℤ = z (height p) (slack p r) in
     let shown : Shows d cell (objective p t (slack p r)) = h.shows (height p) (slack p r) (omega arith) in
-    let below : cell ≤ℤ pos 0 = shows_at_most_zero d cell (objective p t (slack p r)) h.positive shown (last.none (slack p r) (omega arith)) in
+    let below : cell ≤ℤ pos 0 =
+    shows_at_most_zero d cell (objective p t (slack p r)) h.positive shown (last.none (slack p r) (omega arith)) in
     natural_at_most (dual_num p z r * m) (k * scale_of d) (neg_ℤ cell *ℤ pos m) (pos k *ℤ d)
     (ap (λ a. a *ℤ pos m) (size_is (neg_ℤ cell) (turned below))) (ap (λ a. pos k *ℤ a) (size_is d (weaker h.positive)))
     (shows_at_most d (neg_ℤ cell) (pos m) (pos k) (dual_at p t r) (over (pos k) (pos m)) h.positive (above_zero m positive)

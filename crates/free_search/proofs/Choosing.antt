@@ -74,7 +74,8 @@ module _ (p : ProgramDef) (tableau : Tableau) (stands : List Stand) where
       let full = h.full k (omega (arith, is.within, objective_places h)) in
       let none : AreNoneAbove tableau.objective stands e = none_before e h (omega (arith, full.0))
       (λ j l before. not_above _ (λ above. absurd (omega (arith, is.least j l above)))) in
-      let first : IsFirstAbove (Some (e, k)) tableau.objective stands = (omega (arith, full.0, h.size.stand_each), full.1, is.above, none) in
+      let first : IsFirstAbove (Some (e, k)) tableau.objective stands =
+      (omega (arith, full.0, h.size.stand_each), full.1, is.above, none) in
       let enters = first_enters p (rows_seen tableau.rows.items tableau.objective) tableau.basis.items tableau.basis.items stands
       tableau.objective h.size.stand_each h.are (objective_at h) (Some (e, k)) first in
       (full.1, enters.0)

@@ -101,12 +101,12 @@ seen_same : (p : ProgramDef) (tableau : Tableau) (others : List (Option RowDef))
     → HasSameCells p i (seen_at (rows_seen tableau.rows.items tableau.objective) i) (seen_at others i)
 seen_same p tableau others parts first last i l = elim (cases_lt i (height p)) [
   | inl row ↦
-      rw (row_seen tableau.rows.items tableau.objective i (omega (arith, row, parts.row_each)), first.untouched i row)
-      (same_cells p i (row_at tableau.rows.items i) (parts.rows i row))
+      rw (row_seen tableau.rows.items tableau.objective i (omega (arith, row, parts.rows.as_many)), first.untouched i row)
+      (same_cells p i (row_at tableau.rows.items i) (parts.rows.each i row))
   | inr past ↦
       let here : i ≡ height p = omega (arith, past, l) in
       let seen : seen_at (rows_seen tableau.rows.items tableau.objective) (height p) ≡ Some tableau.objective
-      = ap (seen_at (rows_seen tableau.rows.items tableau.objective)) (sym parts.row_each)
+      = ap (seen_at (rows_seen tableau.rows.items tableau.objective)) (sym parts.rows.as_many)
       ∙ objective_seen tableau.rows.items tableau.objective in
       rw (here, seen, last) (record { cells = λ k. refl; limit = refl })
 ]
@@ -131,7 +131,7 @@ positive_if_whole row n h = let one : row.den ≡ pos 1 = ap (λ (f : Fraction).
 first_positive : (p : ProgramDef) (tableau : Tableau) → AreFirstParts p tableau → HavePositive tableau.rows.items tableau.objective
 first_positive p tableau parts = record {
   rows = λ i l.
-      positive_if_whole (row_at tableau.rows.items i) (pos (limit p i)) (parts.rows i (omega (arith, l, parts.row_each))).limit;
+      positive_if_whole (row_at tableau.rows.items i) (pos (limit p i)) (parts.rows.each i (omega (arith, l, parts.rows.as_many))).limit;
   objective = positive_if_whole tableau.objective (pos 0) parts.costs.limit;
 }
 
@@ -141,14 +141,14 @@ first_size p tableau stands parts s =
     let rows = tableau.rows.items in
     let objective = tableau.objective in
     record {
-      row_each = length_seen rows objective ∙ ap (λ n. n + 1) parts.row_each;
+      row_each = length_seen rows objective ∙ ap (λ n. n + 1) parts.rows.as_many;
       basic_each = parts.basis.basic_each;
       stand_each = s.stand_each;
       places = λ i l. elim (cases_lt i (height p)) [
         | inl row ↦
-            subst (HasPlaces p i) (sym (row_seen rows objective i (omega (arith, row, parts.row_each)))) (parts.rows i row).as_many
+            subst (HasPlaces p i) (sym (row_seen rows objective i (omega (arith, row, parts.rows.as_many)))) (parts.rows.each i row).as_many
         | inr past ↦
-            let here : i ≡ length tableau.rows.items = omega (arith, past, l, parts.row_each) in
+            let here : i ≡ length tableau.rows.items = omega (arith, past, l, parts.rows.as_many) in
             subst (HasPlaces p i) (sym (ap (seen_at (rows_seen rows objective)) here ∙ objective_seen rows objective))
             parts.costs.as_many
       ];

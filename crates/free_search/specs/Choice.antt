@@ -1,5 +1,6 @@
 -- Which place enters, and which row leaves, said of numbers: the denominators of a ratio cancel.
-use Rattle.std.specs.Prelude.{◌≡◌, ◌⊎◌, ℕ, ◌<◌, ◌≤◌, List, length, slice_index, Bool, true, false, Some, None, IfSome, ℤ, pos, ◌*ℤ◌, ◌≤ℤ◌, ◌<ℤ◌}
+use Rattle.std.specs.Prelude.{◌≡◌, ◌⊎◌, ℕ, ◌<◌, ◌≤◌, List, length, slice_index, Bool, true, false}
+use Rattle.std.specs.Prelude.{Some, None, IfSome, ℤ, pos, ◌*ℤ◌, ◌≤ℤ◌, ◌<ℤ◌}
 use Rattle.std.specs.declared.option.Option.{Option}
 use Rattle.whole_rows.specs.Rows.{RowDef, num_at}
 use Rattle.whole_rows.specs.Numbers.{number_at}

@@ -11,7 +11,7 @@ pub record OnlyRowChanges (before : List RowDef) (r : ℕ) (after : List RowDef)
   pub as_many : length after ≡ length before
   pub others : (i : ℕ) → i ≢ r → row_at after i ≡ row_at before i
 
--- Is row r divided by its cell at k, and is this its pivot then?
+-- Is row r divided by its cell at k, and is this the pivot of what it became?
 pub record DividesRow (before : List RowDef) (k r : ℕ) (after : List RowDef) (taken : PivotDef) : Type 0 where
   pub divided : IsDividedRow (row_at before r) k (row_at after r)
   pub pivot : IsPivotOf taken (row_at after r)

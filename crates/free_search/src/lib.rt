@@ -31,8 +31,8 @@ use step::{answer_at_end, step};
 
 /// Searches the optimum of a program. The search takes 1 unit, and 1 more for each exchange.
 ///
-/// `Units` comes only if the run needs more units. `Lost` comes only if a number of the dual at the end of the run is above 2^63 - 1, or the
-/// optimum is 2^64 or more. `Memory` comes only if memory runs out.
+/// `Units` comes only if the run needs more units. `Lost` comes only if a number of the dual at the end of the run is above 2^63 - 1, or
+/// the optimum is 2^64 or more. `Memory` comes only if memory runs out.
 pub fn search(alloc: Global, program: &SparseProgram, units: u64) -> Result<Found, SearchStop>
     ensures searches { Searches result program.now units }
     ensures columns { IfOk result (λ f. length f.num.items ≡ columns program.now) }

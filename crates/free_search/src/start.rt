@@ -4,7 +4,8 @@ ghost use Rattle.std.specs.Prelude.{◌≡◌, ℕ, ◌+◌, ◌<◌, ◌^◌, p
 ghost use Rattle.program_form.specs.Program.{height};
 ghost use Rattle.program_form.specs.SparseRows.{AreCoefficients};
 ghost use Rattle.whole_runs.specs.Starts.{IsFirstRow, IsCostRow};
-ghost use Rattle.free_search.specs.Begun.{AreZeros, AreWritten, AreCounted, AreRowsOf, IsFirstTable};
+ghost use Rattle.whole_runs.specs.Writing.{AreWritten};
+ghost use Rattle.free_search.specs.Begun.{AreZeros, AreCounted, AreRowsOf, IsFirstTable};
 
 use crate::row::FreeRow;
 use crate::tableau::Tableau;

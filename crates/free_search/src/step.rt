@@ -1,6 +1,6 @@
 //! A step of the run, and its end.
 
-ghost use Rattle.std.specs.Prelude.{◌≡◌, ℕ, suc, ◌+◌, ◌<◌, ◌≤◌, IfOk, OnOk, None};
+ghost use Rattle.std.specs.Prelude.{◌≡◌, ℕ, suc, ◌+◌, ◌≤◌, IfOk, OnOk, None};
 ghost use Rattle.free_search.specs.Choice.{EntersAt, IsLeastPlace};
 ghost use Rattle.free_search.specs.Ends.{Searches};
 ghost use Rattle.free_search.specs.Tables.{IsAfter};

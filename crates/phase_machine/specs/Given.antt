@@ -1,4 +1,4 @@
--- What the private functions here are given, and what they answer of the jobs, of the places of tasks, and of the columns of a row.
+-- What functions on jobs, on places of tasks and on columns of a row are given, and what they answer.
 use Rattle.std.specs.Prelude.{◌≡◌, ℕ, ◌+◌, ◌<◌, ◌≤◌, true, false, Bool, List, length, Option, Some, None, IfSome, slice_index_or}
 use Rattle.sporadic_model.specs.declared.limits.TheConstants.{MOST_TICKS}
 use Rattle.sporadic_model.specs.Accepted.{TaskNumbers}
@@ -36,6 +36,16 @@ pub record IsInScript (jobs : List JobDef) (j n : ℕ) : Type 0 where
   pub listed : j < length jobs
   pub within : n < length (job_of jobs j).script
 
+-- Are q and j a resource of the set and a listed job?
+pub record IsRequestOf (list : JobsDef) (q j : ℕ) : Type 0 where
+  pub resource : q < length list.set.resources
+  pub listed : j < length list.jobs
+
+-- Are they, and is the holder o a listed job, if there is one?
+pub record IsRequestBeside (list : JobsDef) (q j : ℕ) (o : Option JobId) : Type 0 where
+  pub request : IsRequestOf list q j
+  pub holder : IfSome o (λ h. h.0 < length list.jobs)
+
 -- Is this segment number n of job j, as a list of jobs may have it?
 pub record IsSegmentAt (list : JobsDef) (j n : ℕ) (answer : Segment) : Type 0 where
   pub value : segment_seen answer ≡ segment_in list.jobs j n
@@ -43,13 +53,13 @@ pub record IsSegmentAt (list : JobsDef) (j n : ℕ) (answer : Segment) : Type 0 
   pub resource : is_resource_in (length list.set.resources) (segment_seen answer) ≡ true
 
 -- Is n how many segments job j has: at least one, and at most a million?
-pub record AreSegmentsOf (jobs : List JobDef) (j n : ℕ) : Type 0 where
+pub record IsSegmentCountOf (jobs : List JobDef) (j n : ℕ) : Type 0 where
   pub value : n ≡ length (job_of jobs j).script
   pub some : 1 ≤ n
   pub most : n ≤ 1000000
 
 -- Is n how many ticks the segment takes, at least one?
-pub record AreTicksOf (s : SegmentDef) (n : ℕ) : Type 0 where
+pub record IsTicksOf (s : SegmentDef) (n : ℕ) : Type 0 where
   pub value : n ≡ segment_ticks s
   pub some : 1 ≤ n
 
@@ -86,7 +96,7 @@ pub record AreComing (list : JobsDef) (tick : ℕ) (coming : List ℕ) : Type 0 
 -- The same for the first job that is released at the tick or after it.
 pub record AreDue (list : JobsDef) (tick : ℕ) (coming : List ℕ) : Type 0 where
   pub len : length coming ≡ length list.set.tasks
-  pub due : (x : ℕ) → x < length list.set.tasks → IsDue list.jobs tick x (slice_index_or coming x 0)
+  pub each : (x : ℕ) → x < length list.set.tasks → IsDue list.jobs tick x (slice_index_or coming x 0)
 
 -- Can the job at place p of task x execute this many ticks?
 pub record CanStep (jobs : List JobDef) (more x : ℕ) (p : ScriptPlace) : Type 0 where
@@ -126,7 +136,7 @@ pub record IsInSegment (jobs : List JobDef) (p : ScriptPlace) : Type 0 where
   pub ticks : p.ticks < segment_ticks (segment_in jobs p.job p.segment)
 
 -- Is n how many ticks are left of the phase of the place's job, at least one?
-pub record AreLeftAt (jobs : List JobDef) (p : ScriptPlace) (n : ℕ) : Type 0 where
+pub record IsLeftAt (jobs : List JobDef) (p : ScriptPlace) (n : ℕ) : Type 0 where
   pub value : n ≡ left_at jobs p
   pub some : 1 ≤ n
 
@@ -146,10 +156,9 @@ pub record Tells (answer : Bool) (fact : Type 0) : Type 0 where
   pub holds : answer ≡ true → fact
   pub fails : answer ≡ false → fact → ⊥
 
--- Does the answer say whether one of the first c columns runs the job?
-pub record TellsIfBefore (running : List (Option JobId)) (c : ℕ) (j : JobId) (answer : Bool) : Type 0 where
-  pub none : answer ≡ false → (b : ℕ) → b < c → slice_index_or running b None ≡ Some j → ⊥
-  pub some : answer ≡ true → (b : ℕ) × (b < c) × (slice_index_or running b None ≡ Some j)
+-- Does one of the first c columns run the job?
+abbrev pub RunsBefore : List (Option JobId) → ℕ → JobId → Type 0
+RunsBefore running c j = (b : ℕ) × (b < c) × (slice_index_or running b None ≡ Some j)
 
 -- Do the columns run listed jobs only?
 abbrev pub RunListed : JobsDef → List (Option JobId) → Type 0

@@ -1,10 +1,10 @@
-ghost use Rattle.std.specs.Prelude.{◌≡◌, ℕ, ◌<◌, ◌≤◌, length, IfSome, slice_index_or};
+ghost use Rattle.std.specs.Prelude.{◌≤◌, length};
 ghost use Rattle.phase_machine.specs.Now.{phase_at_place, current_in};
 ghost use Rattle.phase_machine.specs.Given.{IsJobAt, IsPhase, NamesJob};
 
 use crate::phase::Phase;
 use crate::place::ScriptPlace;
-use crate::script::{segment_at, task_of};
+use crate::script::segment_at;
 use schedule_model::{JobId, JobList};
 
 /// The phase of the job, whose task is at this place.

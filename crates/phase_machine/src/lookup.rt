@@ -1,4 +1,4 @@
-ghost use Rattle.std.specs.Prelude.{◌≡◌, ◌-◌, ◌<◌, ◌≤◌, length, map, None, slice_index_or, IfSome};
+ghost use Rattle.std.specs.Prelude.{◌≡◌, ◌<◌, ◌≤◌, length, map, None, slice_index_or, IfSome};
 ghost use Rattle.schedule_model.specs.RowDef.{running_on, holder_in};
 ghost use Rattle.schedule_model.specs.Seen.{place_seen, row_seen};
 ghost use Rattle.phase_machine.specs.MachineDef.{IsMachine, task_in};

@@ -1,4 +1,4 @@
-ghost use Rattle.std.specs.Prelude.{◌≡◌, ℕ, ◌+◌, ◌<◌, ◌≤◌, length, option_map, IfOk, IfSome};
+ghost use Rattle.std.specs.Prelude.{◌≡◌, ℕ, ◌+◌, ◌<◌, ◌≤◌, length, IfOk, IfSome};
 ghost use Rattle.sporadic_model.specs.declared.limits.TheConstants.{MOST_TICKS};
 ghost use Rattle.schedule_model.specs.RowDef.{RowDef};
 ghost use Rattle.schedule_model.specs.Seen.{row_seen, place_seen};

@@ -1,8 +1,8 @@
-ghost use Rattle.std.specs.Prelude.{◌≡◌, ℕ, ◌+◌, ◌<◌, ◌≤◌, true, length};
+ghost use Rattle.std.specs.Prelude.{◌≡◌, ◌<◌, ◌≤◌, true, length};
 ghost use Rattle.schedule_model.specs.JobLists.{is_listed_segment};
 ghost use Rattle.schedule_model.specs.Seen.{segment_seen};
 ghost use Rattle.phase_machine.specs.MachineDef.{IsNext};
-ghost use Rattle.phase_machine.specs.Given.{KeepsItsRules, IsInScript, IsSegmentAt, AreSegmentsOf, AreTicksOf, IsTaskOf};
+ghost use Rattle.phase_machine.specs.Given.{KeepsItsRules, IsInScript, IsSegmentAt, IsSegmentCountOf, IsTicksOf, IsTaskOf};
 
 use schedule_model::{JobId, JobList, Segment};
 use sporadic_model::TaskId;
@@ -27,7 +27,7 @@ pub(crate) fn segment_at(jobs: &JobList, j: u32, n: u32) -> Segment
 /// How many segments a listed job has.
 pub(crate) fn segments_of(jobs: &JobList, j: u32) -> u32
     requires { j < length jobs.now.jobs }
-    ensures { AreSegmentsOf jobs.now.jobs j result }
+    ensures { IsSegmentCountOf jobs.now.jobs j result }
 {
     jobs.job(JobId(j)).script.len() as u32
 }
@@ -35,7 +35,7 @@ pub(crate) fn segments_of(jobs: &JobList, j: u32) -> u32
 /// How many ticks the segment takes, with its request.
 pub(crate) fn ticks_of(segment: &Segment) -> u64
     requires { is_listed_segment (segment_seen segment.now) ≡ true }
-    ensures { AreTicksOf (segment_seen segment.now) result }
+    ensures { IsTicksOf (segment_seen segment.now) result }
 {
     match segment.request {
         Some((_, length)) => segment.local + length,

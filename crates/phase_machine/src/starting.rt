@@ -1,4 +1,4 @@
-ghost use Rattle.std.specs.Prelude.{◌≡◌, ℕ, ◌<◌, ◌≤◌, length, map, replicate, None, slice_index_or, IfOk};
+ghost use Rattle.std.specs.Prelude.{◌≡◌, map, replicate, None, IfOk};
 ghost use Rattle.schedule_model.specs.Seen.{place_seen};
 ghost use Rattle.phase_machine.specs.Given.{AreFirstPlaces, AreComing};
 

@@ -1,10 +1,10 @@
-ghost use Rattle.std.specs.Prelude.{◌≡◌, ℕ, ◌+◌, ◌<◌, ◌≤◌, length, map, slice_index_or};
+ghost use Rattle.std.specs.Prelude.{ℕ, ◌<◌, ◌≤◌, length, map, slice_index_or};
 ghost use Rattle.sporadic_model.specs.declared.limits.TheConstants.{MOST_TICKS};
 ghost use Rattle.schedule_model.specs.JobDef.{job_of};
 ghost use Rattle.schedule_model.specs.Seen.{place_seen};
 ghost use Rattle.phase_machine.specs.MachineDef.{IsComing, task_in, no_place};
 ghost use Rattle.phase_machine.specs.Least.{IsLeft, IsAhead};
-ghost use Rattle.phase_machine.specs.Given.{IsInSegment, AreLeftAt, IsCurrentJob, RunFromPlaces, IsAheadBy, IsLeastSome};
+ghost use Rattle.phase_machine.specs.Given.{IsInSegment, IsLeftAt, IsCurrentJob, RunFromPlaces, IsAheadBy, IsLeastSome};
 
 use crate::place::ScriptPlace;
 use crate::script::{list_is_lawful, segment_at, task_of, ticks_of};
@@ -14,7 +14,7 @@ use sporadic_model::MOST_TICKS;
 /// How many ticks are left of the phase of the place's job.
 fn left_at(jobs: &JobList, place: &ScriptPlace) -> u64
     requires { IsInSegment jobs.now.jobs place.now }
-    ensures { AreLeftAt jobs.now.jobs place.now result }
+    ensures { IsLeftAt jobs.now.jobs place.now result }
 {
     let segment = segment_at(jobs, place.job, place.segment);
     if place.ticks < segment.local {
@@ -26,7 +26,7 @@ fn left_at(jobs: &JobList, place: &ScriptPlace) -> u64
 /// How many ticks are left of the phase of a task's current job.
 fn left_of(jobs: &JobList, j: JobId, places: &[ScriptPlace]) -> u64
     requires { IsCurrentJob jobs.now places.now j.0 }
-    ensures { AreLeftAt jobs.now.jobs (slice_index_or places.now (task_in jobs.now.jobs j.0) no_place) result }
+    ensures { IsLeftAt jobs.now.jobs (slice_index_or places.now (task_in jobs.now.jobs j.0) no_place) result }
 {
     left_at(jobs, &places[task_of(jobs, j.0).0 as usize])
 }

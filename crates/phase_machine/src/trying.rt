@@ -1,11 +1,10 @@
 //! Whether a machine can take a row, for callers that don't know it otherwise.
 
-ghost use Rattle.std.specs.Prelude.{◌≡◌, ◌↔◌, ℕ, ◌<◌, true, false, Some, None, length, map, slice_index_or};
-ghost use Rattle.std.specs.List.{list_all};
+ghost use Rattle.std.specs.Prelude.{◌≡◌, ◌↔◌, ◌<◌, true, length, map};
 ghost use Rattle.schedule_model.specs.Fitting.{names_below};
 ghost use Rattle.schedule_model.specs.Seen.{place_seen, row_seen};
 ghost use Rattle.phase_machine.specs.Taking.{IsRowFor, CanTake, RunsAlone, AreAlone};
-ghost use Rattle.phase_machine.specs.Given.{TellsIfBefore, IsColumnOf, RunListed, Tells, is_row_for};
+ghost use Rattle.phase_machine.specs.Given.{RunsBefore, IsColumnOf, RunListed, Tells, is_row_for};
 
 use crate::machine::Machine;
 use schedule_model::{JobId, Row};
@@ -23,7 +22,7 @@ fn name_below(places: &[Option<JobId>], jobs: u32) -> bool
 /// Does one of the first columns run the job?
 fn runs_before(running: &[Option<JobId>], c: usize, j: JobId) -> bool
     requires { c < length running.now }
-    ensures { TellsIfBefore running.now c j result }
+    ensures { Tells result (RunsBefore running.now c j) }
 {
     for b in 0..c {
         if running[b] == Some(j) {

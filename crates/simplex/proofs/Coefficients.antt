@@ -65,7 +65,8 @@ first_entries p r cs is l h full = record {
     nonzero = λ k lk.
         let inside : k < length cs = omega (arith, lk, length-map cs entry_of) in
         let above = h.nonzero k inside in
-        rw (entry_is cs k lk) (whole_apart (coefficient_at cs k).number (whole (pos (coefficient_at cs k).number)) refl (λ q. omega (arith, q, above)));
+        rw (entry_is cs k lk)
+        (whole_apart (coefficient_at cs k).number (whole (pos (coefficient_at cs k).number)) refl (λ q. omega (arith, q, above)));
   };
   below = λ k lk.
       let inside : k < length cs = omega (arith, lk, length-map cs entry_of) in

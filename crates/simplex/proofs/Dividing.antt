@@ -45,7 +45,8 @@ divided_more i before now by f e h read form is =
 -- what isn't zero isn't zero when it is divided
 quotient_apart : (a b c : Fraction) → IsForm b → IsForm c → a.num ≢ pos 0 → IsQuotient a b c → c.num ≢ pos 0
 quotient_apart a b c hb hc some is none =
-    times_apart (a.num *ℤ b.den) c.den (times_apart a.num b.den some (apart_of_positive b.den hb.positive)) (apart_of_positive c.den hc.positive)
+    times_apart (a.num *ℤ b.den) c.den
+    (times_apart a.num b.den some (apart_of_positive b.den hb.positive)) (apart_of_positive c.den hc.positive)
     (sym is.same ∙ (ap (λ x. x *ℤ (a.den *ℤ b.num)) none ∙ zero-mul (a.den *ℤ b.num)))
 
 module _ (i : ℕ) (before now : List Entry) (by : Fraction) (end : length before ≡ i) (h : AreSparse before) (form : IsForm by)

@@ -84,7 +84,8 @@ module _ (entries pivot left : List Entry) (f : Fraction) (end i j from : ℕ) (
 
   -- a variable more, whose cell is pushed
   pub taken_pushed : (after : List Entry) (b : Fraction) (i' j' : ℕ) → from < end
-      → IsSplit entries i' (from + 1) → IsSplit pivot j' (from + 1) → IsLess (listed_at entries from) f (listed_at pivot from) b → IsPushed left from b after
+      → IsSplit entries i' (from + 1) → IsSplit pivot j' (from + 1) → IsLess (listed_at entries from) f (listed_at pivot from) b
+      → IsPushed left from b after
       → AreTakenBelow entries pivot after f end i' j' (from + 1)
   taken_pushed after b i' j' within split_row split_pivot is pushed = elim pushed [
     | inl none ↦ rw none.1

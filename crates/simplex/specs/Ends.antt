@@ -40,8 +40,8 @@ abbrev pub AreLimitsOf : List RowDef → List ℕ → ℕ → List Fraction → 
 AreLimitsOf rows basis place values =
     (c : ℕ) → c < length values → IsValueOf place (table_of rows basis) (length basis) c (fraction_at values c)
 
--- Is it the last table of a run?
-pub record IsLastTable (p : ProgramDef) (rows : List RowDef) (basis : List ℕ) : Type 0 where
+-- Is it a table of the program in which no variable can enter?
+pub record HasLastTable (p : ProgramDef) (rows : List RowDef) (basis : List ℕ) : Type 0 where
   pub size : HasSize p rows basis
   pub last : IsLast p (table_of rows basis)
 

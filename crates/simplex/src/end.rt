@@ -6,7 +6,7 @@ ghost use Rattle.exchange_runs.specs.Table.{Table};
 ghost use Rattle.exchange_runs.specs.Readings.{IsPrimal};
 ghost use Rattle.simplex.specs.Rows.{cell_at};
 ghost use Rattle.simplex.specs.Tables.{table_of, HasSize};
-ghost use Rattle.simplex.specs.Ends.{IsLastRow, WritesDual, AreZeros, CanWriteLimits, AreLimitsOf, IsLastTable, Finishes};
+ghost use Rattle.simplex.specs.Ends.{IsLastRow, WritesDual, AreZeros, CanWriteLimits, AreLimitsOf, HasLastTable, Finishes};
 
 use crate::row::SparseRow;
 use crate::{SolveStop, Solved};
@@ -78,7 +78,7 @@ pub(crate) fn finish(
     basis: &[usize],
     exchanges: u64,
 ) -> Result<Solved, SolveStop>
-    requires { IsLastTable program.now rows.now basis.now }
+    requires { HasLastTable program.now rows.now basis.now }
     ensures { Finishes result program.now (table_of rows.now basis.now) exchanges }
 {
     let objective = program.rows() as usize;

@@ -6,8 +6,8 @@ use Rattle.std.specs.Int.{bit_at}
 abbrev pub KeepBits : List ℕ → List ℕ → Type 0
 KeepBits before after = (p k : ℕ) → bit_at (slice_index before p) k ≡ 1 → bit_at (slice_index after p) k ≡ 1
 
--- Do the words have bit k at place p?
-pub record HasBit (words : List ℕ) (p k : ℕ) : Type 0 where
+-- Is there a word at place p, and is k one of its 64 bits?
+pub record HasBitAt (words : List ℕ) (p k : ℕ) : Type 0 where
   pub place : p < length words
   pub bit : k < 64
 

@@ -1,7 +1,8 @@
 //! Bits of words: set, cleared, joined and looked for.
 
 ghost use Rattle.std.specs.Prelude.{◌<◌, length};
-ghost use Rattle.whole_rows.specs.MarkWords.{HasBit, IsBitAdded, IsBitRemoved, AreBitsJoined, IsSetIn, IsClearedIn, AreJoinedIn, IsNextBit};
+ghost use Rattle.whole_rows.specs.MarkWords.{HasBitAt, IsBitAdded, IsBitRemoved, AreBitsJoined, IsSetIn, IsClearedIn};
+ghost use Rattle.whole_rows.specs.MarkWords.{AreJoinedIn, IsNextBit};
 
 // The word with one more bit set.
 fn with_bit(word: u64, bit: usize) -> u64
@@ -28,7 +29,7 @@ fn bits_of_either(word: u64, more: u64) -> u64
 
 // Sets a bit of one of the words.
 pub(crate) fn set_bit(words: &mut [u64], place: usize, bit: usize)
-    requires { HasBit words.old place bit }
+    requires { HasBitAt words.old place bit }
     ensures { IsSetIn words.old words.new place bit }
 {
     words[place] = with_bit(words[place], bit);
@@ -36,7 +37,7 @@ pub(crate) fn set_bit(words: &mut [u64], place: usize, bit: usize)
 
 // Clears a bit of one of the words.
 pub(crate) fn clear_bit(words: &mut [u64], place: usize, bit: usize)
-    requires { HasBit words.old place bit }
+    requires { HasBitAt words.old place bit }
     ensures { IsClearedIn words.old words.new place bit }
 {
     words[place] = without_bit(words[place], bit);

@@ -29,7 +29,7 @@ IsFirstAbove (Some e) row stands =
 IsFirstAbove None row stands = AreNoneAbove row stands (length stands)
 
 -- Is `least` at most `start`, and at most each variable that is at the place of an entry whose number in the row is above zero?
-pub record IsLeastAbove (row : RowDef) (outside : List ℕ) (entries : List Entry) (start least : ℕ) : Type 0 where
+pub record IsAtMostAbove (row : RowDef) (outside : List ℕ) (entries : List Entry) (start least : ℕ) : Type 0 where
   pub first : least ≤ start
   pub each : (m : ℕ) → m < length entries → pos 0 <ℤ num_at row (entry_at entries m).place
       → least ≤ slice_index outside (entry_at entries m).place

@@ -87,9 +87,9 @@ pub record CanReadValues (p : ProgramDef) (rows : List (Option RowDef)) (stands 
   pub stand_each : length stands ≡ variables p
   pub each : (v : ℕ) → v < variables p → IsStandOf p (stand_at stands v)
 
--- Are these, with some basis, the rows and stands of a last table?
-abbrev pub IsLastOfRun : ProgramDef → List (Option RowDef) → List Stand → Type 0
-IsLastOfRun p rows stands =
+-- Are these, with some basis, the rows and stands of a table in which no variable can enter?
+abbrev pub HasLastTable : ProgramDef → List (Option RowDef) → List Stand → Type 0
+HasLastTable p rows stands =
     (basis : List ℕ) × (HasSize p rows basis stands) × (AreStands p basis stands) × IsLast p (table_seen p rows basis stands)
 
 -- What is read from their table in lowest terms.

@@ -23,12 +23,12 @@ pub record IsRowOf (p : ProgramDef) (rows : List (Option RowDef)) (i : ℕ) : Ty
   pub within : i < height p
 
 -- Has the row a number at the place of each entry, and is there a variable at it?
-pub record HavePlaces (row : RowDef) (at : List ℕ) (entries : List Entry) : Type 0 where
+pub record HavePlaces (row : RowDef) (variables : List ℕ) (entries : List Entry) : Type 0 where
   pub places : AreBelow (length row.nums) entries
-  pub outside : AreBelow (length at) entries
+  pub outside : AreBelow (length variables) entries
 
 -- Is it the number of row i at place k?
-pub record IsNumberAt (p : ProgramDef) (rows : List (Option RowDef)) (k i : ℕ) (num : ℤ) : Type 0 where
+pub record IsNumberAt (p : ProgramDef) (rows : List (Option RowDef)) (i k : ℕ) (num : ℤ) : Type 0 where
   pub place : k < columns p
   pub row : i < length rows
   pub number : num ≡ num_seen p (row_at rows i) i k
@@ -63,7 +63,7 @@ pub record CanBeDivided (p : ProgramDef) (row : Option RowDef) (r k : ℕ) : Typ
   pub above : pos 0 <ℤ num_seen p row r k
 
 -- Has row i its places, is k one of them, and are those that the pivot lists too?
-pub record CanTakeFrom (p : ProgramDef) (row : Option RowDef) (i k : ℕ) (pivot : PivotDef) : Type 0 where
+pub record CanTakeFromRow (p : ProgramDef) (row : Option RowDef) (i k : ℕ) (pivot : PivotDef) : Type 0 where
   pub places : HasPlaces p i row
   pub place : k < columns p
   pub below : AreBelow (columns p) pivot.entries

@@ -69,7 +69,7 @@ ExchangesOrStops result p before after k r pivot =
     GivesOrStops result (λ _. ExchangesRows p before after k r pivot) (AreTooLarge p before k r)
 
 -- Have the rows of word w whose bits are set been marked at the place of each entry?
-pub record AreBitsJoined (before after : RowMarks) (entries : List Entry) (w bits : ℕ) : Type 0 where
+pub record AreRowBitsJoined (before after : RowMarks) (entries : List Entry) (w bits : ℕ) : Type 0 where
   pub kept : AreKept before after
   pub joined : (m i : ℕ) → m < length entries → i / 64 ≡ w → bit_at bits (i % 64) ≡ 1 → IsMarked after (entry_at entries m).place i
 

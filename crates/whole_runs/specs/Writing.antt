@@ -19,7 +19,7 @@ pub record CanWrite (nums : List ℤ) (cs : List Coefficient) : Type 0 where
   pub small : AreSmall cs
   pub zero : (v : ℕ) → slice_index_or nums v (pos 0) ≡ pos 0
 
--- Has each column its coefficient now?
+-- Has each column its coefficient, in a list as long as before?
 pub record AreWritten (before : List ℤ) (cs : List Coefficient) (after : List ℤ) : Type 0 where
   pub as_many : length after ≡ length before
   pub each : (v : ℕ) → slice_index_or after v (pos 0) ≡ pos (number_at cs v)
@@ -30,7 +30,7 @@ pub record AreAllSmall (cs : List Coefficient) (start : ℕ) : Type 0 where
   pub first : start < 2 ^ 63
 
 -- Is no coefficient above `most`, nor the first number, and is it below 2^63?
-pub record IsGreatest (cs : List Coefficient) (start most : ℕ) : Type 0 where
+pub record IsBoundOf (cs : List Coefficient) (start most : ℕ) : Type 0 where
   pub first : start ≤ most
   pub all : (v : ℕ) → number_at cs v ≤ most
   pub small : most < 2 ^ 63
@@ -41,7 +41,7 @@ pub record AreCosts (p : ProgramDef) (nums : List ℤ) : Type 0 where
   pub each : (c : ℕ) → slice_index_or nums c (pos 0) ≡ pos (cost p c)
 
 -- Is no cost above `most`, is it 1 or more, and below 2^63?
-pub record IsGreatestCost (p : ProgramDef) (most : ℕ) : Type 0 where
+pub record IsCostBound (p : ProgramDef) (most : ℕ) : Type 0 where
   pub one : 1 ≤ most
   pub all : (c : ℕ) → cost p c ≤ most
   pub small : most < 2 ^ 63

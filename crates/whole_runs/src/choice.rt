@@ -6,7 +6,7 @@ ghost use Rattle.whole_runs.specs.States.{stand_at, HasSize, AreStands};
 ghost use Rattle.whole_runs.specs.Given.{IsRowOf, HavePlaces, IsNumberAt, CanReadColumn, HaveBasics, IsLaterRatio, HasColumn};
 ghost use Rattle.whole_runs.specs.Columns.{AreMarked};
 ghost use Rattle.whole_runs.specs.Exchanges.{Enters};
-ghost use Rattle.whole_runs.specs.Choice.{AreNoneAbove, IsFrom, IsFirstAbove, IsLeastAbove, ReadsRatio, Comes};
+ghost use Rattle.whole_runs.specs.Choice.{AreNoneAbove, IsFrom, IsFirstAbove, IsAtMostAbove, ReadsRatio, Comes};
 ghost use Rattle.whole_runs.specs.Leaving.{ReadsColumn, IsLeastThrough, IsLeastRatio, LeavesFor};
 ghost use Rattle.whole_runs.specs.declared.stands.Stand.TheVariants.{Outside};
 
@@ -57,7 +57,7 @@ pub(crate) fn least_above(
     first: usize,
 ) -> usize
     requires { HavePlaces row.now outside.now entries.now }
-    ensures { IsLeastAbove row.now outside.now entries.now first result }
+    ensures { IsAtMostAbove row.now outside.now entries.now first result }
 {
     let mut least = first;
     for entry in entries {
@@ -77,7 +77,7 @@ fn unmark_zero(
     i: usize,
     num: i64,
 )
-    requires number { IsNumberAt program.now rows.now k i num }
+    requires number { IsNumberAt program.now rows.now i k num }
     requires marked { AreMarked program.now rows.now marks.old }
     ensures { AreMarked program.now rows.now marks.new }
 {

@@ -6,7 +6,7 @@ ghost use Rattle.program_form.specs.Program.{columns, height};
 ghost use Rattle.exchange_runs.specs.Readings.{minus};
 ghost use Rattle.exchange_runs.specs.SmallRuns.{IsSmall, IsLowestOf};
 ghost use Rattle.whole_runs.specs.Ends.{objective_cell, IsStandOf, AreLowestDuals, IsLowestValue, AreLowestValues};
-ghost use Rattle.whole_runs.specs.Ends.{CanReadDuals, CanGiveDual, GivesDual, CanReadValues, IsLastOfRun, FinishesAt};
+ghost use Rattle.whole_runs.specs.Ends.{CanReadDuals, CanGiveDual, GivesDual, CanReadValues, HasLastTable, FinishesAt};
 
 use crate::Ended;
 use crate::reading::objective;
@@ -118,7 +118,7 @@ pub(crate) fn finish(
     stands: &[Stand],
     exchanges: u64,
 ) -> Result<Ended, Halt>
-    requires { IsLastOfRun program.now rows.now stands.now }
+    requires { HasLastTable program.now rows.now stands.now }
     ensures { FinishesAt result program.now rows.now stands.now exchanges }
 {
     let objective = objective(program, rows);

@@ -2,8 +2,8 @@
 
 ghost use Rattle.std.specs.Prelude.{IfOk};
 ghost use Rattle.whole_runs.specs.States.{HasPlaces};
-ghost use Rattle.whole_runs.specs.Given.{CanBeDivided, CanTakeFrom, CanTakeAll, CanExchange, CanJoinWord, CanJoinMarks};
-ghost use Rattle.whole_runs.specs.Takings.{Touches, Divides, TakesFrom, TakesAll, ExchangesOrStops, AreBitsJoined, AreMarksJoined};
+ghost use Rattle.whole_runs.specs.Given.{CanBeDivided, CanTakeFromRow, CanTakeAll, CanExchange, CanJoinWord, CanJoinMarks};
+ghost use Rattle.whole_runs.specs.Takings.{Touches, Divides, TakesFrom, TakesAll, ExchangesOrStops, AreRowBitsJoined, AreMarksJoined};
 ghost use Rattle.whole_runs.specs.Stepping.{CanStep, Steps};
 
 use crate::choice::{least_above, leaving, read_column};
@@ -87,7 +87,7 @@ fn take_from(
     k: usize,
     pivot: &Pivot,
 ) -> Result<(), Halt>
-    requires { CanTakeFrom program.now row.old i k pivot.now }
+    requires { CanTakeFromRow program.now row.old i k pivot.now }
     ensures { TakesFrom result program.now i row.old k pivot.now row.new }
 {
     touch(alloc, program, row, i)?;
@@ -148,7 +148,7 @@ fn exchange(
 #[inline(never)]
 fn join_word(marks: &mut RowMarks, entries: &[Entry], w: usize, bits: u64)
     requires { CanJoinWord marks.old entries.now w }
-    ensures { AreBitsJoined marks.old marks.new entries.now w bits }
+    ensures { AreRowBitsJoined marks.old marks.new entries.now w bits }
 {
     for entry in entries {
         marks.join(entry.place, w, bits);

@@ -4,7 +4,7 @@ ghost use Rattle.std.specs.Prelude.{◌≡◌, ℕ, ◌<◌, [], length, IfOk, O
 ghost use Rattle.program_form.specs.Program.{columns, height};
 ghost use Rattle.program_form.specs.SparseRows.{coefficient_at};
 ghost use Rattle.whole_rows.specs.Marks.{HasWord};
-ghost use Rattle.whole_runs.specs.Writing.{CanWrite, AreWritten, AreAllSmall, IsGreatest, AreCosts, IsGreatestCost};
+ghost use Rattle.whole_runs.specs.Writing.{CanWrite, AreWritten, AreAllSmall, IsBoundOf, AreCosts, IsCostBound};
 ghost use Rattle.whole_runs.specs.Writing.{AreColumnStands, AreMarkedIn, AreCostsMarked};
 ghost use Rattle.whole_runs.specs.Starts.{IsFirstRow, IsCostRow, AreFirstRows, IsFirstBasis, AreFirstStands};
 ghost use Rattle.whole_runs.specs.Starts.{AreFirstOutside, AreFirstMarks, IsFirstTableau};
@@ -28,7 +28,7 @@ fn write_all(nums: &mut [i64], coefficients: &[Coefficient])
 // The greatest of the coefficients and another number.
 fn greatest(coefficients: &[Coefficient], first: u64) -> u64
     requires { AreAllSmall coefficients.now first }
-    ensures { IsGreatest coefficients.now first result }
+    ensures { IsBoundOf coefficients.now first result }
 {
     let mut most = first;
     for coefficient in coefficients {
@@ -68,7 +68,7 @@ fn cost_nums(alloc: Global, program: &SparseProgram) -> Result<Vec<i64>, AllocEr
 
 // The greatest of the costs and 1.
 fn greatest_cost(program: &SparseProgram) -> u64
-    ensures { IsGreatestCost program.now result }
+    ensures { IsCostBound program.now result }
 {
     let mut most = 1;
     for c in 0..program.columns() {

@@ -2,7 +2,8 @@ use Rattle.simplex.proofs.Solving.{only_answer, solved_optimum, solved_primal, s
 use Rattle.simplex.proofs.solve_sparse.Goals as goal
 
 pub returns-clause-only : goal.returns-clause-only
-returns-clause-only c = only_answer c.run_either.result c.args.program.now c.args.units c.run_either.ensures.program c.run_either.ensures.outcome
+returns-clause-only c =
+    only_answer c.run_either.result c.args.program.now c.args.units c.run_either.ensures.program c.run_either.ensures.outcome
 
 pub returns-clause-optimum : goal.returns-clause-optimum
 returns-clause-optimum c = solved_optimum c.run_either.result c.args.program.now c.args.units c.run_either.ensures.outcome

@@ -78,7 +78,8 @@ returns-in_err-from c =
     let stop = err_from_is_err_and c.from_residual-in_err-from.result c.from_residual-in_err-from.ensures.1 in
     rw (stop.1, stop.2)
     (stopped c.in_err-from.field-0.0 c.args.program.now c.args.units c.loop-exchanges.exchanges c.in-Some.found.0
-    c.loop-exchanges.tableau c.step.new.tableau (omega (arith, c.loop-exchanges-test.true, c.if-exchanges-units.false)) inv.tableau inv.reached
+    c.loop-exchanges.tableau c.step.new.tableau (omega (arith, c.loop-exchanges-test.true, c.if-exchanges-units.false))
+    inv.tableau inv.reached
     c.in_err-from.ensures)
 
 pub loop-exchanges-preserved : goal.loop-exchanges-preserved

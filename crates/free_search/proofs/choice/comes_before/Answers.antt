@@ -26,7 +26,8 @@ returns c =
     let limit_j : c.index-rows-j.result.limit ≡ (row_at rows j).limit
     = ap (λ (r : RowDef). r.limit) (get_or_read rows j c.index-rows-j.result c.requires.other.row c.index-rows-j.is none) in
     let compared : AreCompared rows k i j ratio other
-    = are_compared rows k i j ratio other c.requires.rows.limits c.requires.one.row c.requires.other.row c.requires.one.above c.requires.other.above
+    = are_compared rows k i j ratio other c.requires.rows.limits c.requires.one.row c.requires.other.row
+    c.requires.one.above c.requires.other.above
     (product_is ratio _ _ _ _ _ _ c.in_ok-ratio.ensures c.size.ensures (c.limit.ensures ∙ limit_i) c.size-2.ensures c.num_of.ensures)
     (product_is other _ _ _ _ _ _ c.in_ok-other.ensures c.size-3.ensures (c.limit-2.ensures ∙ limit_j) c.size-4.ensures
     c.num_of-2.ensures) in

@@ -18,8 +18,7 @@ returns c =
       outside = c.in_ok-count_from-2.field-0;
     } in
     let parts : AreFirstParts p t = record {
-      row_each = rows.as_many;
-      rows = rows.each;
+      rows = rows;
       costs = c.in_ok-cost_row.ensures;
       basis = record {
         basic_each = basis.as_many ∙ c.rows-rows.ensures.value;

@@ -11,7 +11,8 @@ loop-coefficient-preserved c =
     let x = c.of-in-loop-coefficient.result in
     let inside : c.loop-coefficient.coefficient-index < length c.args.coefficients.now = omega (arith, c.loop-coefficient-test.true) in
     let long : length c.loop-coefficient.nums ≡ length c.args.nums.now = c.loop-coefficient.invariant.as_many in
-    let number : c.of-in-loop-coefficient.result ≡ pos (coefficient_at cs i).number = c.of-in-loop-coefficient.ensures ∙ ap pos c.of.ensures in
+    let number : c.of-in-loop-coefficient.result ≡ pos (coefficient_at cs i).number =
+    c.of-in-loop-coefficient.ensures ∙ ap pos c.of.ensures in
     record {
       as_many = length-set nums (coefficient_at cs i).column x ∙ long;
       each = λ v. written_more (length c.args.nums.now) i v cs nums x c.requires.listed inside

@@ -8,7 +8,8 @@ loop-v-init c =
     let entries = c.args.entries.now in
     let pivot = c.args.pivot.now in
     rw (c.new-left.ensures.items, c.min-v.ensures)
-    (taken_up entries pivot [] c.args.f c.args.end 0 0 0 c.requires.row.sparse c.requires.pivot.sparse c.requires.row.below c.requires.pivot.below
+    (taken_up entries pivot [] c.args.f c.args.end 0 0 0
+    c.requires.row.sparse c.requires.pivot.sparse c.requires.row.below c.requires.pivot.below
     (taken_none entries pivot c.args.f c.args.end) c.variable_behind.result c.variable_behind-2.result
     c.variable_behind.ensures c.variable_behind-2.ensures)
 

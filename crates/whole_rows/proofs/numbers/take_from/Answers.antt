@@ -10,7 +10,8 @@ take_listed-requires c =
     record {
       sparse = c.requires.sparse;
       below = search rules;
-      products = rw (read c.args.f fits) (products_fit c.args.nums.now c.args.p c.args.f c.args.entries.now c.requires.sparse c.requires.room);
+      products = rw (read c.args.f fits)
+          (products_fit c.args.nums.now c.args.p c.args.f c.args.entries.now c.requires.sparse c.requires.room);
       room = rw (read c.args.f fits)
           (room_kept c.args.nums.now c.multiply_all.new.nums c.args.k c.args.p c.args.f c.args.entries.now c.requires.place
           (rw (read c.args.p fits_p) at c.multiply_all.ensures) c.requires.room);

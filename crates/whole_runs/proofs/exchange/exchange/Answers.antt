@@ -44,7 +44,8 @@ returns-in_err-take_all c =
     let stop = err_from_is_err_and c.from_residual-in_err-take_all.result c.from_residual-in_err-take_all.ensures.1 in
     rw (stop.1, stop.2)
     (stop_of c.in_err-take_all.field-0.0
-    (λ (u : Unit {0}). AreTakenTo (length c.args.lines.now.column.items) p divided c.take_all.new.rows c.args.lines.now.column.items c.args.k c.args.r
+    (λ (u : Unit {0}). AreTakenTo (length c.args.lines.now.column.items) p divided c.take_all.new.rows
+    c.args.lines.now.column.items c.args.k c.args.r
     c.divide.new.pivot) _
     (IsSomeTooLarge p (set c.args.rows.now c.args.r c.divide.new.row) c.args.k c.args.r c.divide.new.pivot)
     (AreTooLarge p c.args.rows.now c.args.k c.args.r)

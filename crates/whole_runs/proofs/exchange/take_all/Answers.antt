@@ -64,6 +64,7 @@ loop-j-preserved c =
           (rw (cell, get_or_default c.loop-j.rows i w.index-rows-cell.result None inside) at w.in_ok-take_from.ensures))
       | else-cell-r w ↦
           rw w.rows-is
-          (taken_past c.loop-j.j c.args.program.now c.args.rows.now c.loop-j.rows c.args.lines.now.column.items c.args.k c.args.r c.args.lines.now.pivot
+          (taken_past c.loop-j.j c.args.program.now c.args.rows.now c.loop-j.rows
+          c.args.lines.now.column.items c.args.k c.args.r c.args.lines.now.pivot
           (rw cell at w.if-cell-r.false) c.loop-j.invariant)
     ]

@@ -26,7 +26,7 @@ move_on-requires c =
     subst (λ m. IsQuiet m (row_seen c.args.row.now) c.args.ticks) (sym c.self.view_is) c.requires.quiet in
     record {
       len = ap length c.deref_mut-2.ensures.value ∙ c.self.invariant.machine.coming_length;
-      due = λ x l. rw c.deref_mut-2.ensures.value
+      each = λ x l. rw c.deref_mut-2.ensures.value
           (due_after (machine_view c.self.inside) (row_seen c.args.row.now) c.args.ticks x c.self.invariant.machine quiet l);
     }
 

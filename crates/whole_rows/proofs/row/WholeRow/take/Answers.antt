@@ -12,5 +12,6 @@ pub returns-in-Err-clause-large : goal.returns-in-Err-clause-large
 returns-in-Err-clause-large c =
     on_err_weaker c.take_within-in-Err.result
     (λ past. too_large c.args.self.now c.tighten-most.new.self c.args.k c.tighten-most.result c.args.pivot.now
-    (rw c.in-Err.ensures.stays at c.tighten-most.ensures.reduced.same) c.tighten-most.ensures.reduced.lowest c.tighten-most.ensures.attained past)
+    (rw c.in-Err.ensures.stays at c.tighten-most.ensures.reduced.same) c.tighten-most.ensures.reduced.lowest
+    c.tighten-most.ensures.attained past)
     c.take_within-in-Err.ensures.large

@@ -75,7 +75,8 @@ invariant_of-self c =
       limit = c.less_times-self-inside.result;
       den = c.self.inside.den *ℤ c.lowest_terms-f.result.1;
     } in
-    let taken : IsTakenRow (row_view c.self.inside) c.args.k c.lowest_terms-f.result.1 c.lowest_terms-f.result.0 c.args.pivot.now left = record {
+    let taken : IsTakenRow (row_view c.self.inside) c.args.k c.lowest_terms-f.result.1 c.lowest_terms-f.result.0
+    c.args.pivot.now left = record {
       nums = rw (read _ fits_f, read _ fits_p, c.deref_mut.ensures.value, c.entries.ensures.value) at c.take_from.ensures;
       limit = rw (read _ fits_f, read _ fits_p, read _ own_limit, read _ fits_limit, c.limit.ensures) at c.less_times-self-inside.ensures;
       den = refl;
@@ -106,7 +107,8 @@ returns c =
       limit = c.less_times-self-inside.result;
       den = c.self.inside.den *ℤ c.lowest_terms-f.result.1;
     } in
-    let taken : IsTakenRow (row_view c.self.inside) c.args.k c.lowest_terms-f.result.1 c.lowest_terms-f.result.0 c.args.pivot.now left = record {
+    let taken : IsTakenRow (row_view c.self.inside) c.args.k c.lowest_terms-f.result.1 c.lowest_terms-f.result.0
+    c.args.pivot.now left = record {
       nums = rw (read _ fits_f, read _ fits_p, c.deref_mut.ensures.value, c.entries.ensures.value) at c.take_from.ensures;
       limit = rw (read _ fits_f, read _ fits_p, read _ own_limit, read _ fits_limit, c.limit.ensures) at c.less_times-self-inside.ensures;
       den = refl;
@@ -116,7 +118,8 @@ returns c =
     get_or_read c.self.inside.nums.items c.args.k c.index.result.now within c.index.ensures (pos 0) in
     let fits_num : FitsSigned w64 c.index.result.now = search rules in
     let fits_den : FitsSigned w64 c.den.result = search rules in
-    let cut : IsCancelled (num_at (row_view c.self.inside) c.args.k) c.args.pivot.now.den c.lowest_terms-f.result.0 c.lowest_terms-f.result.1 =
+    let cut : IsCancelled (num_at (row_view c.self.inside) c.args.k) c.args.pivot.now.den
+    c.lowest_terms-f.result.0 c.lowest_terms-f.result.1 =
     rw (read _ fits_num, number, read _ fits_den, c.den.ensures.value) at c.lowest_terms-f.ensures.form in
     rw (items, read _ fits_left, product_read c.self.inside.den p own_den fits_p small, ← c.self.view_is)
     (record {
@@ -137,7 +140,8 @@ returns-in-None c =
     get_or_read c.self.inside.nums.items c.args.k c.index.result.now within c.index.ensures (pos 0) in
     let fits_num : FitsSigned w64 c.index.result.now = search rules in
     let fits_den : FitsSigned w64 c.den.result = search rules in
-    let cut : IsCancelled (num_at (row_view c.self.inside) c.args.k) c.args.pivot.now.den c.lowest_terms-f.result.0 c.lowest_terms-f.result.1 =
+    let cut : IsCancelled (num_at (row_view c.self.inside) c.args.k) c.args.pivot.now.den
+    c.lowest_terms-f.result.0 c.lowest_terms-f.result.1 =
     rw (read _ fits_num, number, read _ fits_den, c.den.ensures.value) at c.lowest_terms-f.ensures.form in
     rw (← c.self.view_is) (record {
       left = λ divided own. tt;
