@@ -9,7 +9,7 @@ use Rattle.std.specs.Prelude.{Option, None, Result, IfOk, IfSome, IsSome, Vec, s
 use Rattle.std.specs.Option.{option_to_list, option_flatten}
 use Rattle.std.specs.Global.{Global}
 use Rattle.std.specs.declared.alloc.AllocError.{AllocError}
-use Rattle.response_fixpoint.specs.Places.{AreEach, AreEachFound, AreBelow, ArePlaced, places_with, parts_with}
+use Rattle.response_fixpoint.specs.Places.{AreEach, AreEachFound, AreBelow, ArePlaced, GivesPlaced, AreParts, places_with, parts_with}
 use Rattle.response_fixpoint.specs.declared.places.Placed.{Placed}
 
 -- An empty list asks for nothing.
@@ -109,6 +109,12 @@ unfolding places_with
 none_put places [] none = refl
 none_put places (a ∷ found) none = absurd (omega (arith, none))
 
+-- There are as many places as before.
+pub put_length : {X : Type 0} (places : List (Option X)) (found : List (Placed X)) → length (places_with places found) ≡ length places
+unfolding places_with
+put_length places [] = refl
+put_length places (a ∷ found) = put_length (slice_set places a.task.0 (Some a.found)) found ∙ length-set places a.task.0 (Some a.found)
+
 -- The same for what the threads have found.
 pub first_part : {X : Type 0} (places : List (Option X)) (found : Vec (Placed X) Global)
     (parts : List (Result (Vec (Placed X) Global) AllocError))
@@ -124,10 +130,9 @@ none_part places (part ∷ parts) none = absurd (omega (arith, none))
 
 -- What one thread has found may be put at its places.
 found_put : {X : Type 0} (holds : ℕ → X → Type 0) (n : ℕ) (places : List (Option X)) (found : List (Placed X)) → length places ≡ n
-    → AreEachFound holds 0 places → ArePlaced holds n found
-    → (length (places_with places found) ≡ n) × AreEachFound holds 0 (places_with places found)
+    → AreEachFound holds 0 places → ArePlaced holds n found → AreEachFound holds 0 (places_with places found)
 unfolding places_with
-found_put holds n places [] long old new = (long, old)
+found_put holds n places [] long old new = old
 found_put holds n places (a ∷ found) long old new =
     let first : (a.task.0 < n) × holds a.task.0 a.found = new 0 a refl in
     found_put holds n (slice_set places a.task.0 (Some a.found)) found (length-set places a.task.0 (Some a.found) ∙ long)
@@ -137,13 +142,13 @@ found_put holds n places (a ∷ found) long old new =
 -- And so may what all threads have found.
 pub parts_put : {X : Type 0} (holds : ℕ → X → Type 0) (n : ℕ) (places : List (Option X))
     (parts : List (Result (Vec (Placed X) Global) AllocError)) → length places ≡ n → AreEachFound holds 0 places
-    → ((k : ℕ) (part : _) → slice_get parts k ≡ Some part → IfOk part (λ v. ArePlaced holds n v.items))
+    → AreParts holds n parts
     → AreEachFound holds 0 (parts_with places parts)
 unfolding parts_with
 parts_put holds n places [] long old new = old
 parts_put holds n places (Ok found ∷ parts) long old new =
-    let put = found_put holds n places found.items long old (new 0 (Ok found) refl) in
-    parts_put holds n (places_with places found.items) parts put.0 put.1 (λ k x here. new (suc k) x here)
+    parts_put holds n (places_with places found.items) parts (put_length places found.items ∙ long)
+    (found_put holds n places found.items long old (new 0 (Ok found) refl)) (λ k x here. new (suc k) x here)
 parts_put holds n places (Err e ∷ parts) long old new = parts_put holds n places parts long old (λ k x here. new (suc k) x here)
 
 none_there : {X : Type 0} (n k : ℕ) (o : Option X) → slice_get (replicate n None) k ≡ Some o → o ≡ None
@@ -162,14 +167,14 @@ placed_more holds n found a old task new = each_more (λ k b. (b.task.0 < n) × 
 
 -- What the threads have found is for tasks that exist.
 pub part_below : {X : Type 0} (holds : ℕ → X → Type 0) (n : ℕ) (part : Result (Vec (Placed X) Global) AllocError)
-    → IfOk part (λ v. ArePlaced holds n v.items) → IfOk part (λ v. AreBelow n v.items)
+    → GivesPlaced holds n part → IfOk part (λ v. AreBelow n v.items)
 part_below holds n (Ok v) placed = λ k a here. (placed k a here).0
 part_below holds n (Err e) placed = tt
 
 -- At the places of these each result has the property.
 pub parts_found : {X : Type 0} (holds : ℕ → X → Type 0) (n : ℕ) (parts : List (Result (Vec (Placed X) Global) AllocError))
     (places : List (Option X)) → places ≡ parts_with (replicate n None) parts
-    → ((k : ℕ) (part : _) → slice_get parts k ≡ Some part → IfOk part (λ v. ArePlaced holds n v.items)) → AreEachFound holds 0 places
+    → AreParts holds n parts → AreEachFound holds 0 places
 parts_found {X} holds n parts places same found =
     subst (λ (xs : List (Option X)). AreEachFound holds 0 xs) (sym same)
     (parts_put holds n (replicate n None) parts (length-replicate n None) (nothing_found holds n) found)
@@ -177,7 +182,7 @@ parts_found {X} holds n parts places same found =
 -- If there was memory for the places.
 pub parts_given : {X : Type 0} (holds : ℕ → X → Type 0) (n : ℕ) (parts : List (Result (Vec (Placed X) Global) AllocError))
     (given : Result (Vec (Option X) Global) AllocError) → IfOk given (λ v. v.items ≡ parts_with (replicate n None) parts)
-    → ((k : ℕ) (part : _) → slice_get parts k ≡ Some part → IfOk part (λ v. ArePlaced holds n v.items))
+    → AreParts holds n parts
     → IfOk given (λ v. AreEachFound holds 0 v.items)
 parts_given holds n parts (Ok v) same found = parts_found holds n parts v.items same found
 parts_given holds n parts (Err e) same found = tt

@@ -22,7 +22,7 @@ use Rattle.program_sources.specs.Recurrence.{SourceDef, response_with}
 use Rattle.program_sources.specs.Fitting.{tasks_of}
 use Rattle.response_fixpoint.specs.Rounds.{Valued, OutOfUnits}
 use Rattle.response_fixpoint.specs.Runs.{TaskRuns}
-use Rattle.response_fixpoint.specs.Solutions.{IsSolution, GivesSolution, IsAhead, IsOutcome, IsPlanned, IsKept, AreKept}
+use Rattle.response_fixpoint.specs.Solutions.{IsSolution, GivesSolution, IsAhead, IsOutcome, with_limits, IsPlannedFrom, IsPlanned, IsKept, AreKept}
 use Rattle.response_fixpoint.specs.Answers.{GivesRun}
 use Rattle.response_fixpoint.specs.declared.task_run.Solution.{Solution}
 use Rattle.response_fixpoint.specs.declared.plan.Kept.{Kept}
@@ -114,18 +114,17 @@ same_lists p q costs rows limits =
 
 -- A program of the task at some bounds, with the limits for others, is the task's program there.
 pub renewed_program : (f : SourceDef) (i : ℕ) (q r : List ℕ) (p : ProgramDef) (limits : List ℕ) → Rises f i → p ≡ f.program i q
-    → limits ≡ (f.program i r).limits → record { costs = p.costs; rows = p.rows; limits = limits } ≡ f.program i r
+    → limits ≡ (f.program i r).limits → with_limits p limits ≡ f.program i r
 renewed_program f i q r p limits rises is there =
     let from_q = rises [] q (λ k here. omega arith) in
     let from_r = rises [] r (λ k here. omega arith) in
-    same_lists (record { costs = p.costs; rows = p.rows; limits = limits }) (f.program i r)
+    same_lists (with_limits p limits) (f.program i r)
     (ap (λ (x : ProgramDef). x.costs) is ∙ sym from_q.same_costs ∙ from_r.same_costs)
     (ap (λ (x : ProgramDef). x.rows) is ∙ sym from_q.same_rows ∙ from_r.same_rows) there
 
 -- So the lists are a program if they are one there.
 pub renewed_is_program : (f : SourceDef) (i : ℕ) (q r limits : List ℕ) (k : Kept) → Rises f i → IsKept f q i k
-    → limits ≡ (f.program i r).limits → IsProgram (f.program i r)
-    → IsProgram (record { costs = k.program.costs; rows = k.program.rows; limits = limits })
+    → limits ≡ (f.program i r).limits → IsProgram (f.program i r) → IsProgram (with_limits k.program limits)
 renewed_is_program f i q r limits k rises kept there is =
     subst (λ (y : ProgramDef). IsProgram y) (sym (renewed_program f i q r k.program limits rises kept.program there)) is
 
@@ -139,20 +138,18 @@ taken_over f r left i p q s (Some x) (same, one) is there =
 
 -- So a kept program with the limits for other bounds is the task's there. It keeps its solution if the limits are the same.
 pub renewed_planned : (f : SourceDef) (i : ℕ) (q r limits : List ℕ) (k : Kept) (p : Planned) (left : ℕ) → Rises f i → IsKept f q i k
-    → limits ≡ (f.program i r).limits → p.program ≡ record { costs = k.program.costs; rows = k.program.rows; limits = limits }
-    → IfSome p.ahead (λ o. (o ≡ Ok k.solution) × (k.program ≡ p.program)) → IsPlanned f r left i p
-renewed_planned f i q r limits k p left rises kept there is ahead =
-    let program : p.program ≡ f.program i r = is ∙ renewed_program f i q r k.program limits rises kept.program there in
+    → limits ≡ (f.program i r).limits → IsPlannedFrom k (with_limits k.program limits) p → IsPlanned f r left i p
+renewed_planned f i q r limits k p left rises kept there from =
+    let program : p.program ≡ f.program i r = from.program ∙ renewed_program f i q r k.program limits rises kept.program there in
     let solution : IsSolution k.program k.solution =
     subst (λ (y : ProgramDef). IsSolution y k.solution) (sym kept.program) kept.solution in
-    record { program = program; ahead = taken_over f r left i k.program p.program k.solution p.ahead ahead solution program }
+    record { program = program; ahead = taken_over f r left i k.program p.program k.solution p.ahead from.ahead solution program }
 
 -- And a kept program is the task's at other bounds, with its solution, if its limits are the same there.
 pub kept_planned : (f : SourceDef) (i : ℕ) (q r : List ℕ) (k : Kept) (p : Planned) (left : ℕ) → Rises f i → IsKept f q i k
-    → (f.program i q).limits ≡ (f.program i r).limits → p.program ≡ k.program
-    → IfSome p.ahead (λ o. (o ≡ Ok k.solution) × (k.program ≡ p.program)) → IsPlanned f r left i p
-kept_planned f i q r k p left rises kept same is ahead = renewed_planned f i q r k.program.limits k p left rises kept
-    (ap (λ (x : ProgramDef). x.limits) kept.program ∙ same) is ahead
+    → (f.program i q).limits ≡ (f.program i r).limits → IsPlannedFrom k k.program p → IsPlanned f r left i p
+kept_planned f i q r k p left rises kept same from = renewed_planned f i q r k.program.limits k p left rises kept
+    (ap (λ (x : ProgramDef). x.limits) kept.program ∙ same) from
 
 -- A run that ran out of units ahead of its place runs out of units there too.
 pub units_from_ahead : (p : ProgramDef) (left : ℕ) (ahead : Option (Result Solution SolveStop))

@@ -1,5 +1,5 @@
 -- What the threads of a round have found, each result at the place of its task.
-use Rattle.std.specs.Prelude.{◌≡◌, ℕ, ◌+◌, ◌<◌, List, [], ◌∷◌, Option, Some, Result, Ok, Err, Vec, slice_get, slice_set, IfSome}
+use Rattle.std.specs.Prelude.{◌≡◌, ℕ, ◌+◌, ◌<◌, List, [], ◌∷◌, Option, Some, Result, Ok, Err, Vec, slice_get, slice_set, IfOk, IfSome}
 use Rattle.std.specs.declared.alloc.AllocError.{AllocError}
 use Rattle.std.specs.Global.{Global}
 use Rattle.response_fixpoint.specs.declared.places.Placed.{Placed}
@@ -19,6 +19,19 @@ AreBelow n found = (k : ℕ) (a : _) → slice_get found k ≡ Some a → a.task
 -- Is each task with a result below n, and is this true of its result?
 abbrev pub ArePlaced : {X : Type 0} → (ℕ → X → Type 0) → ℕ → List (Placed X) → Type 0
 ArePlaced holds n found = (k : ℕ) (a : _) → slice_get found k ≡ Some a → (a.task.0 < n) × holds a.task.0 a.found
+
+-- Is this so of what a thread has found, if there was memory for it?
+abbrev pub GivesPlaced : {X : Type 0} → (ℕ → X → Type 0) → ℕ → Result (Vec (Placed X) Global) AllocError → Type 0
+GivesPlaced holds n part = IfOk part (λ v. ArePlaced holds n v.items)
+
+-- And of what each thread has found?
+abbrev pub AreParts : {X : Type 0} → (ℕ → X → Type 0) → ℕ → List (Result (Vec (Placed X) Global) AllocError) → Type 0
+AreParts holds n parts = (k : ℕ) (part : _) → slice_get parts k ≡ Some part → GivesPlaced holds n part
+
+-- Is it so of what all threads have found, if they could be started?
+abbrev pub GivesParts : {X : Type 0} → (ℕ → X → Type 0) → ℕ → Result (Vec (Result (Vec (Placed X) Global) AllocError) Global) AllocError
+    → Type 0
+GivesParts holds n parts = IfOk parts (λ v. AreParts holds n v.items)
 
 -- The places, once a thread's results are put at the places of their tasks.
 unfoldable pub places_with : {X : Type 0} → List (Option X) → List (Placed X) → List (Option X)

@@ -51,6 +51,16 @@ pub record IsPlanned (f : SourceDef) (r : List ℕ) (left i : ℕ) (p : Planned)
   pub program : p.program ≡ f.program i r
   pub ahead : IfSome p.ahead (λ o. IsOutcome f r left i o)
 
+-- The program with these limits.
+abbrev pub with_limits : ProgramDef → List ℕ → ProgramDef
+with_limits p limits = record { costs = p.costs; rows = p.rows; limits = limits }
+
+-- Is the program q planned, from what was kept of a task? What it gave ahead, if that is known, is the kept solution, and only a program that
+-- is the kept one has it.
+pub record IsPlannedFrom (k : Kept) (q : ProgramDef) (p : Planned) : Type 0 where
+  pub program : p.program ≡ q
+  pub ahead : IfSome p.ahead (λ o. (o ≡ Ok k.solution) × (k.program ≡ p.program))
+
 -- Is there such a program for each task?
 pub record IsPlan (f : SourceDef) (r : List ℕ) (left : ℕ) (plan : List Planned) : Type 0 where
   pub one_each : length plan ≡ tasks_of f

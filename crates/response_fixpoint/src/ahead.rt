@@ -1,11 +1,11 @@
 //! Solves the programs of a later round side by side: those with other limits than in the round before.
 
-ghost use Rattle.std.specs.Prelude.{◌≡◌, ℕ, ◌-◌, ◌<◌, ◌^◌, length, min, slice_get, Some, IfOk};
-ghost use Rattle.program_sources.specs.Bounds.{IsInRange};
+ghost use Rattle.std.specs.Prelude.{◌≡◌, ◌-◌, ◌<◌, ◌^◌, length, min, IfOk};
 ghost use Rattle.program_sources.specs.Recurrence.{source_at};
-ghost use Rattle.response_fixpoint.specs.Places.{ArePlaced};
+ghost use Rattle.response_fixpoint.specs.Places.{GivesPlaced, GivesParts};
 ghost use Rattle.response_fixpoint.specs.Sharing.{IsShare, due_in, work_in};
 ghost use Rattle.response_fixpoint.specs.Solutions.{IsOutcome, IsPlan, AreAhead};
+ghost use Rattle.response_fixpoint.specs.Given.{BeginsRound};
 
 use crate::places::{Placed, in_places};
 use crate::plan::Planned;
@@ -68,12 +68,9 @@ fn solve_some<P: ProgramSource>(
     plan: &[Planned],
     share: Share,
 ) -> Result<Vec<Placed<Result<Solution, SolveStop>>>, AllocError>
-    requires serves { P.serves protocol.now set.now }
-    requires range { IsInRange set.now bounds.now }
-    requires plan { IsPlan (source_at (P.source protocol.now) set.now) bounds.now left plan.now }
+    requires round { BeginsRound (P.serves protocol.now) (source_at (P.source protocol.now) set.now) bounds.now left plan.now }
     requires share { IsShare share }
-    ensures { IfOk result (λ v. ArePlaced
-        (IsOutcome (source_at (P.source protocol.now) set.now) bounds.now left) (length set.now.tasks) v.items) }
+    ensures { GivesPlaced (IsOutcome (source_at (P.source protocol.now) set.now) bounds.now left) (length set.now.tasks) result }
 {
     let mut found = Vec::new(alloc);
     let mut due = 0usize;
@@ -111,12 +108,8 @@ fn solve_beside<R: Threads + Sync, P: ProgramSource + Sync>(
     plan: &[Planned],
     threads: usize,
 ) -> Result<Vec<Result<Vec<Placed<Result<Solution, SolveStop>>>, AllocError>>, AllocError>
-    requires serves { P.serves protocol.now set.now }
-    requires range { IsInRange set.now bounds.now }
-    requires plan { IsPlan (source_at (P.source protocol.now) set.now) bounds.now left plan.now }
-    ensures { IfOk result (λ v. (k : ℕ) (part : _) → slice_get v.items k ≡ Some part
-        → IfOk part (λ found. ArePlaced
-        (IsOutcome (source_at (P.source protocol.now) set.now) bounds.now left) (length set.now.tasks) found.items)) }
+    requires { BeginsRound (P.serves protocol.now) (source_at (P.source protocol.now) set.now) bounds.now left plan.now }
+    ensures { GivesParts (IsOutcome (source_at (P.source protocol.now) set.now) bounds.now left) (length set.now.tasks) result }
 {
     map_indices(
         rt,
@@ -147,9 +140,7 @@ pub fn solve_ahead<R: Threads + Sync, P: ProgramSource + Sync>(
     left: u64,
     plan: &[Planned],
 ) -> Result<Vec<Option<Result<Solution, SolveStop>>>, AllocError>
-    requires serves { P.serves protocol.now set.now }
-    requires range { IsInRange set.now bounds.now }
-    requires plan { IsPlan (source_at (P.source protocol.now) set.now) bounds.now left plan.now }
+    requires { BeginsRound (P.serves protocol.now) (source_at (P.source protocol.now) set.now) bounds.now left plan.now }
     ensures { IfOk result (λ v. AreAhead (source_at (P.source protocol.now) set.now) bounds.now left 0 v.items) }
 {
     let threads = later_threads(rt, work_in(plan), due_in(plan));

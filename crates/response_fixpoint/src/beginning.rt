@@ -1,11 +1,12 @@
 //! The plan of the first round. The threads that solve a task's program form it too, once.
 
-ghost use Rattle.std.specs.Prelude.{◌≡◌, ℕ, ◌<◌, length, slice_get, Some, IfOk, IfSome};
+ghost use Rattle.std.specs.Prelude.{◌<◌, length, IfOk, IfSome};
 ghost use Rattle.program_sources.specs.Bounds.{IsInRange};
 ghost use Rattle.program_sources.specs.Recurrence.{source_at};
-ghost use Rattle.response_fixpoint.specs.Places.{ArePlaced, AreEachFound};
+ghost use Rattle.response_fixpoint.specs.Places.{AreEachFound, GivesPlaced, GivesParts};
 ghost use Rattle.response_fixpoint.specs.Sharing.{IsShare};
 ghost use Rattle.response_fixpoint.specs.Solutions.{IsPlanned, IsPlan};
+ghost use Rattle.response_fixpoint.specs.Given.{IsServedAt, IsTaskServedAt};
 
 use crate::places::{Placed, in_places};
 use crate::plan::Planned;
@@ -26,9 +27,7 @@ fn begin_task<P: ProgramSource>(
     left: u64,
     is_solved: bool,
 ) -> Result<Planned, AllocError>
-    requires serves { P.serves protocol.now set.now }
-    requires range { IsInRange set.now bounds.now }
-    requires task { i.0 < length set.now.tasks }
+    requires { IsTaskServedAt (P.serves protocol.now) set.now bounds.now i.0 }
     ensures { IfOk result (λ p. IsPlanned (source_at (P.source protocol.now) set.now) bounds.now left i.0 p) }
 {
     let program = protocol.sparse_program(alloc, set, i, bounds)?;
@@ -53,11 +52,9 @@ pub fn begin_some<P: ProgramSource>(
     left: u64,
     share: Share,
 ) -> Result<Vec<Placed<Planned>>, AllocError>
-    requires serves { P.serves protocol.now set.now }
-    requires range { IsInRange set.now bounds.now }
+    requires served { IsServedAt (P.serves protocol.now) set.now bounds.now }
     requires share { IsShare share }
-    ensures { IfOk result (λ v. ArePlaced
-        (IsPlanned (source_at (P.source protocol.now) set.now) bounds.now left) (length set.now.tasks) v.items) }
+    ensures { GivesPlaced (IsPlanned (source_at (P.source protocol.now) set.now) bounds.now left) (length set.now.tasks) result }
 {
     let mut begun = Vec::new(alloc);
     let mut is_on = true;
@@ -89,11 +86,8 @@ fn begin_beside<R: Threads + Sync, P: ProgramSource + Sync>(
     left: u64,
     threads: usize,
 ) -> Result<Vec<Result<Vec<Placed<Planned>>, AllocError>>, AllocError>
-    requires serves { P.serves protocol.now set.now }
-    requires range { IsInRange set.now bounds.now }
-    ensures { IfOk result (λ v. (k : ℕ) (part : _) → slice_get v.items k ≡ Some part
-        → IfOk part (λ begun. ArePlaced
-        (IsPlanned (source_at (P.source protocol.now) set.now) bounds.now left) (length set.now.tasks) begun.items)) }
+    requires { IsServedAt (P.serves protocol.now) set.now bounds.now }
+    ensures { GivesParts (IsPlanned (source_at (P.source protocol.now) set.now) bounds.now left) (length set.now.tasks) result }
 {
     map_indices(
         rt,
@@ -143,8 +137,7 @@ fn in_order<P: ProgramSource>(
     left: u64,
     places: Vec<Option<Planned>>,
 ) -> Result<Vec<Planned>, AllocError>
-    requires serves { P.serves protocol.now set.now }
-    requires range { IsInRange set.now bounds.now }
+    requires served { IsServedAt (P.serves protocol.now) set.now bounds.now }
     requires places { AreEachFound (IsPlanned (source_at (P.source protocol.now) set.now) bounds.now left) 0 places.items }
     ensures { IfOk result (λ v. IsPlan (source_at (P.source protocol.now) set.now) bounds.now left v.items) }
 {
@@ -168,8 +161,7 @@ pub fn first_plan<R: Threads + Sync, P: ProgramSource + Sync>(
     bounds: &[u64],
     left: u64,
 ) -> Result<Vec<Planned>, AllocError>
-    requires serves { P.serves protocol.now set.now }
-    requires range { IsInRange set.now bounds.now }
+    requires { IsServedAt (P.serves protocol.now) set.now bounds.now }
     ensures { IfOk result (λ v. IsPlan (source_at (P.source protocol.now) set.now) bounds.now left v.items) }
 {
     let threads = first_threads(rt, set);

@@ -25,8 +25,7 @@ fn put<T: Drop>(places: &mut [Option<T>], placed: Placed<T>)
 /// Puts what a thread has found at the places of its tasks.
 fn put_all<T: Drop>(places: &mut [Option<T>], found: Vec<Placed<T>>)
     requires { AreBelow (length places.old) found.items }
-    ensures len { length places.new ≡ length places.old }
-    ensures each { places.new ≡ places_with places.old found.items }
+    ensures { places.new ≡ places_with places.old found.items }
 {
     for placed in found {
         put(places, placed);

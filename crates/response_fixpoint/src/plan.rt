@@ -1,10 +1,11 @@
 //! What a round begins with: the tasks' programs at its bounds, and the solutions that some of them have already.
 
-ghost use Rattle.std.specs.Prelude.{◌≡◌, ℕ, ◌<◌, Ok, length, IfOk, IfSome};
+ghost use Rattle.std.specs.Prelude.{ℕ, length, IfOk};
 ghost use Rattle.program_form.specs.Program.{IsProgram};
 ghost use Rattle.program_sources.specs.Bounds.{IsInRange};
 ghost use Rattle.program_sources.specs.Recurrence.{source_at};
-ghost use Rattle.response_fixpoint.specs.Solutions.{IsPlanned, IsPlan, IsKept, AreKept};
+ghost use Rattle.response_fixpoint.specs.Solutions.{with_limits, IsPlannedFrom, IsPlanned, IsPlan, AreKept};
+ghost use Rattle.response_fixpoint.specs.Given.{IsTaskServedAt, IsKeptFrom};
 
 use crate::task_run::Solution;
 use program_sources::ProgramSource;
@@ -31,8 +32,7 @@ pub struct Planned {
 
 /// The program with its solution, both kept.
 fn take_over(kept: Kept) -> Planned
-    ensures program { result.program ≡ kept.program }
-    ensures ahead { IfSome result.ahead (λ o. (o ≡ Ok kept.solution) × (kept.program ≡ result.program)) }
+    ensures { IsPlannedFrom kept kept.program result }
 {
     let Kept { program, solution } = kept;
     Planned {
@@ -45,9 +45,8 @@ fn take_over(kept: Kept) -> Planned
 /// The program with these limits. If they are the old ones, it keeps its solution. If not, its run is likely to be as much work as the
 /// last one.
 fn renew(kept: Kept, limits: Vec<u64>) -> Planned
-    requires { IsProgram (record { costs = kept.program.costs; rows = kept.program.rows; limits = limits.items }) }
-    ensures program { result.program ≡ record { costs = kept.program.costs; rows = kept.program.rows; limits = limits.items } }
-    ensures ahead { IfSome result.ahead (λ o. (o ≡ Ok kept.solution) × (kept.program ≡ result.program)) }
+    requires { IsProgram (with_limits kept.program limits.items) }
+    ensures { IsPlannedFrom kept (with_limits kept.program limits.items) result }
 {
     if kept.program.limits() == limits.as_slice() {
         return take_over(kept);
@@ -76,11 +75,8 @@ fn planned_after<P: ProgramSource>(
     bounds: &[u64],
     kept: Kept,
 ) -> Result<Planned, AllocError>
-    requires serves { P.serves protocol.now set.now }
-    requires task { i.0 < length set.now.tasks }
-    requires earlier { IsInRange set.now earlier.now }
-    requires range { IsInRange set.now bounds.now }
-    requires kept { IsKept (source_at (P.source protocol.now) set.now) earlier.now i.0 kept }
+    requires served { IsTaskServedAt (P.serves protocol.now) set.now bounds.now i.0 }
+    requires before { IsKeptFrom (source_at (P.source protocol.now) set.now) earlier.now i.0 kept }
     ensures { IfOk result (λ p. (left : ℕ) → IsPlanned (source_at (P.source protocol.now) set.now) bounds.now left i.0 p) }
 {
     // the lists of a set at bounds within its deadlines are a program

@@ -1,7 +1,6 @@
 ghost use Rattle.std.specs.Prelude.{◌≡◌, ◌<◌, ◌^◌, ◌+◌};
-ghost use Rattle.program_sources.specs.Bounds.{IsInRange};
 ghost use Rattle.program_sources.specs.Recurrence.{source_at};
-ghost use Rattle.response_fixpoint.specs.Solutions.{IsPlan};
+ghost use Rattle.response_fixpoint.specs.Given.{BeginsRound};
 ghost use Rattle.response_fixpoint.specs.Answers.{GivesRound, TakesRun, stop_at};
 
 use crate::ahead::solve_ahead;
@@ -99,9 +98,7 @@ pub fn take_round<R: Threads + Sync, P: ProgramSource + Sync>(
     left: u64,
     plan: Vec<Planned>,
 ) -> Result<Round, RoundStop>
-    requires serves { P.serves protocol.now set.now }
-    requires range { IsInRange set.now bounds.now }
-    requires plan { IsPlan (source_at (P.source protocol.now) set.now) bounds.now left plan.items }
+    requires { BeginsRound (P.serves protocol.now) (source_at (P.source protocol.now) set.now) bounds.now left plan.items }
     ensures { GivesRound result (source_at (P.source protocol.now) set.now) bounds.now left }
 {
     let mut round = Round {

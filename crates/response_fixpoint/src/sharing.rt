@@ -1,9 +1,9 @@
 //! How the programs of a round are shared among threads, and when a thread stops.
 
 ghost use Rattle.std.specs.Prelude.{◌≡◌, ◌<◌, ◌≤◌, ◌/◌, ◌^◌, ◌↔◌, length, IsTrue, IfOk};
-ghost use Rattle.program_sources.specs.Bounds.{IsInRange};
 ghost use Rattle.program_sources.specs.Recurrence.{source_at};
 ghost use Rattle.response_fixpoint.specs.Sharing.{IsShare, IsShared, entries_at, entries_in, worth_of, threads_on, AreThreads, GoesOn};
+ghost use Rattle.response_fixpoint.specs.Given.{IsTaskServedAt};
 
 use crate::task_run::Solution;
 use program_sources::{ProgramSource, response};
@@ -124,9 +124,7 @@ pub fn goes_on<P: ProgramSource>(
     bounds: &[u64],
     outcome: &Result<Solution, SolveStop>,
 ) -> bool
-    requires serves { P.serves protocol.now set.now }
-    requires range { IsInRange set.now bounds.now }
-    requires task { task.0 < length set.now.tasks }
+    requires served { IsTaskServedAt (P.serves protocol.now) set.now bounds.now task.0 }
     requires blocking { IfOk outcome.now (λ s. s.blocking < 2 ^ 63) }
     ensures { IsTrue result ↔ GoesOn outcome.now (source_at (P.source protocol.now) set.now) bounds.now task.0 }
 {

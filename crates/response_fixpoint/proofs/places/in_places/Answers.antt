@@ -2,7 +2,7 @@ use Rattle.std.proofs.Common.{◌≡◌, suc, List, Option, ◌∷◌, ◌∙◌
 use Rattle.std.proofs.lemmas.List.{with_items_is}
 use Rattle.std.specs.Prelude.{slice_get}
 use Rattle.response_fixpoint.specs.Places.{AreBelow, places_with, parts_with}
-use Rattle.response_fixpoint.proofs.PlaceLaws.{first_part, none_part}
+use Rattle.response_fixpoint.proofs.PlaceLaws.{put_length, first_part, none_part}
 use Rattle.response_fixpoint.proofs.places.in_places.Goals as goal
 
 pub put_all-requires : goal.put_all-requires
@@ -19,11 +19,13 @@ loop-part-preserved g c =
     let split : c.loop-part.part-iterator.rest.items ≡ c.in-Some.part ∷ rest = c.in-Some.ensures.steps.0 in
     let found = c.in_ok-part.field-0 in
     let long : length c.deref_mut.result.now ≡ length c.loop-part.places.items = ap length c.deref_mut.ensures.value in
-    let written = with_items_is c.loop-part.places c.put_all.new.places (c.put_all.ensures.len ∙ c.deref_mut.ensures.len) in
-    let put : c.put_all.new.places ≡ places_with c.loop-part.places.items found.items = c.put_all.ensures.each
+    let same : length c.put_all.new.places ≡ length c.deref_mut.result.now =
+    ap length c.put_all.ensures ∙ put_length c.deref_mut.result.now found.items in
+    let written = with_items_is c.loop-part.places c.put_all.new.places (same ∙ c.deref_mut.ensures.len) in
+    let put : c.put_all.new.places ≡ places_with c.loop-part.places.items found.items = c.put_all.ensures
     ∙ ap (λ (xs : List (Option _)). places_with xs found.items) c.deref_mut.ensures.value in
     record {
-      len = ap length written ∙ c.put_all.ensures.len ∙ long ∙ c.loop-part.invariant.len;
+      len = ap length written ∙ same ∙ long ∙ c.loop-part.invariant.len;
       below = λ k part here. c.loop-part.invariant.below (suc k) part (ap (λ (xs : List _). slice_get xs (suc k)) split ∙ here);
       each = ap (λ (xs : List (Option _)). parts_with xs rest) (written ∙ put)
           ∙ sym (first_part c.loop-part.places.items found rest)

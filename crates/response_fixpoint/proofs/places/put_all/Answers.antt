@@ -18,8 +18,8 @@ loop-placed-preserved g c =
           ∙ sym (ap (λ (xs : List (Placed _)). places_with c.loop-placed.places xs) split) ∙ c.loop-placed.invariant.each;
     }
 
-pub returns-clause-each : goal.returns-clause-each
-returns-clause-each g c =
+pub returns : goal.returns
+returns g c =
     let none : length c.loop-placed.placed-iterator.rest.items ≡ 0 =
     omega (arith, c.in-None.ensures.steps.0, c.loop-placed.placed-iterator.rest.ok.0) in
     sym (none_put c.loop-placed.places c.loop-placed.placed-iterator.rest.items none) ∙ c.loop-placed.invariant.each

@@ -17,20 +17,27 @@ loop-last-init g c =
       kept = rw (none, given) c.requires.kept.each;
     }
 
-pub planned_after-requires-clause-task : goal.planned_after-requires-clause-task
-planned_after-requires-clause-task g c =
+pub planned_after-requires-clause-served : goal.planned_after-requires-clause-served
+planned_after-requires-clause-served g c =
     let rest : List Kept = c.next.new.self.rest.items in
     let split : c.loop-last.last-iterator.rest.items ≡ c.in-Some.last ∷ rest = c.in-Some.ensures.steps.0 in
     let long : length c.loop-last.last-iterator.rest.items ≡ length rest + 1 = ap length split ∙ omega arith in
-    omega (arith, c.len.ensures, long, c.loop-last.invariant.count)
+    record {
+      serves = c.requires.serves;
+      range = c.requires.range;
+      task = omega (arith, c.len.ensures, long, c.loop-last.invariant.count);
+    }
 
-pub planned_after-requires-clause-kept : goal.planned_after-requires-clause-kept
-planned_after-requires-clause-kept g c =
+pub planned_after-requires-clause-before : goal.planned_after-requires-clause-before
+planned_after-requires-clause-before g c =
     let f : SourceDef = source_at (g.P.ProgramSource.source c.args.protocol.now) c.args.set.now in
     let at : length c.loop-last.plan.items ≡ c.len.result = omega (arith, c.len.ensures) in
-    subst (λ (k : ℕ). IsKept f c.args.earlier.now k c.in-Some.last) at
-    (each_first (IsKept f c.args.earlier.now) (length c.loop-last.plan.items) c.loop-last.last-iterator.rest.items
-    c.next.new.self.rest.items c.in-Some.last c.in-Some.ensures.steps.0 c.loop-last.invariant.kept)
+    record {
+      earlier = c.requires.earlier;
+      kept = subst (λ (k : ℕ). IsKept f c.args.earlier.now k c.in-Some.last) at
+          (each_first (IsKept f c.args.earlier.now) (length c.loop-last.plan.items) c.loop-last.last-iterator.rest.items
+          c.next.new.self.rest.items c.in-Some.last c.in-Some.ensures.steps.0 c.loop-last.invariant.kept);
+    }
 
 pub loop-last-preserved : goal.loop-last-preserved
 loop-last-preserved g c =
