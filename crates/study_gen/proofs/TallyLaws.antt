@@ -19,7 +19,7 @@ use Rattle.response_fixpoint.specs.declared.verdict.Stop.{Stop}
 use Rattle.response_fixpoint.specs.declared.verdict.Stop.TheVariants as stop
 use Rattle.study_gen.specs.Sets.{set_made, behind_set}
 use Rattle.study_gen.specs.Counts.{CountsShown, CountsStopped, behind_sets, set_of_step, step_begins, StoppedBefore, IsStepCount}
-use Rattle.study_gen.specs.Tallies.{IsOutcome, Adds, AddsSet, IsTally, IsStepTally}
+use Rattle.study_gen.specs.Tallies.{IsOutcome, HasRoom, HaveRoom, Adds, AddsSet, IsTally, IsStepTally}
 use Rattle.study_gen.specs.declared.counting.Outcome.TheVariants as outcome
 use Rattle.study_gen.specs.declared.counting.Tally.{Tally}
 use Rattle.study_gen.specs.declared.counting.StepTally.{StepTally}
@@ -179,6 +179,18 @@ begins_more seed sets i s t is at =
 pub stopped_most : (i s sets : ℕ) (t : StepTally) → IsStepTally (i + 1) s sets t → sets ≤ 1000
     → t.mpcp.stopped + t.fmlp.stopped + t.dpcp.stopped ≤ 3000
 stopped_most i s sets t is most = omega (arith, is.mpcp.stopped_most, is.fmlp.stopped_most, is.dpcp.stopped_most, most)
+
+-- There is room for one more set where fewer than 1000 are counted.
+has_room : (p : Protocol) (step s n : ℕ) (t : Tally) → IsTally p step s n t → n < 1000 → HasRoom t
+has_room p step s n t is few =
+    record { shown = omega (arith, is.shown_most, few); stopped = omega (arith, is.stopped_most, few) }
+
+pub step_has_room : (step s n : ℕ) (t : StepTally) → IsStepTally step s n t → n < 1000 → HaveRoom t
+step_has_room step s n t is few = record {
+  mpcp = has_room protocol.Mpcp step s n t.mpcp is.mpcp few;
+  fmlp = has_room protocol.FmlpPlus step s n t.fmlp is.fmlp few;
+  dpcp = has_room protocol.Dpcp step s n t.dpcp is.dpcp few;
+}
 
 -- The tallies of no set.
 pub no_tally : (step s : ℕ) (t : StepTally) → t.mpcp ≡ record { shown = 0; stopped = 0 }

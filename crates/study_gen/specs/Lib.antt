@@ -1,4 +1,5 @@
 pub mod Generator
 pub mod Sets
+pub mod Drawn
 pub mod Counts
 pub mod Tallies

@@ -1,5 +1,5 @@
 -- How the counts of a study grow, set by set.
-use Rattle.std.specs.Prelude.{◌≡◌, ℕ, ◌+◌, ◌≤◌}
+use Rattle.std.specs.Prelude.{◌≡◌, ℕ, ◌+◌, ◌<◌, ◌≤◌}
 use Rattle.sporadic_model.specs.SetDef.{SetDef}
 use Rattle.sporadic_model.specs.declared.ids.Protocol.{Protocol}
 use Rattle.sporadic_model.specs.declared.ids.Protocol.TheVariants as protocol
@@ -15,6 +15,17 @@ abbrev pub IsOutcome : Outcome → Protocol → SetDef → Type 0
 IsOutcome outcome.Shown p set = IsShown p set × (IsStopped p set → ⊥)
 IsOutcome outcome.NotShown p set = (IsShown p set → ⊥) × (IsStopped p set → ⊥)
 IsOutcome outcome.Stopped p set = (IsShown p set → ⊥) × IsStopped p set
+
+-- Has the tally room for one more analysis?
+pub record HasRoom (t : Tally) : Type 0 where
+  pub shown : t.shown < 1000
+  pub stopped : t.stopped < 1000
+
+-- Has each tally of a step room for one more?
+pub record HaveRoom (t : StepTally) : Type 0 where
+  pub mpcp : HasRoom t.mpcp
+  pub fmlp : HasRoom t.fmlp
+  pub dpcp : HasRoom t.dpcp
 
 -- The tally with one more analysis.
 abbrev pub tally_with : Tally → Outcome → Tally

@@ -1,10 +1,10 @@
-ghost use Rattle.std.specs.Prelude.{◌≡◌, ◌+◌, ◌<◌, ◌≤◌, IfOk};
+ghost use Rattle.std.specs.Prelude.{◌≡◌, ◌≤◌, IfOk};
 ghost use Rattle.sporadic_model.specs.Accepted.{IsAccepted};
 ghost use Rattle.sporadic_model.specs.Homes.{HasHomesFor};
 ghost use Rattle.sporadic_model.specs.Seen.{parts_seen};
 ghost use Rattle.study_gen.specs.Sets.{set_made};
 ghost use Rattle.study_gen.specs.Counts.{IsStudy};
-ghost use Rattle.study_gen.specs.Tallies.{IsOutcome, tally_with, Adds, AddsSet, IsStepTally};
+ghost use Rattle.study_gen.specs.Tallies.{IsOutcome, HasRoom, HaveRoom, tally_with, Adds, AddsSet, IsStepTally};
 
 use crate::parts::make_set;
 use response_fixpoint::{Stop, Verdict, analyse};
@@ -76,8 +76,7 @@ fn outcome_of<R: Threads + Sync>(
 
 /// The tally with one more analysis.
 fn with_outcome(tally: Tally, outcome: Outcome) -> Tally
-    requires shown { tally.shown < 1000 }
-    requires stopped { tally.stopped < 1000 }
+    requires { HasRoom tally }
     ensures { result ≡ tally_with tally outcome }
 {
     match outcome {
@@ -102,8 +101,7 @@ fn tally_set<R: Threads + Sync>(
     tally: Tally,
 ) -> Result<Tally, AllocError>
     requires suits { HasHomesFor protocol set.now }
-    requires shown { tally.shown < 1000 }
-    requires stopped { tally.stopped < 1000 }
+    requires room { HasRoom tally }
     ensures { IfOk result (λ after. Adds tally after protocol set.now) }
 {
     let outcome = outcome_of(rt, alloc, set, protocol)?;
@@ -131,9 +129,7 @@ fn study_set<R: Threads + Sync>(
     before: StepTally,
 ) -> Result<StepTally, AllocError>
     requires step { (1 ≤ step) × (step ≤ 8) }
-    requires mpcp { (before.mpcp.shown < 1000) × (before.mpcp.stopped < 1000) }
-    requires fmlp { (before.fmlp.shown < 1000) × (before.fmlp.stopped < 1000) }
-    requires dpcp { (before.dpcp.shown < 1000) × (before.dpcp.stopped < 1000) }
+    requires room { HaveRoom before }
     ensures { IfOk result (λ after. AddsSet before after (set_made step before.state)) }
 {
     let (parts, state) = make_set(alloc, before.state, step)?;

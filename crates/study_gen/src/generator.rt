@@ -1,5 +1,4 @@
-ghost use Rattle.std.specs.Prelude.{◌≡◌, ◌<◌, ◌≤◌, ◌^◌};
-ghost use Rattle.study_gen.specs.Generator.{next_state, drawn, picked};
+ghost use Rattle.study_gen.specs.Generator.{IsDrawn, AreEnds, IsPicked};
 
 const FACTOR: u64 = 6_364_136_223_846_793_005;
 
@@ -14,8 +13,7 @@ pub struct Generator {
 impl Generator {
     /// Draws the next number.
     fn draw(&mut self) -> u64
-        ensures value { result ≡ drawn self.old.state }
-        ensures state { self.new.state ≡ next_state self.old.state }
+        ensures { IsDrawn result self.old.state self.new.state }
     {
         self.state = self.state.wrapping_mul(FACTOR).wrapping_add(STEP);
         self.state >> 33
@@ -23,12 +21,8 @@ impl Generator {
 
     /// Picks a number from `least` to `most`.
     pub fn pick(&mut self, least: u64, most: u64) -> u64
-        requires order { least ≤ most }
-        requires most { most < 2 ^ 63 }
-        ensures value { result ≡ picked self.old.state least most }
-        ensures state { self.new.state ≡ next_state self.old.state }
-        ensures from { least ≤ result }
-        ensures to { result ≤ most }
+        requires { AreEnds least most }
+        ensures { IsPicked result least most self.old.state self.new.state }
     {
         least + self.draw() % (most - least + 1)
     }

@@ -1,11 +1,10 @@
-ghost use Rattle.std.specs.Prelude.{◌≡◌, ◌<◌, ◌≤◌, ◌++◌, nat_lt, length, map, IfOk, IfSome, OnOk};
-ghost use Rattle.std.specs.List.{position, position_or_len};
+ghost use Rattle.std.specs.Prelude.{◌≡◌, ◌<◌, ◌≤◌, nat_lt, length, map, IfOk, IfSome, OnOk};
+ghost use Rattle.std.specs.List.{position};
 ghost use Rattle.sporadic_model.specs.Accepted.{IsAccepted};
 ghost use Rattle.sporadic_model.specs.Homes.{EachHasHome};
-ghost use Rattle.sporadic_model.specs.Seen.{parts_seen, request_seen, resource_seen, task_seen};
-ghost use Rattle.study_gen.specs.Generator.{next_state};
-ghost use Rattle.study_gen.specs.Sets.{resources, entry_at, behind_entry, entries_at, period_at, task_drawn};
-ghost use Rattle.study_gen.specs.Sets.{behind_task, with_task_in_place, set_made, behind_set};
+ghost use Rattle.sporadic_model.specs.Seen.{parts_seen, resource_seen, task_seen};
+ghost use Rattle.study_gen.specs.Sets.{resources, with_task_in_place, set_made, behind_set};
+ghost use Rattle.study_gen.specs.Drawn.{DrawsEntry, AreDrawn, IsPeriodDrawn, IsTaskOfStep, IsTaskDrawn, IsPlaceFor};
 
 use crate::generator::Generator;
 use sporadic_model::{Parts, RequestPart, ResourcePart, TaskPart};
@@ -47,9 +46,7 @@ fn draw_entry(
     name: &str,
     entries: &mut Vec<RequestPart>,
 ) -> Result<(), AllocError>
-    ensures entries { OnOk result (map request_seen entries.new.items
-        ≡ map request_seen entries.old.items ++ entry_at name.now generator.old.state) }
-    ensures state { OnOk result (generator.new.state ≡ behind_entry generator.old.state) }
+    ensures { OnOk result (DrawsEntry name.now entries.old.items entries.new.items generator.old.state generator.new.state) }
 {
     if generator.pick(0, 3) == 0 {
         let count = generator.pick(1, 2);
@@ -65,8 +62,7 @@ fn draw_entry(
 
 /// Draws the entries of a task.
 fn draw_entries(alloc: Global, generator: &mut Generator) -> Result<Vec<RequestPart>, AllocError>
-    ensures entries { IfOk result (λ v. map request_seen v.items ≡ entries_at generator.old.state) }
-    ensures state { OnOk result (generator.new.state ≡ behind_entry (behind_entry (behind_entry generator.old.state))) }
+    ensures { IfOk result (λ v. AreDrawn v.items generator.old.state generator.new.state) }
 {
     let mut entries = Vec::new(alloc);
     draw_entry(alloc, generator, "r1", &mut entries)?;
@@ -77,9 +73,7 @@ fn draw_entries(alloc: Global, generator: &mut Generator) -> Result<Vec<RequestP
 
 /// Draws a period.
 fn draw_period(generator: &mut Generator) -> u64
-    ensures value { result ≡ period_at generator.old.state }
-    ensures state { generator.new.state ≡ next_state generator.old.state }
-    ensures most { result ≤ 1000000 }
+    ensures { IsPeriodDrawn result generator.old.state generator.new.state }
 {
     PERIODS[generator.pick(0, 7) as usize]
 }
@@ -91,10 +85,8 @@ fn draw_task(
     step: u32,
     j: u64,
 ) -> Result<TaskPart, AllocError>
-    requires step { step ≤ 8 }
-    requires task { j < 8 }
-    ensures task { IfOk result (λ t. task_seen t ≡ task_drawn step j generator.old.state) }
-    ensures state { OnOk result (generator.new.state ≡ behind_task generator.old.state) }
+    requires { IsTaskOfStep step j }
+    ensures { IfOk result (λ task. IsTaskDrawn step j task generator.old.state generator.new.state) }
 {
     let period = draw_period(generator);
     let step = u64::from(step);
@@ -122,8 +114,7 @@ fn first_longer(tasks: &[TaskPart], period: u64) -> Option<usize>
 
 /// The position of the first task of a longer period, or the end.
 fn place_of(tasks: &[TaskPart], period: u64) -> usize
-    ensures value { result ≡ position_or_len (λ t. nat_lt period t.period) (map task_seen tasks.now) }
-    ensures within { result ≤ length tasks.now }
+    ensures { IsPlaceFor tasks.now period result }
 {
     first_longer(tasks, period).unwrap_or(tasks.len())
 }
