@@ -15,7 +15,7 @@ use Rattle.phase_machine.specs.MachineDef.{MachineDef}
 use Rattle.phase_machine.specs.Taking.{IsRowFor}
 use Rattle.sim_engine.specs.Simulated.{IsSimulated}
 use Rattle.sim_engine.specs.Choosing.{AreChosenSoFar, StandsFor}
-use Rattle.sim_engine.specs.Writing.{rows_with, all_runs, AddsRows, IsUnderWay}
+use Rattle.sim_engine.specs.Writing.{rows_with, all_runs, CanEnd, AddsRows, IsUnderWay}
 use Rattle.sim_engine.proofs.ChosenRows.{over, chosen_again}
 use Rattle.sim_engine.proofs.Runs.{ticks_with, longer_before, added_before, added_here, joined_longer, joined_more, lasting_more}
 
@@ -37,19 +37,20 @@ none_due : (list : JobsDef) (runs : List RunDef) (run : RunDef) → is_in_range 
     → ltb MOST_TICKS (ticks_of runs + run.ticks) ≡ false → first_refusal (rows_with list runs) run ≡ None
 none_due list runs run number named most = rw (number, named, most) refl
 
--- The run that goes on is not refused when it ends.
-pub run_free : (chooses : Trace → ℕ → Type 0) (m : MachineDef) (rows : RowsDef) (last : RunDef)
-    → IsUnderWay chooses m rows last → m.tick ≤ MOST_TICKS → first_refusal rows last ≡ None
-run_free chooses m rows last u most =
+-- The run that goes on can end.
+pub can_end : (chooses : Trace → ℕ → Type 0) (m : MachineDef) (rows : RowsDef) (last : RunDef)
+    → IsUnderWay chooses m rows last → m.tick ≤ MOST_TICKS → CanEnd rows last
+can_end chooses m rows last u most =
     let within : ticks_of rows.runs + last.ticks ≤ MOST_TICKS = omega (arith, u.tick, most) in
     let number : is_in_range 1 MOST_TICKS last.ticks ≡ true = and_from (leb 1 last.ticks) (leb last.ticks MOST_TICKS)
     (le-leb 1 last.ticks u.lasts) (le-leb last.ticks MOST_TICKS (omega (arith, within))) in
-    let named : names_jobs (length m.list.jobs) last.row ≡ true =
-    (and_parts (is_sized m.list.set.processors (length m.list.set.resources) last.row)
-    (names_jobs (length m.list.jobs) last.row) (passes m.list last.row u.last_fits)).1 in
-    let free : first_refusal (rows_with m.list rows.runs) last ≡ None =
-    none_due m.list rows.runs last number named (le-ltb MOST_TICKS (ticks_of rows.runs + last.ticks) within) in
-    subst (λ (r : RowsDef). first_refusal r last ≡ None) (sym u.made) free
+    let fits : (is_sized m.list.set.processors (length m.list.set.resources) last.row ≡ true)
+    × (names_jobs (length m.list.jobs) last.row ≡ true) = and_parts _ _ (passes m.list last.row u.last_fits) in
+    let can : CanEnd (rows_with m.list rows.runs) last = record {
+      sized = fits.0;
+      free = none_due m.list rows.runs last number fits.1 (le-ltb MOST_TICKS (ticks_of rows.runs + last.ticks) within);
+    } in
+    subst (λ (r : RowsDef). CanEnd r last) (sym u.made) can
 
 -- The first run.
 pub first_run : (chooses : Trace → ℕ → Type 0) (m n : MachineDef) (list : JobsDef) (rows : RowsDef) (row copy : RowDef)

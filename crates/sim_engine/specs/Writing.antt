@@ -1,8 +1,8 @@
 -- How rows are written, one after the other: a list of the runs that have ended, and the run that may still go on.
-use Rattle.std.specs.Prelude.{◌≡◌, ◌≢◌, ℕ, ◌+◌, ◌≤◌, true, List, [], ◌∷◌, ◌++◌, length, ◌⊎◌}
+use Rattle.std.specs.Prelude.{◌≡◌, ◌≢◌, ℕ, ◌+◌, ◌≤◌, true, List, [], ◌∷◌, ◌++◌, length, None, IsTrue, ◌⊎◌}
 use Rattle.schedule_model.specs.JobDef.{JobsDef}
 use Rattle.schedule_model.specs.RowDef.{RowDef, RunDef, Trace, row_in, ticks_of}
-use Rattle.schedule_model.specs.Fitting.{RowsDef, is_fitting, with_run}
+use Rattle.schedule_model.specs.Fitting.{RowsDef, is_sized, is_fitting, first_refusal, with_run}
 use Rattle.phase_machine.specs.MachineDef.{MachineDef}
 use Rattle.phase_machine.specs.Taking.{IsRowFor}
 use Rattle.sim_engine.specs.Joined.{AreJoined}
@@ -21,6 +21,11 @@ rows_with list runs = record {
 -- All runs: those that have ended, and the one that may still go on.
 abbrev pub all_runs : RowsDef → RunDef → List RunDef
 all_runs rows last = rows.runs ++ last ∷ []
+
+-- Can the run end, and be put at the end of the list?
+pub record CanEnd (rows : RowsDef) (last : RunDef) : Type 0 where
+  pub sized : IsTrue (is_sized rows.processors rows.resources last.row)
+  pub free : first_refusal rows last ≡ None
 
 -- The row is that of the last run, which goes on for this many ticks.
 pub record GoesOn (rows : RowsDef) (last : RunDef) (row : RowDef) (more : ℕ) (after : RowsDef) (next : RunDef) : Type 0 where

@@ -1,8 +1,8 @@
-ghost use Rattle.std.specs.Prelude.{◌≡◌, ◌+◌, ◌≤◌, IsTrue, None, OnOk};
+ghost use Rattle.std.specs.Prelude.{◌≡◌, ◌+◌, ◌≤◌, OnOk};
 ghost use Rattle.sporadic_model.specs.declared.limits.TheConstants.{MOST_TICKS};
-ghost use Rattle.schedule_model.specs.Fitting.{is_sized, first_refusal, with_run};
+ghost use Rattle.schedule_model.specs.Fitting.{with_run};
 ghost use Rattle.schedule_model.specs.Seen.{row_seen, run_seen};
-ghost use Rattle.sim_engine.specs.Writing.{AddsRows};
+ghost use Rattle.sim_engine.specs.Writing.{CanEnd, AddsRows};
 
 use crate::places::{copy_of, is_same_row};
 use schedule_model::{Row, RowList, RowRefusal, RowRun};
@@ -11,8 +11,7 @@ use std::mem;
 
 /// Puts a run at the end of the list, which refuses it only for want of memory.
 pub(crate) fn push_run(rows: &mut RowList, run: RowRun) -> Result<(), AllocError>
-    requires sized { IsTrue (is_sized rows.old.processors rows.old.resources (run_seen run).row) }
-    requires free { first_refusal rows.old (run_seen run) ≡ None }
+    requires { CanEnd rows.old (run_seen run) }
     ensures { OnOk result (rows.new ≡ with_run rows.old (run_seen run)) }
 {
     match rows.push(run) {
@@ -30,8 +29,7 @@ pub(crate) fn add_rows(
     row: &Row,
     ticks: u64,
 ) -> Result<(), AllocError>
-    requires sized { IsTrue (is_sized rows.old.processors rows.old.resources (run_seen last.old).row) }
-    requires free { first_refusal rows.old (run_seen last.old) ≡ None }
+    requires ends { CanEnd rows.old (run_seen last.old) }
     requires room { last.old.ticks + ticks ≤ MOST_TICKS }
     ensures { OnOk result (AddsRows rows.old (run_seen last.old) (row_seen row.now) ticks rows.new (run_seen last.new)) }
 {

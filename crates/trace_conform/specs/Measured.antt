@@ -1,5 +1,5 @@
 -- The measures of a task, from the counts of its jobs and from the machine at the end.
-use Rattle.std.specs.Prelude.{ℕ, ◌-◌, ◌==◌, ◌&&◌, Bool, List, length, None, Some, if◌then◌else◌}
+use Rattle.std.specs.Prelude.{◌≡◌, ℕ, ◌-◌, ◌<◌, ◌==◌, ◌&&◌, Bool, List, length, slice_index_or, None, Some, if◌then◌else◌}
 use Rattle.number_laws.specs.Sums.{only_if}
 use Rattle.number_laws.specs.Tests.{count_below}
 use Rattle.schedule_model.specs.JobDef.{job_of}
@@ -7,6 +7,8 @@ use Rattle.schedule_model.specs.Phase.{is_finished}
 use Rattle.schedule_model.specs.Measures.{MeasuresDef, greatest_below}
 use Rattle.phase_machine.specs.MachineDef.{MachineDef, task_in}
 use Rattle.phase_machine.specs.Now.{phase_now}
+use Rattle.schedule_answers.specs.declared.judged.TaskMeasure.{TaskMeasure}
+use Rattle.schedule_answers.specs.TaskAnswers.{no_measure, measure_seen}
 use Rattle.trace_conform.specs.declared.counts.JobCount.{JobCount}
 use Rattle.trace_conform.specs.Counts.{count_at}
 
@@ -30,3 +32,13 @@ measures_now m counts x = record {
       else Some (greatest_below (length m.list.jobs) (response_now m counts x));
   blocking = greatest_below (length m.list.jobs) (blocking_now m counts x);
 }
+
+-- Is j one of the machine's jobs, and is there a count for each of them?
+pub record HasCount (m : MachineDef) (counts : List JobCount) (j : ℕ) : Type 0 where
+  pub listed : j < length m.list.jobs
+  pub size : length counts ≡ length m.list.jobs
+
+-- Are these the measures of each task?
+pub record MeasuresEach (m : MachineDef) (counts : List JobCount) (measures : List TaskMeasure) : Type 0 where
+  pub size : length measures ≡ length m.list.set.tasks
+  pub each : (x : ℕ) → x < length m.list.set.tasks → measure_seen (slice_index_or measures x no_measure) ≡ measures_now m counts x

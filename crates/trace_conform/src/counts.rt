@@ -1,10 +1,7 @@
-ghost use Rattle.std.specs.Prelude.{◌≡◌, ℕ, ◌+◌, ◌<◌, ◌≤◌, Bool, length, IfOk};
-ghost use Rattle.sporadic_model.specs.declared.limits.TheConstants.{MOST_TICKS};
+ghost use Rattle.std.specs.Prelude.{◌≡◌, ℕ, Bool, length, IfOk};
 ghost use Rattle.schedule_model.specs.RowDef.{Trace, row_in};
-ghost use Rattle.schedule_model.specs.BlockedTicks.{is_blocked};
 ghost use Rattle.phase_machine.specs.MachineDef.{under};
-ghost use Rattle.trace_walk.specs.LawfulRow.{IsAtLawfulRow};
-ghost use Rattle.trace_conform.specs.Counts.{count_at, counted_on, AddsTicks, AreCounts};
+ghost use Rattle.trace_conform.specs.Counts.{counted_at, CanCountJob, CanCountIn, CanCountTicks, CountsJob, AddsTicks, AreCounts};
 
 use phase_machine::{Judge, Machine};
 use schedule_model::{JobId, RowReader};
@@ -41,13 +38,8 @@ fn count_on<P: Judge, R: RowReader>(
     j: JobId,
     count: JobCount,
 ) -> JobCount
-    requires suits { P.suits protocol.now machine.now.list.set }
-    requires row { IsAtLawfulRow (P.keeps protocol.now) (R.rows rows.now) (R.at rows.now) machine.now }
-    requires listed { j.0 < length machine.now.list.jobs }
-    requires room { count.blocked + ticks ≤ MOST_TICKS }
-    ensures { result ≡ counted_on
-        (is_blocked (P.interferes protocol.now) (under machine.now (row_in (R.rows rows.now).runs)) machine.now.tick j.0)
-        machine.now.tick ticks count }
+    requires { CanCountJob (P.suits protocol.now) (P.keeps protocol.now) (R.rows rows.now) (R.at rows.now) machine.now j.0 ticks count }
+    ensures { result ≡ counted_at (P.interferes protocol.now) machine.now (R.rows rows.now).runs j.0 ticks count }
 {
     let end = machine.tick() + ticks;
     if protocol.blocked(machine, &rows.run().row, j) {
@@ -71,16 +63,8 @@ fn count_job<P: Judge, R: RowReader>(
     j: JobId,
     counts: &mut [JobCount],
 )
-    requires suits { P.suits protocol.now machine.now.list.set }
-    requires row { IsAtLawfulRow (P.keeps protocol.now) (R.rows rows.now) (R.at rows.now) machine.now }
-    requires listed { j.0 < length machine.now.list.jobs }
-    requires size { length counts.old ≡ length machine.now.list.jobs }
-    requires room { (count_at counts.old j.0).blocked + ticks ≤ MOST_TICKS }
-    ensures size { length counts.new ≡ length counts.old }
-    ensures own { count_at counts.new j.0 ≡ counted_on
-        (is_blocked (P.interferes protocol.now) (under machine.now (row_in (R.rows rows.now).runs)) machine.now.tick j.0) machine.now.tick ticks
-        (count_at counts.old j.0) }
-    ensures others { (k : ℕ) → (k ≡ j.0 → ⊥) → count_at counts.new k ≡ count_at counts.old k }
+    requires { CanCountIn (P.suits protocol.now) (P.keeps protocol.now) (R.rows rows.now) (R.at rows.now) machine.now j.0 ticks counts.old }
+    ensures { CountsJob (P.interferes protocol.now) machine.now (R.rows rows.now).runs j.0 ticks counts.old counts.new }
 {
     counts[j.0 as usize] = count_on(protocol, rows, machine, ticks, j, counts[j.0 as usize]);
 }
@@ -100,10 +84,7 @@ pub(crate) fn count_ticks<P: Judge, R: RowReader>(
     ticks: u64,
     counts: &mut [JobCount],
 )
-    requires suits { P.suits protocol.now machine.now.list.set }
-    requires row { IsAtLawfulRow (P.keeps protocol.now) (R.rows rows.now) (R.at rows.now) machine.now }
-    requires size { length counts.old ≡ length machine.now.list.jobs }
-    requires room { (j : ℕ) → j < length machine.now.list.jobs → (count_at counts.old j).blocked + ticks ≤ MOST_TICKS }
+    requires { CanCountTicks (P.suits protocol.now) (P.keeps protocol.now) (R.rows rows.now) (R.at rows.now) machine.now ticks counts.old }
     ensures { AddsTicks (P.interferes protocol.now) (under machine.now (row_in (R.rows rows.now).runs)) machine.now.tick ticks
         counts.old counts.new }
 {

@@ -1,10 +1,10 @@
-ghost use Rattle.std.specs.Prelude.{◌≡◌, ℕ, ◌<◌, Bool, length, IfOk, slice_index_or};
+ghost use Rattle.std.specs.Prelude.{◌≡◌, ℕ, ◌<◌, Bool, length, IfOk};
 ghost use Rattle.schedule_model.specs.RowDef.{Trace, jobs_of};
 ghost use Rattle.phase_machine.specs.Shows.{Shows};
 ghost use Rattle.schedule_answers.specs.Conforming.{AreMeasures};
-ghost use Rattle.schedule_answers.specs.TaskAnswers.{no_measure, measure_seen};
+ghost use Rattle.schedule_answers.specs.TaskAnswers.{measure_seen};
 ghost use Rattle.trace_conform.specs.Counts.{AreCounts};
-ghost use Rattle.trace_conform.specs.Measured.{counts_now, response_now, blocking_now, measures_now};
+ghost use Rattle.trace_conform.specs.Measured.{counts_now, response_now, blocking_now, measures_now, HasCount, MeasuresEach};
 
 use crate::counts::JobCount;
 use phase_machine::{Machine, Phase};
@@ -25,8 +25,7 @@ fn is_finished_job(machine: &Machine, x: TaskId, j: JobId) -> bool
 /// How long the job took, if it is of the task and finished, and else 0.
 #[tactic(auto, unfolding(crate::specs::Measured::response_now))]
 fn response_for(machine: &Machine, counts: &[JobCount], x: TaskId, j: JobId) -> u64
-    requires listed { j.0 < length machine.now.list.jobs }
-    requires size { length counts.now ≡ length machine.now.list.jobs }
+    requires { HasCount machine.now counts.now j.0 }
     ensures { result ≡ response_now machine.now counts.now x.0 j.0 }
 {
     if is_finished_job(machine, x, j) {
@@ -40,8 +39,7 @@ fn response_for(machine: &Machine, counts: &[JobCount], x: TaskId, j: JobId) -> 
 /// At how many ticks the job was blocked, if it is of the task, and else 0.
 #[tactic(auto, unfolding(crate::specs::Measured::blocking_now))]
 fn blocking_for(machine: &Machine, counts: &[JobCount], x: TaskId, j: JobId) -> u64
-    requires listed { j.0 < length machine.now.list.jobs }
-    requires size { length counts.now ≡ length machine.now.list.jobs }
+    requires { HasCount machine.now counts.now j.0 }
     ensures { result ≡ blocking_now machine.now counts.now x.0 j.0 }
 {
     if machine.jobs().job(j).task == x {
@@ -80,9 +78,7 @@ fn measure_all(
     counts: &[JobCount],
 ) -> Result<Vec<TaskMeasure>, AllocError>
     requires size { length counts.now ≡ length machine.now.list.jobs }
-    ensures size { IfOk result (λ v. length v.items ≡ length machine.now.list.set.tasks) }
-    ensures each { IfOk result (λ v. (x : ℕ) → x < length machine.now.list.set.tasks
-        → measure_seen (slice_index_or v.items x no_measure) ≡ measures_now machine.now counts.now x) }
+    ensures { IfOk result (λ v. MeasuresEach machine.now counts.now v.items) }
 {
     let tasks = machine.jobs().set().tasks();
     let mut measures = Vec::with_capacity(alloc, tasks as usize)?;

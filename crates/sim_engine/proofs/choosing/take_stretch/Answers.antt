@@ -3,16 +3,16 @@ use Rattle.std.proofs.lemmas.Result.{on_ok_weaker}
 use Rattle.schedule_model.specs.RowDef.{row_in}
 use Rattle.schedule_model.specs.Seen.{row_seen, run_seen}
 use Rattle.sim_engine.specs.Writing.{all_runs}
-use Rattle.sim_engine.proofs.WrittenRows.{run_free, stretch_more}
+use Rattle.sim_engine.proofs.WrittenRows.{can_end, stretch_more}
 use Rattle.sim_engine.proofs.choosing.take_stretch.Goals as goal
 
 pub next_rows-ticks-requires-clause-reached : goal.next_rows-ticks-requires-clause-reached
 next_rows-ticks-requires-clause-reached g c = (row_in (all_runs c.args.rows.now (run_seen c.args.last.now)), c.requires.under_way.chosen)
 
-pub add_rows-requires-clause-free : goal.add_rows-requires-clause-free
-add_rows-requires-clause-free g c =
-    run_free (g.P.BlockingProtocol.chooses c.args.protocol.now) c.args.machine.now c.args.rows.now
-    (run_seen c.args.last.now) c.requires.under_way (omega (arith, c.requires.early, c.requires.most))
+pub add_rows-requires-clause-ends : goal.add_rows-requires-clause-ends
+add_rows-requires-clause-ends g c =
+    can_end (g.P.BlockingProtocol.chooses c.args.protocol.now) c.args.machine.now c.args.rows.now
+    (run_seen c.args.last.now) c.requires.under_way (omega (arith, c.requires.can.early, c.requires.can.most))
 
 pub returns-clause-under_way : goal.returns-clause-under_way
 returns-clause-under_way g c =

@@ -5,7 +5,7 @@ use Rattle.schedule_model.specs.Chosen.{IsSized}
 use Rattle.schedule_model.specs.Seen.{row_seen, run_seen}
 use Rattle.phase_machine.specs.Taking.{IsRowFor}
 use Rattle.sim_engine.specs.Simulated.{IsSimulated}
-use Rattle.sim_engine.proofs.WrittenRows.{run_free, first_run, simulated, fits_jobs}
+use Rattle.sim_engine.proofs.WrittenRows.{can_end, first_run, simulated, fits_jobs}
 use Rattle.sim_engine.proofs.simulating.simulate_with.Goals as goal
 
 pub next_rows-first-requires-clause-reached : goal.next_rows-first-requires-clause-reached
@@ -35,9 +35,9 @@ loop-alloc-init g c =
           });
     }
 
-pub push_run-requires-clause-free : goal.push_run-requires-clause-free
-push_run-requires-clause-free g c =
-    run_free (g.P.BlockingProtocol.chooses c.args.protocol.now) c.loop-alloc.machine c.loop-alloc.rows
+pub push_run-requires : goal.push_run-requires
+push_run-requires g c =
+    can_end (g.P.BlockingProtocol.chooses c.args.protocol.now) c.loop-alloc.machine c.loop-alloc.rows
     (run_seen c.loop-alloc.last) c.loop-alloc.invariant.under_way
     (omega (arith, c.loop-alloc.invariant.within, c.requires.most))
 

@@ -10,8 +10,8 @@ use Rattle.trace_conform.proofs.CountedTicks.{none_more, one_more, all_counted}
 use Rattle.trace_conform.proofs.counts.count_ticks.Goals.{in-Some, in_default}
 use Rattle.trace_conform.proofs.counts.count_ticks.Goals as goal
 
-pub count_job-requires-clause-room : goal.count_job-requires-clause-room
-count_job-requires-clause-room g c =
+pub count_job-requires : goal.count_job-requires
+count_job-requires g c =
     let e : current_now c.args.machine.now c.loop-x.x ≡ Some c.in-Some.j.0 = sym c.current.ensures.value ∙ ap place_seen c.in-Some.is in
     let own : (is_active (under c.args.machine.now (row_in (g.R.RowReader.rows c.args.rows.now).runs)) c.args.machine.now.tick c.in-Some.j.0
     ≡ true) × (task_in c.args.machine.now.list.jobs c.in-Some.j.0 ≡ c.loop-x.x) =
@@ -19,7 +19,15 @@ count_job-requires-clause-room g c =
     (omega (arith, c.loop-x-test.true, c.tasks_of-x-end.ensures)) e in
     let same : (count_at c.loop-x.counts c.in-Some.j.0).blocked ≡ (count_at c.args.counts.now c.in-Some.j.0).blocked =
     ap (λ n. n.blocked) (c.loop-x.invariant.below.rest c.in-Some.j.0 (omega (arith, own.1))) in
-    omega (arith, same, c.requires.room c.in-Some.j.0 c.in-Some.ensures.within)
+    record {
+      job = record {
+        suits = c.requires.suits;
+        row = c.requires.row;
+        listed = c.in-Some.ensures.within;
+        room = omega (arith, same, c.requires.room c.in-Some.j.0 c.in-Some.ensures.within);
+      };
+      size = c.loop-x.invariant.size ∙ c.requires.size;
+    }
 
 pub loop-x-preserved : goal.loop-x-preserved
 loop-x-preserved g c = elim c.match-current.branch [

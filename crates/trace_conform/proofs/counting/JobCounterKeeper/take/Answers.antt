@@ -7,14 +7,19 @@ use Rattle.trace_conform.proofs.FirstCounts.{room_left}
 use Rattle.trace_conform.proofs.CountedTicks.{counts_on}
 use Rattle.trace_conform.proofs.counting.JobCounterKeeper.take.Goals as goal
 
-pub count_ticks-requires-clause-room : goal.count_ticks-requires-clause-room
-count_ticks-requires-clause-room g c = λ j l.
+pub count_ticks-requires : goal.count_ticks-requires
+count_ticks-requires g c =
     let w : Trace = under c.args.machine.now (row_in (g.R.RowReader.rows c.args.rows.now).runs) in
     let counts : AreCounts (g.P.BlockingProtocol.interferes c.args.protocol.now) w c.args.machine.now.tick c.deref_mut.result.now =
     subst (λ counts. AreCounts (g.P.BlockingProtocol.interferes c.args.protocol.now) w c.args.machine.now.tick counts)
     (sym c.deref_mut.ensures.value) c.requires.kept in
-    room_left (g.P.BlockingProtocol.interferes c.args.protocol.now) w c.args.machine.now.tick c.args.ticks c.deref_mut.result.now j
-    counts l c.requires.stretch.early
+    record {
+      suits = c.requires.suits;
+      row = record { at = c.requires.stretch.at; shows = c.requires.stretch.shows; lawful = c.requires.stretch.lawful };
+      size = counts.size;
+      room = λ j l. room_left (g.P.BlockingProtocol.interferes c.args.protocol.now) w c.args.machine.now.tick c.args.ticks
+          c.deref_mut.result.now j counts l c.requires.stretch.early;
+    }
 
 pub returns : goal.returns
 returns g c =
