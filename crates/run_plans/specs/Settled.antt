@@ -62,10 +62,10 @@ SettlesExactly call protocol digest set = (Rose call.shelf_before.faults call.sh
     → (Rose call.sink_before.faults call.sink_now.faults → ⊥) → (RanOut call → ⊥) → call.status ≢ 5 → call.status ≢ 6
     → WritesLeast call protocol digest set ↔ ((s : List ℕ) × AreFitting (source_of protocol set) s)
 
--- What status 5 says. The call names a task of the set that the shelf gave. Either the analysis is wide, and the task's program needs more
--- than 63 bits: at some vector of the recurrence's rounds its run's end is too great to be written, or its dual at the least bounds, as it is
--- written, loses the whole part of the optimum. Or no bounds within all deadlines satisfy the recurrence, and the walk with rounded points
--- passes no deadline.
+-- What status 5 says. The call names a task of the set that the shelf gave. Either the analysis is wide, and the walk with exact points ends
+-- wide at that task: its run's end is too great there to be written, or its dual at the least bounds, as it is written, loses the whole part
+-- of the optimum. So its program needs more than 63 bits. Or no bounds within all deadlines satisfy the recurrence, and the walk with rounded
+-- points passes no deadline.
 pub record IsLeftWide (call : Call) (protocol : ProtocolName) (name : List ℕ) (more : List (List ℕ)) : Type 0 where
   pub set : SetDef
   pub read : ReadsSome call protocol name set

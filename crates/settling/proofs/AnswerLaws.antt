@@ -2,7 +2,7 @@
 use Rattle.std.proofs.Common.{◌≡◌, ℕ, ◌<◌, List, map, Ok, Err, IfOk, inl, inr, subst}
 use Rattle.std.specs.Prelude.{◌↔◌, Bool, Result}
 use Rattle.std.specs.declared.option.Option.{Option}
-use Rattle.program_form.specs.Certificate.{CertificateDef, dual_seen, certificate_seen}
+use Rattle.program_form.specs.Certificate.{CertificateDef, DualDef, dual_seen, certificate_seen}
 use Rattle.program_sources.specs.Recurrence.{SourceDef}
 use Rattle.program_sources.specs.Fitting.{AreFitting, AreLeastFitting, tasks_of}
 use Rattle.response_fixpoint.specs.Answers.{Answers, IsBest, IsRight as IsRightVerdict}
@@ -66,7 +66,7 @@ to_refuse_of f allowance r refusal wide rises is =
     record { none = shows.none; left = inl (wide, shows.late) }
 
 pub open_if_wide : (f : SourceDef) (allowance i : ℕ) → MayBeWide f allowance i → IsLeftOpen f allowance
-open_if_wide f allowance i (inl (wide, needs)) = inl wide
+open_if_wide f allowance i (inl (wide, walks, needs)) = inl wide
 open_if_wide f allowance i (inr (to, unrefuted)) = open_of f allowance to
 
 pub keeps_of : (f : SourceDef) (allowance : ℕ) (r : Result Settled SettleStop) → HasOneEnding f allowance → Settles r f allowance
@@ -132,7 +132,7 @@ NeedsMoreIfWide f allowance = (i : ℕ) → EndsIn (walk Exact f) allowance (Wid
 pub answers_stop : (f : SourceDef) (allowance : ℕ) (e : SettleStop) → IsWideToAnalyse f allowance → NeedsMoreIfWide f allowance
     → StopsWalk Exact f allowance e → IsAnswered f allowance (Err e)
 answers_stop f allowance (stop.Wide task) wide needs ends = record {
-  settles = inl (wide, needs task.0 ends);
+  settles = inl (wide, inl ends, needs task.0 ends);
   right = tt;
   enough = tt;
   names = walk_within Exact f allowance task.0 ends;
@@ -142,24 +142,25 @@ answers_stop f allowance stop.Allowance wide needs ends =
     record { settles = inr (inl (wide, ends)); right = tt; enough = tt; names = tt; bits = tt }
 answers_stop f allowance stop.Memory wide needs ends = answers_nothing f allowance
 
-pub answers_lost : (f : SourceDef) (allowance : ℕ) (v : List ℕ) (e : SettleStop) → IsWideToAnalyse f allowance
+pub answers_lost : (f : SourceDef) (allowance : ℕ) (v : List ℕ) (duals : List DualDef) (e : SettleStop) → IsWideToAnalyse f allowance
+    → EndsIn (walk Exact f) allowance (Schedulable v duals)
     → ((i : ℕ) → i < tasks_of f → AreLeastFitting f v → LosesWhole (f.program i v) → NeedsMoreBits f i) → StopsLost f v e
     → IsAnswered f allowance (Err e)
-answers_lost f allowance v (stop.Wide task) wide needs (within, least, loses) = record {
-  settles = inl (wide, needs task.0 within least loses);
+answers_lost f allowance v duals (stop.Wide task) wide ends needs (within, least, loses) = record {
+  settles = inl (wide, inr (v, duals, ends, least, loses), needs task.0 within least loses);
   right = tt;
   enough = tt;
   names = within;
   bits = tt;
 }
-answers_lost f allowance v stop.Allowance wide needs stops = absurd stops
-answers_lost f allowance v stop.Memory wide needs stops = answers_nothing f allowance
+answers_lost f allowance v duals stop.Allowance wide ends needs stops = absurd stops
+answers_lost f allowance v duals stop.Memory wide ends needs stops = answers_nothing f allowance
 
 -- The answers where it is left to a walk to refuse the set: a refusal, or why there is none.
-pub answers_refused : (f : SourceDef) (allowance : ℕ) (s : Settled) → IsToRefuse f allowance → IsRefusedSo f s → RefusesIn64Bits s
+pub answers_refused : (f : SourceDef) (allowance : ℕ) (s : Settled) → IsToRefuse f allowance → IsRefusedSo f s
     → IsAnswered f allowance (Ok s)
-answers_refused f allowance (settled.Schedulable certificate) to is bits = absurd is
-answers_refused f allowance (settled.Refused refusal) to (right, small) bits =
+answers_refused f allowance (settled.Schedulable certificate) to is = absurd is
+answers_refused f allowance (settled.Refused refusal) to (right, small, bits) =
     record { settles = inr (to, small); right = right; enough = tt; names = tt; bits = bits }
 
 pub answers_unrefuted : (f : SourceDef) (allowance : ℕ) (task : TaskId) → IsToRefuse f allowance → IsUnrefuted f allowance

@@ -5,7 +5,7 @@ use Rattle.sporadic_model.specs.SetDef.{SetDef}
 use Rattle.schedule_model.specs.RowDef.{Trace}
 use Rattle.schedule_model.specs.declared.rule.Rule.{Rule}
 use Rattle.program_sources.specs.Recurrence.{SourceDef}
-use Rattle.program_sources.specs.Fitting.{AreFitting}
+use Rattle.program_sources.specs.Fitting.{AreFitting, AreLeastFitting}
 use Rattle.soundness_laws.specs.Sound.{Sound}
 use Rattle.soundness_laws.specs.Analyses.{AreValues}
 use Rattle.refusal_laws.specs.Steps.{StepDef, Holds, step_at}
@@ -19,7 +19,7 @@ use Rattle.refusal_cert.specs.declared.answer.Answer.TheVariants as refutation
 use Rattle.settling.specs.Rising.{IsProvedLeast}
 use Rattle.settling.specs.Trails.{HasSmallPoints}
 use Rattle.settling.specs.Walks.{walk, WalksLate, IsUnrefuted}
-use Rattle.settling.specs.Ways.{NothingFits, NeedsMoreBits, NoneNeedsMore}
+use Rattle.settling.specs.Ways.{LosesWhole, NothingFits, NeedsMoreBits, NoneNeedsMore}
 use Rattle.settling.specs.declared.finding.Points.TheVariants.{Exact, Rounded}
 use Rattle.settling.specs.declared.answer.Settled.{Settled}
 use Rattle.settling.specs.declared.answer.Settled.TheVariants as settled
@@ -100,10 +100,17 @@ pub record IsToRefuse (f : SourceDef) (allowance : ℕ) : Type 0 where
   pub none : NothingFits f
   pub left : ((IsWideToAnalyse f allowance) × WalksLate Exact f allowance) ⊎ ((IsNotShown f allowance) × IsWideToRefute f allowance)
 
--- May the set be left unsettled at task i? The analysis ends wide, and the task's program needs more than 63 bits. Or it is left to a walk
--- to refuse the set, and the one with rounded points passes no latest bound.
+-- Does the walk with exact points end wide at task i? The end of its program's run is too great to be read. Or the walk ends with the least
+-- bounds that fit, and the task's dual there, as it is written, loses the whole part of its optimum.
+abbrev pub WalksWide : SourceDef → ℕ → ℕ → Type 0
+WalksWide f allowance i = (EndsIn (walk Exact f) allowance (Wide i))
+    ⊎ ((bounds : List ℕ) × (duals : List DualDef) × (EndsIn (walk Exact f) allowance (Schedulable bounds duals))
+    × (AreLeastFitting f bounds) × LosesWhole (f.program i bounds))
+
+-- May the set be left unsettled at task i? The analysis ends wide, and so does the walk with exact points, at that task: its program needs
+-- more than 63 bits. Or it is left to a walk to refuse the set, and the one with rounded points passes no latest bound.
 abbrev pub MayBeWide : SourceDef → ℕ → ℕ → Type 0
-MayBeWide f allowance i = ((IsWideToAnalyse f allowance) × NeedsMoreBits f i)
+MayBeWide f allowance i = ((IsWideToAnalyse f allowance) × (WalksWide f allowance i) × NeedsMoreBits f i)
     ⊎ ((IsToRefuse f allowance) × IsUnrefuted f allowance)
 
 -- May so many units be too few? The analysis wants more. Or it ends wide, and the walk with exact points wants more. Or it is left to a
@@ -113,10 +120,11 @@ MayWantMore f allowance = (EndsIn (rounds_of f) allowance Allowance)
     ⊎ (((IsWideToAnalyse f allowance) × EndsIn (walk Exact f) allowance Allowance)
     ⊎ ((IsToRefuse f allowance) × EndsIn (walk Rounded f) allowance Allowance))
 
--- Is it a refusal that holds, with small points?
+-- Is it a refusal that holds, with small points, and tasks and values of 64 bits?
 abbrev pub IsRefusedSo : SourceDef → Settled → Type 0
 IsRefusedSo f (settled.Schedulable certificate) = ⊥
-IsRefusedSo f (settled.Refused refusal) = (IsRight (settled.Refused refusal) f) × HasSmallPoints (steps_seen refusal)
+IsRefusedSo f (settled.Refused refusal) =
+    (IsRight (settled.Refused refusal) f) × (HasSmallPoints (steps_seen refusal)) × Has64Bits (steps_seen refusal)
 
 -- Where an answer comes from. If the rounds don't leave the set open, it is that of the analysis, or that of the rounds of refusals. If
 -- they do, a certificate is that of the walk with exact points, and a refusal has small points. Running out of memory says nothing.

@@ -18,7 +18,8 @@ use Rattle.refusal_laws.specs.Steps.{whole_worth}
 use Rattle.refusal_laws.specs.Seen.{steps_seen}
 use Rattle.refusal_laws.specs.declared.refusal.Refusal.{Refusal}
 use Rattle.response_fixpoint.specs.Answers.{IsSmallDual}
-use Rattle.response_fixpoint.specs.Places.{AreEach}
+use Rattle.response_fixpoint.specs.Places.{AreEach, AreEachFound, ArePlaced}
+use Rattle.response_fixpoint.specs.declared.places.Placed.{Placed}
 use Rattle.response_fixpoint.specs.Rounds.{TooWide, OutOfUnits, Schedulable, Wide, Allowance, EndsIn}
 use Rattle.schedule_answers.specs.declared.checked.Invalid.{Invalid}
 use Rattle.schedule_answers.specs.declared.checked.Invalid.TheVariants as invalid
@@ -153,6 +154,23 @@ StopsAt points f v i left (stop.Wide task) = (task.0 ≡ i) × WalkRuns points f
 StopsAt points f v i left stop.Allowance = WalkRuns points f v i left OutOfUnits
 StopsAt points f v i left stop.Memory = Unit {0}
 
+-- What is found of task i's program at the bounds v with so many units, or why nothing is.
+abbrev pub GivesTask : Result Reached SettleStop → Points → SourceDef → List ℕ → ℕ → ℕ → Type 0
+GivesTask (Ok reached) points f v i left = (IsFoundAt points f v i reached) × (reached.used ≤ left)
+GivesTask (Err e) points f v i left = StopsAt points f v i left e
+
+-- What a round of a walk begins with: bounds in range, and what was found at other bounds.
+pub record IsBegun (points : Points) (f : SourceDef) (v : List ℕ) (before : List Reached) : Type 0 where
+  pub range : IsInRange f.set v
+  pub before : (u : List ℕ) × AreFoundAt points f u before
+
+-- What is found ahead of a round: of programs at the bounds v, each with its task, or each at its task's place.
+abbrev pub AreFoundWithTasks : Points → SourceDef → List ℕ → List (Placed Reached) → Type 0
+AreFoundWithTasks points f v found = ArePlaced (IsFoundAt points f v) (tasks_of f) found
+
+abbrev pub AreFoundInPlaces : Points → SourceDef → List ℕ → List (Option Reached) → Type 0
+AreFoundInPlaces points f v found = AreEachFound (IsFoundAt points f v) 0 found
+
 -- Is b within task i's latest bound? Is it the task's response time with these ticks as blocking, or its bound if that is greater?
 pub record IsNextBound (f : SourceDef) (v : List ℕ) (i ticks b : ℕ) : Type 0 where
   pub greater : b ≡ max (response_with f v i ticks) (slice_index v i)
@@ -168,6 +186,11 @@ pub record IsProvedLeast (f : SourceDef) (c : CertificateDef) : Type 0 where
   pub least : AreLeastFitting f c.bounds
   pub valid : IsValid f c
   pub small : (i : ℕ) → i < tasks_of f → IsSmallDual (dual_at c.duals i)
+
+-- Is it the certificate of these bounds, with the duals that were found, and does it prove that they are the least that fit?
+pub record ProvesLeast (f : SourceDef) (bounds : List ℕ) (reached : List Reached) (c : CertificateDef) : Type 0 where
+  pub least : IsProvedLeast f c
+  pub made : c ≡ record { bounds = bounds; duals = duals_found reached }
 
 -- Do bounds that are at most every fitting vector not rise any more, after this was found at them? And do the rounds of the walk end so?
 pub record IsFixed (points : Points) (f : SourceDef) (allowance : ℕ) (bounds : List ℕ) (reached : List Reached) : Type 0 where

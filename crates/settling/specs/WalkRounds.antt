@@ -46,10 +46,15 @@ pub record IsLate (points : Points) (f : SourceDef) (r : List ℕ) (left : ℕ) 
 abbrev pub AreWrittenIfRounded : Points → Steps → Type 0
 AreWrittenIfRounded points steps = points ≡ Rounded → IsTrue steps.are_written
 
+-- Do the steps so far lead to the bounds, and are the points of a walk with rounded ones written?
+pub record LeadThere (points : Points) (f : SourceDef) (bounds : List ℕ) (steps : Steps) : Type 0 where
+  pub trail : IsTrail f bounds steps
+  pub written : AreWrittenIfRounded points steps
+
 -- What such a round gives, with the steps then: what it has found of all tasks, or why it ends before. None says that a value is late.
 abbrev pub GivesRound : Result (Option Round) SettleStop → Points → SourceDef → List ℕ → ℕ → Steps → Type 0
 GivesRound (Ok (Some round)) points f r left steps =
-    (IsPart points f r left (tasks_of f) round) × (IsTrail f round.next.items steps) × AreWrittenIfRounded points steps
+    (IsPart points f r left (tasks_of f) round) × LeadThere points f round.next.items steps
 GivesRound (Ok None) points f r left steps = (IsLate points f r left) × (EndsTrail f steps) × AreWrittenIfRounded points steps
 GivesRound (Err (stop.Wide task)) points f r left steps = Halts (walk points f) r left task.0 TooWide
 GivesRound (Err stop.Allowance) points f r left steps = (i : ℕ) × Halts (walk points f) r left i OutOfUnits

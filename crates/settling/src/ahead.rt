@@ -1,11 +1,10 @@
 //! Searches the programs of a round side by side, ahead of their places in it.
 
-ghost use Rattle.std.specs.Prelude.{◌≡◌, ℕ, ◌<◌, ◌≤◌, ◌^◌, List, length, slice_get, Some, IfOk, IfErr, IfSome};
+ghost use Rattle.std.specs.Prelude.{◌≡◌, ℕ, ◌<◌, ◌^◌, length, slice_get, Some, IfOk, IfSome};
 ghost use Rattle.program_sources.specs.Bounds.{IsInRange};
 ghost use Rattle.program_sources.specs.Recurrence.{source_at};
-ghost use Rattle.response_fixpoint.specs.Places.{AreEachFound, ArePlaced};
 ghost use Rattle.response_fixpoint.specs.Sharing.{IsShare};
-ghost use Rattle.settling.specs.Rising.{AreFoundAt, IsFoundAt, StopsAt};
+ghost use Rattle.settling.specs.Rising.{AreFoundInPlaces, AreFoundWithTasks, GivesTask, IsBegun, IsFoundAt};
 
 use crate::answer::SettleStop;
 use crate::finding::Points;
@@ -45,11 +44,9 @@ fn reach_some<P: ProgramSource>(
     share: Share,
 ) -> Result<Vec<Placed<Reached>>, AllocError>
     requires serves { P.serves protocol.now set.now }
-    requires range { IsInRange set.now bounds.now }
-    requires before { (u : List ℕ) × AreFoundAt points (source_at (P.source protocol.now) set.now) u before.now }
+    requires begun { IsBegun points (source_at (P.source protocol.now) set.now) bounds.now before.now }
     requires share { IsShare share }
-    ensures { IfOk result (λ v. ArePlaced
-        (IsFoundAt points (source_at (P.source protocol.now) set.now) bounds.now) (length set.now.tasks) v.items) }
+    ensures { IfOk result (λ v. AreFoundWithTasks points (source_at (P.source protocol.now) set.now) bounds.now v.items) }
 {
     let mut found = Vec::new(alloc);
     for i in 0..set.tasks() {
@@ -87,11 +84,9 @@ fn reach_beside<R: Threads + Sync, P: ProgramSource + Sync>(
     threads: usize,
 ) -> Result<Vec<Result<Vec<Placed<Reached>>, AllocError>>, AllocError>
     requires serves { P.serves protocol.now set.now }
-    requires range { IsInRange set.now bounds.now }
-    requires before { (u : List ℕ) × AreFoundAt points (source_at (P.source protocol.now) set.now) u before.now }
+    requires begun { IsBegun points (source_at (P.source protocol.now) set.now) bounds.now before.now }
     ensures { IfOk result (λ v. (k : ℕ) (part : _) → slice_get v.items k ≡ Some part
-        → IfOk part (λ found. ArePlaced
-        (IsFoundAt points (source_at (P.source protocol.now) set.now) bounds.now) (length set.now.tasks) found.items)) }
+        → IfOk part (λ found. AreFoundWithTasks points (source_at (P.source protocol.now) set.now) bounds.now found.items)) }
 {
     map_indices(
         rt,
@@ -125,10 +120,8 @@ pub(crate) fn reach_ahead<R: Threads + Sync, P: ProgramSource + Sync>(
     left: u64,
 ) -> Result<Vec<Option<Reached>>, AllocError>
     requires serves { P.serves protocol.now set.now }
-    requires range { IsInRange set.now bounds.now }
-    requires before { (u : List ℕ) × AreFoundAt points (source_at (P.source protocol.now) set.now) u before.now }
-    ensures { IfOk result (λ v. AreEachFound
-        (IsFoundAt points (source_at (P.source protocol.now) set.now) bounds.now) 0 v.items) }
+    requires begun { IsBegun points (source_at (P.source protocol.now) set.now) bounds.now before.now }
+    ensures { IfOk result (λ v. AreFoundInPlaces points (source_at (P.source protocol.now) set.now) bounds.now v.items) }
 {
     let threads = first_threads(rt, set);
     let parts = reach_beside(
@@ -151,12 +144,9 @@ pub(crate) fn reach_in_place<P: ProgramSource>(
 ) -> Result<Reached, SettleStop>
     requires serves { P.serves protocol.now set.now }
     requires task { i.0 < length set.now.tasks }
-    requires range { IsInRange set.now bounds.now }
-    requires before { (u : List ℕ) × AreFoundAt points (source_at (P.source protocol.now) set.now) u before.now }
+    requires begun { IsBegun points (source_at (P.source protocol.now) set.now) bounds.now before.now }
     requires ahead { IfSome ahead (IsFoundAt points (source_at (P.source protocol.now) set.now) bounds.now i.0) }
-    ensures found { IfOk result (IsFoundAt points (source_at (P.source protocol.now) set.now) bounds.now i.0) }
-    ensures within { IfOk result (λ reached. reached.used ≤ units) }
-    ensures stops { IfErr result (StopsAt points (source_at (P.source protocol.now) set.now) bounds.now i.0 units) }
+    ensures { GivesTask result points (source_at (P.source protocol.now) set.now) bounds.now i.0 units }
 {
     if let Some(reached) = ahead {
         if reached.used <= units {

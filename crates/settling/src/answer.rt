@@ -17,8 +17,8 @@ pub enum Settled {
 /// Why settling stops without an answer.
 #[derive(Debug, Drop)]
 pub enum SettleStop {
-    /// The rounds are wide. This task's program needs numbers of more than 63 bits. Or nothing fits, and points of 63 bits lead to no
-    /// refusal: then it is the task at which the rounds, or the walk with such points, are wide.
+    /// The rounds are wide. This task's program needs numbers of more than 63 bits. Or nothing fits, and the walk whose points are rounded
+    /// down to 63 bits passes no latest bound: then it is the task at which the rounds, or that walk, are wide.
     Wide(TaskId),
     /// The analysis or a walk of the search wants more units than the allowance.
     Allowance,

@@ -64,9 +64,7 @@ pub(crate) fn certificate_of<P: ProgramSource>(
 ) -> Result<Certificate, SettleStop>
     requires serves { P.serves protocol.now set.now }
     requires fixed { IsFixed Exact (source_at (P.source protocol.now) set.now) allowance bounds.items reached.items }
-    ensures least { IfOk result (λ c. IsProvedLeast (source_at (P.source protocol.now) set.now) (certificate_seen c)) }
-    ensures made { IfOk result (λ c. certificate_seen c
-        ≡ record { bounds = bounds.items; duals = map dual_seen (map (λ r. r.dual) reached.items) }) }
+    ensures proved { IfOk result (λ c. ProvesLeast (source_at (P.source protocol.now) set.now) bounds.items reached.items (certificate_seen c)) }
     ensures lost { IfErr result (StopsLost (source_at (P.source protocol.now) set.now) bounds.items) }
 {
     what_is_found_is_best();

@@ -3,7 +3,7 @@
 ghost use Rattle.std.specs.Prelude.{◌<◌, ◌≤◌, IfOk, IfSome, IsTrue, length};
 ghost use Rattle.program_sources.specs.Recurrence.{source_at};
 ghost use Rattle.refusal_laws.specs.Seen.{steps_seen};
-ghost use Rattle.settling.specs.Answers.{Has64Bits, IsAnswered, IsRefusedSo, IsToRefuse, RefusesIn64Bits};
+ghost use Rattle.settling.specs.Answers.{Has64Bits, IsAnswered, IsRefusedSo, IsToRefuse};
 ghost use Rattle.settling.specs.Trails.{HasSmallPoints, IsRefusal};
 
 use crate::answer::{SettleStop, Settled};
@@ -97,8 +97,7 @@ pub(crate) fn answer_refusal<R: Threads + Sync, P: ProgramSource + Sync>(
 ) -> Settled
     requires serves { P.serves protocol.now set.now }
     requires holds { IsRefusal (source_at (P.source protocol.now) set.now) (steps_seen refusal) }
-    ensures refuses { IsRefusedSo (source_at (P.source protocol.now) set.now) result }
-    ensures bits { RefusesIn64Bits result }
+    ensures { IsRefusedSo (source_at (P.source protocol.now) set.now) result }
 {
     refusals_are_right::<P>();
     let answered = match confirmed_shorter(rt, alloc, set, protocol, &refusal) {

@@ -1,14 +1,12 @@
 //! One round of a walk.
 
-ghost use Rattle.std.specs.Prelude.{◌≡◌, ℕ, ◌+◌, ◌<◌, ◌^◌, ◌++◌, ◌∷◌, [], List, max, slice_index, length, OnOk};
+ghost use Rattle.std.specs.Prelude.{◌≡◌, ℕ, ◌+◌, ◌<◌, ◌^◌, ◌++◌, ◌∷◌, [], max, slice_index, length, OnOk};
 ghost use Rattle.program_form.specs.Certificate.{dual_seen};
 ghost use Rattle.program_sources.specs.Bounds.{IsInRange};
 ghost use Rattle.program_sources.specs.Recurrence.{source_at, response_with};
 ghost use Rattle.response_fixpoint.specs.Rounds.{with_task};
-ghost use Rattle.response_fixpoint.specs.Places.{AreEachFound};
-ghost use Rattle.settling.specs.Rising.{AreFoundAt, IsFoundAt};
-ghost use Rattle.settling.specs.Trails.{IsTrail};
-ghost use Rattle.settling.specs.WalkRounds.{found_of, AreWrittenIfRounded, GivesRound};
+ghost use Rattle.settling.specs.Rising.{AreFoundInPlaces, IsBegun};
+ghost use Rattle.settling.specs.WalkRounds.{found_of, GivesRound, LeadThere};
 
 use crate::ahead::{reach_ahead, reach_in_place};
 use crate::answer::SettleStop;
@@ -75,11 +73,9 @@ fn take_in_order<P: ProgramSource>(
     steps: &mut Steps,
 ) -> Result<Option<Round>, SettleStop>
     requires serves { P.serves protocol.now set.now }
-    requires range { IsInRange set.now bounds.now }
-    requires before { (u : List ℕ) × AreFoundAt points (source_at (P.source protocol.now) set.now) u before.now }
-    requires ahead { AreEachFound (IsFoundAt points (source_at (P.source protocol.now) set.now) bounds.now) 0 ahead.items }
-    requires steps { IsTrail (source_at (P.source protocol.now) set.now) bounds.now steps.old }
-    requires written { AreWrittenIfRounded points steps.old }
+    requires begun { IsBegun points (source_at (P.source protocol.now) set.now) bounds.now before.now }
+    requires ahead { AreFoundInPlaces points (source_at (P.source protocol.now) set.now) bounds.now ahead.items }
+    requires steps { LeadThere points (source_at (P.source protocol.now) set.now) bounds.now steps.old }
     ensures { GivesRound result points (source_at (P.source protocol.now) set.now) bounds.now left steps.new }
 {
     let mut round = Round {
@@ -122,10 +118,8 @@ pub(crate) fn take_round<R: Threads + Sync, P: ProgramSource + Sync>(
     steps: &mut Steps,
 ) -> Result<Option<Round>, SettleStop>
     requires serves { P.serves protocol.now set.now }
-    requires range { IsInRange set.now bounds.now }
-    requires before { (u : List ℕ) × AreFoundAt points (source_at (P.source protocol.now) set.now) u before.now }
-    requires steps { IsTrail (source_at (P.source protocol.now) set.now) bounds.now steps.old }
-    requires written { AreWrittenIfRounded points steps.old }
+    requires begun { IsBegun points (source_at (P.source protocol.now) set.now) bounds.now before.now }
+    requires steps { LeadThere points (source_at (P.source protocol.now) set.now) bounds.now steps.old }
     ensures { GivesRound result points (source_at (P.source protocol.now) set.now) bounds.now left steps.new }
 {
     let ahead = reach_ahead(rt, alloc, set, protocol, points, bounds, before, left)?;

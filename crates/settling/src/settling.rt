@@ -150,9 +150,9 @@ pub fn settle_by<R: Threads + Sync, P: ProgramSource + Sync>(
 ///
 /// `allowance` is the number of units for the analysis, as many for the refutation, and as many for each walk of a search. A task takes one
 /// in each round, and one more for each exchange. `SettleStop::Wide` comes only if the analysis is wide, or the refutation of a set that
-/// isn't shown. It names a task whose program needs numbers of more than 63 bits. Or nothing fits, and points of 63 bits lead to no
-/// refusal. `SettleStop::Allowance` comes only if the analysis, or a walk, wants more units. `SettleStop::Memory` comes only if memory runs
-/// out.
+/// isn't shown. It names a task whose program needs numbers of more than 63 bits. Or nothing fits, and the walk whose points are rounded
+/// down to 63 bits passes no latest bound. `SettleStop::Allowance` comes only if the analysis, or a walk, wants more units.
+/// `SettleStop::Memory` comes only if memory runs out.
 pub fn settle_with<R: Threads + Sync, P: ChargedProtocol + Sync>(
     rt: &R,
     alloc: Global,

@@ -1,10 +1,10 @@
-use Rattle.std.proofs.Common.{List, map, Err, subst, sym}
+use Rattle.std.proofs.Common.{List, map, Err, refl, subst, sym}
 use Rattle.program_form.specs.Certificate.{dual_seen}
 use Rattle.program_form.specs.declared.certificate.Dual.{Dual}
 use Rattle.program_sources.specs.Recurrence.{SourceDef, source_at}
 use Rattle.program_sources.specs.Valid.{IsValid}
 use Rattle.dual_check.specs.Answers.{Judges, HasDenominators}
-use Rattle.settling.specs.Rising.{IsProvedLeast}
+use Rattle.settling.specs.Rising.{ProvesLeast}
 use Rattle.settling.proofs.CertificateLaws.{certificate_with, has_denominators, passes_others, stops_lost, proved_least}
 use Rattle.settling.proofs.certificates.certificate_of.Goals as goal
 
@@ -30,14 +30,15 @@ returns-in-Err-clause-lost g c =
     (subst (λ (ds : List Dual). Judges (Err c.in-Err.invalid) f (record { bounds = c.args.bounds.items; duals = map dual_seen ds }))
     c.in_ok-duals.ensures c.in-Err.ensures.judges) c.stop_for.ensures
 
-pub returns-in-Ok-clause-least : goal.returns-in-Ok-clause-least
-returns-in-Ok-clause-least g c =
+pub returns-in-Ok-clause-proved : goal.returns-in-Ok-clause-proved
+returns-in-Ok-clause-proved g c =
     let f : SourceDef = source_at (g.P.ProgramSource.source c.args.protocol.now) c.args.set.now in
-    let valid : IsValid f (certificate_with c.args.bounds.items c.args.reached.items) =
-    subst (λ (ds : List Dual). IsValid f (record { bounds = c.args.bounds.items; duals = map dual_seen ds })) c.in_ok-duals.ensures
+    let v = c.args.bounds.items in
+    let reached = c.args.reached.items in
+    let valid : IsValid f (certificate_with v reached) =
+    subst (λ (ds : List Dual). IsValid f (record { bounds = v; duals = map dual_seen ds })) c.in_ok-duals.ensures
     c.in-Ok.ensures.judges.0 in
-    subst (λ (ds : List Dual). IsProvedLeast f (record { bounds = c.args.bounds.items; duals = map dual_seen ds }))
-    (sym c.in_ok-duals.ensures)
-    (proved_least f c.args.allowance c.args.bounds.items c.args.reached.items c.what_is_found_is_best.ensures.covers c.requires.fixed
-    (c.a_certificate_below_all_fitting_is_least.ensures f (certificate_with c.args.bounds.items c.args.reached.items) valid
-    c.requires.fixed.below) valid)
+    let least = proved_least f c.args.allowance v reached c.what_is_found_is_best.ensures.covers c.requires.fixed
+    (c.a_certificate_below_all_fitting_is_least.ensures f (certificate_with v reached) valid c.requires.fixed.below) valid in
+    subst (λ (ds : List Dual). ProvesLeast f v reached (record { bounds = v; duals = map dual_seen ds })) (sym c.in_ok-duals.ensures)
+    (record { least = least; made = refl })

@@ -20,9 +20,9 @@ returns-then-last-units-clause-stops g c =
     let stay : c.in-Some.last.now.limits.items ≡ c.in_ok-limits.limits.items =
     same_vectors last.limits.items c.in_ok-limits.limits.items c.if-eq.ensures in
     let found : IsFoundOf c.args.points p last =
-    found_before c.args.points f c.requires.before.0 c.args.bounds.now c.args.i.0 c.args.before.now last c.in_ok-limits.limits.items
+    found_before c.args.points f c.requires.begun.before.0 c.args.bounds.now c.args.i.0 c.args.before.now last c.in_ok-limits.limits.items
     (λ u v most. g.met.P.ProgramSource.rises c.args.protocol.now c.args.set.now c.args.i.0 u v c.requires.serves c.requires.task most)
-    c.requires.before.1 at stay c.in_ok-limits.ensures in
+    c.requires.begun.before.1 at stay c.in_ok-limits.ensures in
     needs_more c.args.points p last c.args.units found c.if-last-units.true
 
 pub returns-then-eq-clause-found : goal.returns-then-eq-clause-found
@@ -34,7 +34,7 @@ returns-then-eq-clause-found g c =
     slice_get_read c.args.before.now (length c.args.before.now) c.args.i.0 last refl look.3.0 look.1 in
     let stay : c.in-Some.last.now.limits.items ≡ c.in_ok-limits.limits.items =
     same_vectors last.limits.items c.in_ok-limits.limits.items c.if-eq.ensures in
-    taken_over c.args.points f c.requires.before.0 c.args.bounds.now c.args.i.0 c.args.before.now last c.in_ok-reached.reached
+    taken_over c.args.points f c.requires.begun.before.0 c.args.bounds.now c.args.i.0 c.args.before.now last c.in_ok-reached.reached
     c.in_ok-limits.limits.items
     (λ u v most. g.met.P.ProgramSource.rises c.args.protocol.now c.args.set.now c.args.i.0 u v c.requires.serves c.requires.task most)
-    c.requires.before.1 at stay c.in_ok-limits.ensures c.in_ok-reached.ensures
+    c.requires.begun.before.1 at stay c.in_ok-limits.ensures c.in_ok-reached.ensures

@@ -9,7 +9,7 @@ use Rattle.settling.proofs.refusals.refuse_by_rounded_points.Goals as goal
 pub returns-in-Ok-Late-Some : goal.returns-in-Ok-Late-Some
 returns-in-Ok-Late-Some g c =
     let f : SourceDef = source_at (g.P.ProgramSource.source c.args.protocol.now) c.args.set.now in
-    answers_refused f c.args.allowance c.answer_refusal.result c.requires.left c.answer_refusal.ensures.refuses c.answer_refusal.ensures.bits
+    answers_refused f c.args.allowance c.answer_refusal.result c.requires.left c.answer_refusal.ensures
 
 pub returns-in-Ok-Fixed : goal.returns-in-Ok-Fixed
 returns-in-Ok-Fixed g c =

@@ -20,7 +20,7 @@ pub returns-in-Err : goal.returns-in-Err
 returns-in-Err g c =
     let f : SourceDef = source_at (g.P.ProgramSource.source c.args.protocol.now) c.args.set.now in
     round_stops c.args.points f c.args.bounds.now c.args.left c.loop-i.i c.loop-i.round c.loop-i.steps c.in-Err.stop (omega arith)
-    c.loop-i.invariant.part c.in-Err.ensures.stops
+    c.loop-i.invariant.part (rw c.in-Err.is at c.reach_in_place.ensures)
 
 pub reach_in_place-requires-clause-ahead : goal.reach_in_place-requires-clause-ahead
 reach_in_place-requires-clause-ahead g c =
@@ -39,7 +39,7 @@ returns-then-bound-latest_bound g c =
     let found : IsFoundOf c.args.points (f.program i r) reached = c.in-Ok.ensures.found in
     let is : bound ≡ max (response_with f r i reached.ticks) (slice_index r i) = c.next_bound-bound.ensures in
     let here : i < tasks_of f = omega arith in
-    let within : slice_index r i ≤ latest_of f i = c.requires.range.to_latest i here in
+    let within : slice_index r i ≤ latest_of f i = c.requires.begun.range.to_latest i here in
     let late : latest_of f i < bound = omega (arith, c.latest_bound.ensures.value) in (
       late_of c.args.points f r c.args.left i bound c.loop-i.round reached here c.loop-i.invariant.part found c.in-Ok.ensures.within is
           within late,

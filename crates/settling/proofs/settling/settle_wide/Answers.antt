@@ -9,7 +9,7 @@ returns-in-Ok-Late-Some g c =
     let f : SourceDef = source_at (g.P.ProgramSource.source c.args.protocol.now) c.args.set.now in
     let own = c.in-Ok-Late-Some in
     let to = to_refuse_of f c.args.allowance own.field-0 own.field-0-0 (c.args.task.0, c.requires.wide) own.ensures.rises own.field-0-is in
-    answers_refused f c.args.allowance c.answer_refusal.result to c.answer_refusal.ensures.refuses c.answer_refusal.ensures.bits
+    answers_refused f c.args.allowance c.answer_refusal.result to c.answer_refusal.ensures
 
 pub refuse_by_rounded_points-requires-clause-task : goal.refuse_by_rounded_points-requires-clause-task
 refuse_by_rounded_points-requires-clause-task g c =
