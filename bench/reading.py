@@ -48,7 +48,8 @@ BEYOND = [
 TIES = [
     "run_plans/Run:IsRun!,AsksInOrder!", "run_plans/Plans:AsksAll,AsksPart", "command_words/Words:words_seen",
     "command_inputs/Statuses:number_of", "outside_ports/Readings:AsksFor,ReadsOn", "outside_ports/Loads:Leaves",
-    "outside_ports/Openings:FollowsOpening", "outside_ports/Ports:untold,uncounted", "outside_ports/src/file_shelf.rt:FileShelf.seen,FileShelf.start_gives",
+    "outside_ports/Openings:FollowsOpening", "outside_ports/Ports:untold,uncounted",
+    "outside_ports/src/file_shelf.rt:FileShelf.seen,FileShelf.start_gives",
     "outside_ports/src/opener.rt:SystemFiles.opens", "outside_ports/src/out_sink.rt:OutSink.seen",
     "block_top/Edge:Answers!,Runs!,GivenWords,GivesWords", "block_top/src/edge.rt:ProcessWords.gives",
 ]
