@@ -1,14 +1,13 @@
 //! What the closer programs are made of: the columns of spin locks, and rows that say more.
 
-ghost use Rattle.std.specs.Prelude.{◌≡◌, ℕ, ◌<◌, ◌≤◌, ◌+◌, ◌++◌, length, map, IfOk, OnOk};
+ghost use Rattle.std.specs.Prelude.{◌<◌, map, OnOk};
 ghost use Rattle.schedule_model.specs.Protocols.{EachSetSuits};
 ghost use Rattle.blocking_columns.specs.ColumnDef.{column_seen};
-ghost use Rattle.blocking_columns.specs.Stretches.{AreInOrder};
 ghost use Rattle.spin_charging.specs.SpinPrograms.{spin_columns};
 ghost use Rattle.closer_spin_laws.specs.CloserSpinRows.{together_rows, spin_closer_rows};
 ghost use Rattle.closer_spin_laws.proofs.Programs.{spin_closer_is_program};
-ghost use Rattle.spin_protocol.specs.Given.{CanMakeRows};
-ghost use Rattle.closer_spin.specs.Tables.{TellsUsedBelow};
+ghost use Rattle.blocking_columns.specs.Given.{AreInOrderAt};
+ghost use Rattle.closer_spin.specs.Tables.{CanMakeRowsWith};
 
 use crate::rows::{CloserSpinningRows, LowerSpinningRows, OtherLowerSpinningRows};
 use crate::tables::UsedBelow;
@@ -29,8 +28,7 @@ fn add_together_rows<T: RowTaker>(
     columns: &[Fragment],
     below: &[bool],
 ) -> Result<(), AllocError>
-    requires can { CanMakeRows set.now i.0 bounds.now columns.now }
-    requires below { TellsUsedBelow set.now i.0 below.now }
+    requires { CanMakeRowsWith set.now i.0 bounds.now columns.now below.now }
     ensures { OnOk result (T.takes taker.old (map column_seen columns.now) (together_rows set.now i.0) bounds.now taker.new) }
 {
     let processors = set.processors();
@@ -50,8 +48,7 @@ fn add_rows<T: RowTaker>(
     bounds: &[u64],
     columns: &[Fragment],
 ) -> Result<(), AllocError>
-    requires can { CanMakeRows set.now i.0 bounds.now columns.now }
-    requires order { AreInOrder columns.now }
+    requires { AreInOrderAt set.now bounds.now i.0 columns.now }
     ensures { OnOk result (T.takes taker.old (map column_seen columns.now) (spin_closer_rows set.now i.0) bounds.now taker.new) }
 {
     add_common(alloc, taker, set, i, bounds, columns)?;

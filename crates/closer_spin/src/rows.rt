@@ -1,9 +1,8 @@
 //! The rows in which the closer analysis differs from that of spin locks.
 
-ghost use Rattle.std.specs.Prelude.{◌≡◌, ℕ, ◌<◌, ◌≤◌, ◌+◌, [], ◌∷◌, map, length, slice_index, Option, OnOk};
+ghost use Rattle.std.specs.Prelude.{◌≡◌, ◌<◌, ◌+◌, [], ◌∷◌, map, length, Option, OnOk};
 ghost use Rattle.blocking_columns.specs.ColumnDef.{column_seen};
-ghost use Rattle.fragments.specs.Constraints.{per, per_pair};
-ghost use Rattle.spin_charging.specs.SpinPrograms.{spinning_row};
+ghost use Rattle.fragments.specs.Constraints.{per};
 ghost use Rattle.closer_spin_laws.specs.CloserSpinRows.{is_spun_below, closer_spinning_row};
 ghost use Rattle.closer_spin_laws.specs.CloserSpinRows.{lower_spinning_row, other_lower_spinning_row};
 ghost use Rattle.spin_protocol.specs.Origins.{AreOrigins};

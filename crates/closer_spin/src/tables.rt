@@ -1,11 +1,10 @@
 //! Resources that pass a test, as tables, and sums over them.
 
-ghost use Rattle.std.specs.Prelude.{◌≡◌, ℕ, ◌<◌, ◌≤◌, false, nat_lt, length, slice_index, slice_index_or};
+ghost use Rattle.std.specs.Prelude.{◌≡◌, ◌<◌, ◌≤◌, false, nat_lt, length, slice_index_or};
 ghost use Rattle.number_laws.specs.Tests.{count_below};
-ghost use Rattle.program_sources.specs.Bounds.{AreWithinDeadlines};
-ghost use Rattle.spin_charging.specs.SpinPrograms.{is_used_below, upper_requests};
+ghost use Rattle.spin_charging.specs.SpinPrograms.{is_used_below};
 ghost use Rattle.closer_spin_laws.specs.CloserSpinRows.{is_used_on, is_spun_below, is_spun_beside};
-ghost use Rattle.closer_spin.specs.Tables.{TellsUsedBelow, TellsSpun};
+ghost use Rattle.closer_spin.specs.Tables.{TellsUsedBelow, TellsSpun, AreTaskAndTable, IsUpperCount};
 
 use spin_protocol::{ResourceTest, higher_requests, is_used_below};
 use sporadic_model::{ResourceId, TaskId, TaskSet};
@@ -94,11 +93,8 @@ pub(crate) fn are_several(table: &[bool]) -> bool
 
 /// How many requests of the resources of the table do `i` and the higher tasks of its processor make while a job of `i` runs?
 pub(crate) fn upper_requests(set: &TaskSet, i: TaskId, table: &[bool], bounds: &[u64]) -> u64
-    requires task { i.0 < length set.now.tasks }
-    requires table { length table.now ≡ length set.now.resources }
-    requires within { AreWithinDeadlines set.now bounds.now }
-    ensures value { result ≡ upper_requests set.now (slice_index bounds.now) i.0 (λ q. slice_index_or table.now q false) }
-    ensures most { result ≤ 4096000000032000 }
+    requires { AreTaskAndTable set.now bounds.now i.0 table.now }
+    ensures { IsUpperCount set.now bounds.now i.0 table.now result }
 {
     // a set has at most 64 tasks and 32 resources, so the sum fits
     let _tasks = set.tasks();

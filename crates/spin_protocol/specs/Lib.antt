@@ -7,3 +7,4 @@ pub mod Used
 pub mod Origins
 pub mod Given
 pub mod Tables
+pub mod Charged

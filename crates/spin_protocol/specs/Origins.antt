@@ -4,7 +4,7 @@ use Rattle.std.specs.List.{All}
 use Rattle.sporadic_model.specs.SetDef.{SetDef, task_at}
 use Rattle.blocking_columns.specs.declared.columns.Class.TheVariants as class
 use Rattle.blocking_columns.specs.declared.columns.Fragment.{Fragment}
-use Rattle.blocking_columns.specs.ColumnDef.{ColumnDef, column_seen, is_class}
+use Rattle.blocking_columns.specs.ColumnDef.{ColumnDef, column_seen, is_class, IsKnown}
 
 -- The place of processor k, counted from 1, and resource q. There are at most 64 processors.
 abbrev pub origin_place : ℕ → ℕ → ℕ
@@ -17,6 +17,11 @@ IsMarked set table c = is_class class.Preemption c.class ≡ false
 
 abbrev pub AreOrigins : SetDef → List Fragment → List Bool → Type 0
 AreOrigins set columns table = All (λ c. IsMarked set table (column_seen c)) columns
+
+-- Is the column of tasks and resources of the set, and has the table a place for each processor and resource?
+pub record CanMark (set : SetDef) (c : ColumnDef) (table : List Bool) : Type 0 where
+  pub known : IsKnown (length set.tasks) (length set.resources) c
+  pub room : length table ≡ length set.resources * 64 + 1
 
 -- Is the column marked in the table that was made of another one, and all that this one marks?
 pub record Marks (set : SetDef) (c : ColumnDef) (before after : List Bool) : Type 0 where

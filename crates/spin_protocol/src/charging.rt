@@ -1,17 +1,13 @@
 //! The charge of a tick.
 
-ghost use Rattle.std.specs.Prelude.{◌≡◌, ℕ, ◌<◌, length, IfSome};
+ghost use Rattle.std.specs.Prelude.{◌≡◌, ◌<◌, length};
 ghost use Rattle.std.proofs.Props.{props};
-ghost use Rattle.schedule_model.specs.RowDef.{RowDef};
-ghost use Rattle.schedule_model.specs.SharedRules.{KeepsRun};
-ghost use Rattle.schedule_model.specs.Seen.{row_seen, place_seen};
-ghost use Rattle.phase_machine.specs.MachineDef.{under};
-ghost use Rattle.phase_machine.specs.Shows.{Shows};
+ghost use Rattle.schedule_model.specs.Seen.{row_seen};
 ghost use Rattle.phase_machine.specs.Taking.{IsRowFor};
-ghost use Rattle.charged_protocols.specs.Seen.{charge_seen};
-ghost use Rattle.spin_charging.specs.SpinCharges.{spin_charge};
+ghost use Rattle.phase_machine.specs.Given.{NamesJob};
+ghost use Rattle.spin_protocol.specs.Charged.{IsSpinCharge};
 ghost use Rattle.spin_protocol.specs.SpinChargeNow.{Names, is_spinning_task_now, spinner_now};
-ghost use Rattle.spin_protocol.specs.SpinChargeNow.{class_of_spinner, spinner_charge_now, spinning_charge_now, beside_charge_now};
+ghost use Rattle.spin_protocol.specs.SpinChargeNow.{class_of_spinner, spinner_charge_now, beside_charge_now};
 
 use crate::judging::spins;
 use charged_protocols::shared::charge_to;
@@ -47,8 +43,7 @@ fn is_spinning_task(tick: &Tick, processor: u32, x: TaskId) -> bool
 /// The job of the processor's tasks that spins. The search begins with the highest task.
 #[tactic(auto, unfolding(crate::specs::SpinChargeNow::spinner_now))]
 fn spinner(tick: &Tick, processor: u32) -> Option<JobId>
-    ensures value { place_seen result ≡ spinner_now tick.now.machine.now (row_seen tick.now.row.now) processor }
-    ensures listed { IfSome result (λ s. s.0 < length tick.now.machine.now.list.jobs) }
+    ensures { NamesJob tick.now.machine.now.list (spinner_now tick.now.machine.now (row_seen tick.now.row.now) processor) result }
 {
     for x in 0..tasks_of(tick.machine) {
         if is_spinning_task(tick, processor, TaskId(x)) {
@@ -101,10 +96,7 @@ fn charge_beside(tick: &Tick, j: JobId) -> Option<(JobId, Class)>
 /// The charge of the tick for the job.
 pub(crate) fn charged_spin(tick: &Tick, j: JobId) -> Option<(JobId, Class)>
     requires { j.0 < length tick.now.machine.now.list.jobs }
-    ensures value { (rows : ℕ → RowDef) → Shows tick.now.machine.now rows
-        → rows tick.now.machine.now.tick ≡ row_seen tick.now.row.now → KeepsRun (under tick.now.machine.now rows) tick.now.machine.now.tick
-        → charge_seen result ≡ spin_charge (under tick.now.machine.now rows) tick.now.machine.now.tick j.0 }
-    ensures listed { IfSome result (λ c. c.0.0 < length tick.now.machine.now.list.jobs) }
+    ensures { IsSpinCharge tick.now.machine.now (row_seen tick.now.row.now) j.0 result }
 {
     if blocked_shared(tick.machine, tick.row, j) {
         return charge_beside(tick, j);

@@ -1,10 +1,12 @@
 //! The tests of the rules over a machine and the next row.
 
-ghost use Rattle.std.specs.Prelude.{◌≡◌, ◌<◌, length, map, IfSome};
+ghost use Rattle.std.specs.Prelude.{◌≡◌, ◌<◌, length, map};
 ghost use Rattle.schedule_model.specs.Seen.{row_seen, place_seen};
 ghost use Rattle.phase_machine.specs.Taking.{IsRowFor};
 ghost use Rattle.fmlp_rules.specs.IssueOrder.{issue_now};
 ghost use Rattle.shared_choosing.specs.Scene.{place_in};
+ghost use Rattle.spin_protocol.specs.Given.{AreJobAndHolders};
+ghost use Rattle.shared_rules.specs.Given.{AreTwoJobs};
 ghost use Rattle.spin_protocol.specs.SpinTests.{is_request_now, spins_now, is_quiet, has_spinner_now, idle_passes};
 ghost use Rattle.spin_protocol.specs.SpinTests.{passes_idle, may_run_beside, priority_passes, passes_priority};
 ghost use Rattle.shared_rules.specs.RowTests.{passes_run, passes_keep, passes_grant, by_rule};
@@ -28,8 +30,7 @@ fn is_asking(machine: &Machine, j: JobId) -> bool
 
 /// With these holders: does the job spin, if it is active?
 pub(crate) fn spins(machine: &Machine, holders: &[Option<JobId>], j: JobId) -> bool
-    requires listed { j.0 < length machine.now.list.jobs }
-    requires sized { length holders.now ≡ length machine.now.list.set.resources }
+    requires { AreJobAndHolders machine.now j.0 holders.now }
     ensures { result ≡ spins_now machine.now (place_in (map place_seen holders.now)) j.0 }
 {
     is_asking(machine, j) && !holds(machine, holders, j)
@@ -81,8 +82,7 @@ impl<'a> JobTest for IdleTest<'a> {
 
 /// Priority, for one job and what runs on its processor.
 fn may_run_beside(machine: &Machine, j: JobId, running: Option<JobId>) -> bool
-    requires listed { j.0 < length machine.now.list.jobs }
-    requires running { IfSome running (λ r. r.0 < length machine.now.list.jobs) }
+    requires { AreTwoJobs machine.now.list j.0 running }
     ensures { result ≡ may_run_beside machine.now j.0 (place_seen running) }
 {
     match running {

@@ -1,9 +1,9 @@
 //! From which processors there are columns of which resources, as a table. A program looks at all its columns once for it, and not once
 //! for each pair of a processor and a resource.
 
-ghost use Rattle.std.specs.Prelude.{◌≡◌, ℕ, ◌*◌, ◌+◌, true, false, length, slice_index_or, IfOk};
-ghost use Rattle.blocking_columns.specs.ColumnDef.{column_seen, IsKnown, AreKnown};
-ghost use Rattle.spin_protocol.specs.Origins.{origin_place, Marks, AreOrigins};
+ghost use Rattle.std.specs.Prelude.{◌≡◌, ◌*◌, ◌+◌, true, false, length, slice_index_or, IfOk};
+ghost use Rattle.blocking_columns.specs.ColumnDef.{column_seen, AreKnown};
+ghost use Rattle.spin_protocol.specs.Origins.{origin_place, CanMark, Marks, AreOrigins};
 
 use fragments::Fragment;
 use sporadic_model::{ResourceId, TaskSet};
@@ -18,8 +18,7 @@ fn origin_place(processor: u32, q: ResourceId) -> usize
 
 /// Marks where the column comes from, unless it is one of preemption.
 fn mark(set: &TaskSet, table: &mut [bool], column: Fragment)
-    requires known { IsKnown (length set.now.tasks) (length set.now.resources) (column_seen column) }
-    requires room { length table.old ≡ length set.now.resources * 64 + 1 }
+    requires { CanMark set.now (column_seen column) table.old }
     ensures { Marks set.now (column_seen column) table.old table.new }
 {
     // a set has at most 64 processors

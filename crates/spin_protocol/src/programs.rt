@@ -1,16 +1,17 @@
 //! The parts of the protocol's programs: their columns and rows.
 
-ghost use Rattle.std.specs.Prelude.{◌≡◌, ℕ, ◌<◌, ◌≤◌, ◌+◌, ◌&&◌, ◌==◌, not, length, map, [], ◌∷◌, IfOk, OnOk};
+ghost use Rattle.std.specs.Prelude.{◌≡◌, ◌<◌, ◌+◌, ◌&&◌, ◌==◌, not, length, map, [], ◌∷◌, IfOk, OnOk};
 ghost use Rattle.schedule_model.specs.Protocols.{EachSetSuits};
 ghost use Rattle.blocking_columns.specs.ColumnDef.{column_seen, AreKnown};
 ghost use Rattle.blocking_columns.specs.Stretches.{AreInOrder};
+ghost use Rattle.blocking_columns.specs.Given.{AreInOrderAt};
 ghost use Rattle.blocking_columns.specs.Columns.{have_one_processor};
 ghost use Rattle.fragments.specs.Constraints.{per_pair};
 ghost use Rattle.spin_charging.specs.SpinPrograms.{is_used_beside, is_spin_column};
 ghost use Rattle.spin_charging.specs.SpinPrograms.{spin_columns, lower_request_row, own_spinning_row, spin_rows};
 ghost use Rattle.spin_charging.proofs.SpinPrograms.{spin_is_program};
 ghost use Rattle.spin_protocol.specs.SpinRows.{rows_of_kind};
-ghost use Rattle.spin_protocol.specs.Given.{CanMakeRows};
+ghost use Rattle.spin_protocol.specs.Given.{AreTwoTasks, CanMakeRows};
 ghost use Rattle.spin_protocol.specs.Used.{AreUsedBeside};
 
 use crate::Spin;
@@ -28,8 +29,7 @@ use std::alloc::{AllocError, Global};
 
 /// Is `z` another task of `i`'s processor?
 fn is_beside(set: &TaskSet, i: TaskId, z: TaskId) -> bool
-    requires task { i.0 < length set.now.tasks }
-    requires other { z.0 < length set.now.tasks }
+    requires { AreTwoTasks set.now i.0 z.0 }
     ensures { result ≡ (not (z.0 == i.0) && have_one_processor set.now z.0 i.0) }
 {
     z != i && share_processor(set, z, i)
@@ -151,8 +151,7 @@ fn add_rows<T: RowTaker>(
     bounds: &[u64],
     columns: &[Fragment],
 ) -> Result<(), AllocError>
-    requires can { CanMakeRows set.now i.0 bounds.now columns.now }
-    requires order { AreInOrder columns.now }
+    requires { AreInOrderAt set.now bounds.now i.0 columns.now }
     ensures { OnOk result (T.takes taker.old (map column_seen columns.now) (spin_rows set.now i.0) bounds.now taker.new) }
 {
     add_common(alloc, taker, set, i, bounds, columns)?;
