@@ -8,23 +8,13 @@ use Rattle.shared_choosing.specs.Scene.{Scene, scene_in, scene_now, gives_way, a
 use Rattle.shared_choosing.specs.Scene.{place_in, running_in, NamesBelow}
 use Rattle.shared_choosing.specs.Walks.{come_to}
 
--- The scene of a machine under an order of grants and runs. And the same, if jobs run in these columns.
+-- The scene of a machine under an order of grants and runs.
 abbrev pub scene_by : (MachineDef → ℕ → ℕ) → (MachineDef → ℕ → ℕ) → MachineDef → Scene
 scene_by grant run m = scene_now (grant m) (run m) m
 
+-- The same, if jobs run in these columns.
 abbrev pub scene_on : (MachineDef → ℕ → ℕ) → (MachineDef → ℕ → ℕ) → (MachineDef → ℕ → ℕ) → MachineDef → Scene
 scene_on column grant run m = scene_in (column m) (grant m) (run m) m
-
--- Are q and j a resource of the set and a listed job?
-pub record IsRequestOf (list : JobsDef) (q j : ℕ) : Type 0 where
-  pub resource : q < length list.set.resources
-  pub listed : j < length list.jobs
-
--- Are they, and is the holder o a listed job, if there is one?
-pub record IsOffer (list : JobsDef) (q j : ℕ) (o : Option JobId) : Type 0 where
-  pub resource : q < length list.set.resources
-  pub listed : j < length list.jobs
-  pub holder : IfSome o (λ h. h.0 < length list.jobs)
 
 -- Has each resource a place among the holders, and do they name only listed jobs?
 pub record AreHolders (list : JobsDef) (holders : List (Option ℕ)) : Type 0 where
@@ -51,11 +41,12 @@ pub record AreRivals (list : JobsDef) (holders : List (Option JobId)) (j : ℕ) 
 abbrev pub offered : Scene → ℕ → ℕ → Option ℕ → Option ℕ
 offered s q j o = if gives_way s q j o then Some j else o
 
--- Is `next` the holders after q was offered to job j, and after job j has asked for what it requests?
+-- Is `next` the holders after q was offered to job j?
 pub record IsOffered (s : Scene) (q j : ℕ) (holders next : List (Option JobId)) : Type 0 where
   pub here : place_in (map place_seen next) q ≡ offered s q j (place_in (map place_seen holders) q)
   pub others : (r : ℕ) → (r ≡ q → ⊥) → place_in (map place_seen next) r ≡ place_in (map place_seen holders) r
 
+-- Is `next` the holders after job j has asked for what it requests?
 abbrev pub HasAsked : Scene → ℕ → List (Option JobId) → List (Option JobId) → Type 0
 HasAsked s j holders next = (q : ℕ) → place_in (map place_seen next) q ≡ asked s j q (place_in (map place_seen holders) q)
 
@@ -69,7 +60,8 @@ abbrev pub faster : Scene → (ℕ → Option ℕ) → ℕ → Option ℕ → Op
 faster s held j o = if may_run s held j && is_outrun s held j o then Some j else o
 
 -- Is the answer that one, whatever the columns?
-abbrev pub NamesFaster : (MachineDef → ℕ → ℕ) → (MachineDef → ℕ → ℕ) → MachineDef → List (Option JobId) → ℕ → Option JobId → Option JobId → Type 0
+abbrev pub NamesFaster : (MachineDef → ℕ → ℕ) → (MachineDef → ℕ → ℕ) → MachineDef → List (Option JobId) → ℕ → Option JobId
+    → Option JobId → Type 0
 NamesFaster grant run m holders j runner answer = (column : ℕ → ℕ)
     → place_seen answer ≡ faster (scene_in column (grant m) (run m) m) (place_in (map place_seen holders)) j (place_seen runner)
 

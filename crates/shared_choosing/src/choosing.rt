@@ -1,4 +1,4 @@
-ghost use Rattle.std.specs.Prelude.{◌≡◌, ℕ, ◌<◌, ◌≤◌, ◌&&◌, if◌then◌else◌, length, map, Option, Some, None, IfSome};
+ghost use Rattle.std.specs.Prelude.{◌≡◌, ℕ, ◌<◌, ◌≤◌, length, map, None, IfSome};
 ghost use Rattle.std.specs.Prelude.{option_map};
 ghost use Rattle.schedule_model.specs.RowDef.{RowDef};
 ghost use Rattle.schedule_model.specs.Chosen.{IsSized, IsSharedChoice};
@@ -6,10 +6,10 @@ ghost use Rattle.schedule_model.specs.Seen.{row_seen, place_seen};
 ghost use Rattle.phase_machine.specs.MachineDef.{under};
 ghost use Rattle.phase_machine.specs.Now.{phase_now, holder_now, requester_now};
 ghost use Rattle.phase_machine.specs.Shows.{Shows};
-ghost use Rattle.phase_machine.specs.Given.{NamesJob};
+ghost use Rattle.phase_machine.specs.Given.{NamesJob, IsRequestOf, IsRequestBeside};
 ghost use Rattle.shared_choosing.specs.Scene.{scene_in, scene_now, gives_way, asked, stays, entered};
 ghost use Rattle.shared_choosing.specs.Scene.{place_in, running_in, NamesBelow, resource_in};
-ghost use Rattle.shared_choosing.specs.Given.{scene_by, scene_on, IsRequestOf, IsOffer, AreHolders, AreColumns, AreRowPlaces, AreRivals};
+ghost use Rattle.shared_choosing.specs.Given.{scene_by, scene_on, AreHolders, AreColumns, AreRowPlaces, AreRivals};
 ghost use Rattle.shared_choosing.specs.Given.{offered, IsOffered, HasAsked, TellsOutrun, NamesFaster, HasEntered};
 ghost use Rattle.shared_choosing.specs.Choosing.{Granted, Placed};
 
@@ -93,7 +93,7 @@ fn gives_way<O: Order>(
     j: JobId,
     holder: Option<JobId>,
 ) -> bool
-    requires { IsOffer machine.now.list q.0 j.0 holder }
+    requires { IsRequestBeside machine.now.list q.0 j.0 holder }
     ensures { result ≡ gives_way (scene_by (O.grant order.now) (O.run order.now) machine.now) q.0 j.0 (place_seen holder) }
 {
     match holder {
@@ -112,7 +112,7 @@ fn offered<O: Order>(
     j: JobId,
     holder: Option<JobId>,
 ) -> Option<JobId>
-    requires { IsOffer machine.now.list q.0 j.0 holder }
+    requires { IsRequestBeside machine.now.list q.0 j.0 holder }
     ensures { NamesJob machine.now.list (offered (scene_by (O.grant order.now) (O.run order.now) machine.now) q.0 j.0 (place_seen holder)) result }
 {
     if gives_way(order, machine, q, j, holder) {

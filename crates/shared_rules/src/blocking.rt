@@ -1,4 +1,4 @@
-ghost use Rattle.std.specs.Prelude.{◌≡◌, ℕ, ◌<◌, length, IfSome};
+ghost use Rattle.std.specs.Prelude.{◌≡◌, ℕ, ◌<◌, length};
 ghost use Rattle.schedule_model.specs.RowDef.{RowDef};
 ghost use Rattle.schedule_model.specs.SharedRules.{KeepsRun};
 ghost use Rattle.schedule_model.specs.BlockedTicks.{is_shared_interference, is_blocked};
@@ -6,7 +6,7 @@ ghost use Rattle.schedule_model.specs.Seen.{row_seen, place_seen};
 ghost use Rattle.phase_machine.specs.MachineDef.{under};
 ghost use Rattle.phase_machine.specs.Shows.{Shows};
 ghost use Rattle.phase_machine.specs.Taking.{IsRowFor};
-ghost use Rattle.shared_rules.specs.Given.{AreRowAndJob, AreTwoJobs};
+ghost use Rattle.shared_rules.specs.Given.{CanTestJob, AreTwoJobs};
 ghost use Rattle.shared_rules.specs.Blocked.{waits_beside, blocked_now};
 
 use phase_machine::Machine;
@@ -33,7 +33,7 @@ fn waits_beside(machine: &Machine, j: JobId, running: Option<JobId>) -> bool
 /// Is the job active and not running, and does no job of a higher task of its processor run there?
 #[tactic(auto, unfolding(crate::specs::Blocked::blocked_now))]
 fn is_blocked(machine: &Machine, row: &Row, j: JobId) -> bool
-    requires { AreRowAndJob machine.now.list (row_seen row.now) j.0 }
+    requires { CanTestJob machine.now.list (row_seen row.now) j.0 }
     ensures { result ≡ blocked_now machine.now (row_seen row.now) j.0 }
 {
     machine.active(j) && waits_beside(machine, j, running_beside(machine, row, j))

@@ -1,4 +1,4 @@
-ghost use Rattle.std.specs.Prelude.{◌≡◌, ℕ, ◌<◌, length, Option, Some, None, IfSome};
+ghost use Rattle.std.specs.Prelude.{◌≡◌, ℕ, length};
 ghost use Rattle.number_laws.specs.Tests.{all_below};
 ghost use Rattle.schedule_model.specs.RowDef.{RowDef};
 ghost use Rattle.schedule_model.specs.Seen.{row_seen, place_seen};
@@ -7,7 +7,8 @@ ghost use Rattle.phase_machine.specs.MachineDef.{under};
 ghost use Rattle.phase_machine.specs.Shows.{Shows};
 ghost use Rattle.phase_machine.specs.Taking.{IsRowFor};
 ghost use Rattle.phase_machine.specs.Judged.{Judged};
-ghost use Rattle.shared_rules.specs.Given.{AreRowAndJob, AreRowAndResource, AreRowAndColumn, AreRowAndTwoJobs, IsRequestBeside};
+ghost use Rattle.shared_rules.specs.Given.{CanTestJob, CanTestResource, CanTestColumn, CanTestJobBeside};
+ghost use Rattle.phase_machine.specs.Given.{IsRequestBeside};
 ghost use Rattle.shared_rules.specs.RowTests.{each_current};
 ghost use Rattle.shared_rules.specs.RowTests.{may_stand, column_passes, each_stands, kept_passes};
 ghost use Rattle.shared_rules.specs.RowTests.{holder_passes, goes_before, request_passes, idle_passes, runs_before};
@@ -27,7 +28,7 @@ use sporadic_model::ResourceId;
 /// May the job be in the column, counted from 0?
 fn may_stand<C: Columns>(columns: &C, machine: &Machine, row: &Row, c: usize, j: JobId) -> bool
     requires suits { C.suits columns.now machine.now.list.set }
-    requires at { AreRowAndJob machine.now.list (row_seen row.now) j.0 }
+    requires at { CanTestJob machine.now.list (row_seen row.now) j.0 }
     ensures { result ≡ may_stand machine.now (C.column columns.now machine.now) (row_seen row.now) c j.0 }
 {
     machine.active(j)
@@ -38,7 +39,7 @@ fn may_stand<C: Columns>(columns: &C, machine: &Machine, row: &Row, c: usize, j:
 /// May the job that runs in the column be there?
 fn column_passes<C: Columns>(columns: &C, machine: &Machine, row: &Row, c: usize) -> bool
     requires suits { C.suits columns.now machine.now.list.set }
-    requires at { AreRowAndColumn machine.now.list (row_seen row.now) c }
+    requires at { CanTestColumn machine.now.list (row_seen row.now) c }
     ensures { result ≡ column_passes machine.now (C.column columns.now machine.now) (row_seen row.now) c }
 {
     match column_at(machine, row, c) {
@@ -64,7 +65,7 @@ pub fn each_stands<C: Columns>(columns: &C, machine: &Machine, row: &Row) -> boo
 
 /// Does the resource's holder in the last row hold it, if it still requests it?
 fn kept_passes(machine: &Machine, row: &Row, q: ResourceId) -> bool
-    requires { AreRowAndResource machine.now.list (row_seen row.now) q.0 }
+    requires { CanTestResource machine.now.list (row_seen row.now) q.0 }
     ensures { result ≡ kept_passes machine.now (row_seen row.now) q.0 }
 {
     match machine.holder(q) {
@@ -89,7 +90,7 @@ pub fn passes_keep(machine: &Machine, row: &Row) -> bool
 
 /// Does the resource's holder request it?
 fn holder_passes(machine: &Machine, row: &Row, q: ResourceId) -> bool
-    requires { AreRowAndResource machine.now.list (row_seen row.now) q.0 }
+    requires { CanTestResource machine.now.list (row_seen row.now) q.0 }
     ensures { result ≡ holder_passes machine.now (row_seen row.now) q.0 }
 {
     match holder_at(machine, row, q) {
@@ -113,7 +114,7 @@ pub fn holders_pass(machine: &Machine, row: &Row) -> bool
 
 /// Has the resource that the job requests a holder: an old one, or one that goes no later than the job?
 fn request_passes<O: Order>(order: &O, machine: &Machine, row: &Row, j: JobId) -> bool
-    requires { AreRowAndJob machine.now.list (row_seen row.now) j.0 }
+    requires { CanTestJob machine.now.list (row_seen row.now) j.0 }
     ensures { result ≡ request_passes machine.now (O.grant order.now machine.now) (row_seen row.now) j.0 }
 {
     match machine.phase(j) {
@@ -168,7 +169,7 @@ fn requests_pass<O: Order>(order: &O, machine: &Machine, row: &Row) -> bool
 
 /// Idle, for one job: does its processor run something, if the job is ready?
 fn idle_passes(machine: &Machine, row: &Row, j: JobId) -> bool
-    requires { AreRowAndJob machine.now.list (row_seen row.now) j.0 }
+    requires { CanTestJob machine.now.list (row_seen row.now) j.0 }
     ensures { result ≡ idle_passes machine.now (row_seen row.now) j.0 }
 {
     !may_run(machine, &row.holders, j) || running_beside(machine, row, j).is_some()
@@ -207,7 +208,7 @@ fn runs_before<O: Order>(
     j: JobId,
     running: Option<JobId>,
 ) -> bool
-    requires { AreRowAndTwoJobs machine.now.list (row_seen row.now) j.0 running }
+    requires { CanTestJobBeside machine.now.list (row_seen row.now) j.0 running }
     ensures { result ≡ runs_before machine.now (O.run order.now machine.now) (row_seen row.now) j.0 (place_seen running) }
 {
     match running {
@@ -223,7 +224,7 @@ fn runs_before<O: Order>(
 
 /// Priority, for one job: does the job that runs on its processor go no later?
 fn priority_passes<O: Order>(order: &O, machine: &Machine, row: &Row, j: JobId) -> bool
-    requires { AreRowAndJob machine.now.list (row_seen row.now) j.0 }
+    requires { CanTestJob machine.now.list (row_seen row.now) j.0 }
     ensures { result ≡ priority_passes machine.now (O.run order.now machine.now) (row_seen row.now) j.0 }
 {
     runs_before(order, machine, row, j, running_beside(machine, row, j))

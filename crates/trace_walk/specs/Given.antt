@@ -9,7 +9,7 @@ use Rattle.phase_machine.specs.MachineDef.{MachineDef}
 use Rattle.trace_walk.specs.Runs.{IsInRun, IsBeforeRun}
 use Rattle.trace_walk.specs.Reached.{IsReached}
 
--- Is the set one that suits the protocol and the keeper, and are the rows before the machine's tick walked?
+-- Can it walk on: is the set one that suits the protocol and the keeper, and are the rows before the machine's tick walked?
 pub record CanWalkOn {R : Type 0} (suiting fitting : SetDef → Type 0) (keeps : Rule → Trace → ℕ → Type 0) (kept : Trace → ℕ → R → Type 0)
     (rows : RowsDef) (m : MachineDef) (now : R) : Type 0
   where
@@ -17,14 +17,14 @@ pub record CanWalkOn {R : Type 0} (suiting fitting : SetDef → Type 0) (keeps :
     pub keeper : fitting m.list.set
     pub reached : IsReached keeps kept (row_in rows.runs) m now
 
--- And does the machine stand in run number i, with so many of its ticks left?
+-- Can it, and does the machine stand in run number i, with so many of its ticks left?
 pub record CanWalkStretch {R : Type 0} (suiting fitting : SetDef → Type 0) (keeps : Rule → Trace → ℕ → Type 0) (kept : Trace → ℕ → R → Type 0)
     (rows : RowsDef) (i left : ℕ) (m : MachineDef) (now : R) : Type 0
   where
     pub on : CanWalkOn suiting fitting keeps kept rows m now
     pub run : IsInRun rows i m left
 
--- Or is it before that run?
+-- Can it, and is i the number of a run, with the machine before that run?
 pub record CanWalkRun {R : Type 0} (suiting fitting : SetDef → Type 0) (keeps : Rule → Trace → ℕ → Type 0) (kept : Trace → ℕ → R → Type 0)
     (rows : RowsDef) (i : ℕ) (m : MachineDef) (now : R) : Type 0
   where
@@ -32,7 +32,7 @@ pub record CanWalkRun {R : Type 0} (suiting fitting : SetDef → Type 0) (keeps 
     pub within : i < length rows.runs
     pub before : IsBeforeRun rows i m
 
--- Or is it before all runs, and i, where the reader is, the first?
+-- Can it, and is i, the run at which the reader is, the first, with the machine before all runs?
 pub record CanWalkAll {R : Type 0} (suiting fitting : SetDef → Type 0) (keeps : Rule → Trace → ℕ → Type 0) (kept : Trace → ℕ → R → Type 0)
     (rows : RowsDef) (i : ℕ) (m : MachineDef) (now : R) : Type 0
   where

@@ -34,14 +34,14 @@ GoesSome keeps kept rows left before after now (Err (stop.Broken b)) =
     IsFirstUnlawful keeps (under before rows) (before.tick + left) b.tick b.rule
 GoesSome keeps kept rows left before after now (Err stop.Memory) = Unit {0}
 
--- Are the jobs still the same, and did the machine go on so to tick n?
+-- Are the jobs the same as before, and did the machine walk to tick n, or is this the first unlawful row?
 pub record WalksTo {R : Type 0} {T : Type 0} (keeps : Rule → Trace → ℕ → Type 0) (kept : Trace → ℕ → R → Type 0) (rows : RowsDef) (n : ℕ)
     (before after : MachineDef) (now : R) (answer : Result T Unlawful) : Type 0
   where
     pub list : after.list ≡ before.list
     pub walked : GoesOn keeps kept (row_in rows.runs) n before after now answer
 
--- Are they, and did it take some of the next rows so?
+-- Are they, and did it walk some of the next rows, or is this the first unlawful one?
 pub record WalksSome {R : Type 0} (keeps : Rule → Trace → ℕ → Type 0) (kept : Trace → ℕ → R → Type 0) (rows : RowsDef) (left : ℕ)
     (before after : MachineDef) (now : R) (answer : Result ℕ Unlawful) : Type 0
   where

@@ -1,5 +1,3 @@
-ghost use Rattle.std.specs.Prelude.{ℕ};
-
 use crate::keeper::Keeper;
 use phase_machine::{Judge, Machine};
 use schedule_model::RowReader;
@@ -16,8 +14,6 @@ pub struct Both<A, B> {
 
 impl<P: Judge, A: Keeper<P>, B: Keeper<P>> Keeper<P> for Both<A, B> {
     type Notes = (A::Notes, B::Notes);
-
-    ghost use Rattle.std.specs.Prelude.{ℕ};
 
     ghost fits = { λ k set. A.fits k.first set × B.fits k.second set };
 

@@ -1,4 +1,4 @@
-ghost use Rattle.std.specs.Prelude.{◌≡◌, ℕ, ◌+◌, ◌≤◌, OnOk};
+ghost use Rattle.std.specs.Prelude.{ℕ, ◌+◌, ◌≤◌, OnOk};
 ghost use Rattle.sporadic_model.specs.SetDef.{SetDef};
 ghost use Rattle.schedule_model.specs.RowDef.{Trace, row_in};
 ghost use Rattle.phase_machine.specs.MachineDef.{MachineDef, under};
