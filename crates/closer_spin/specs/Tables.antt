@@ -4,7 +4,7 @@ use Rattle.sporadic_model.specs.SetDef.{SetDef}
 use Rattle.program_sources.specs.Bounds.{AreWithinDeadlines}
 use Rattle.blocking_columns.specs.declared.columns.Fragment.{Fragment}
 use Rattle.spin_charging.specs.SpinPrograms.{is_used_below, upper_requests}
-use Rattle.spin_protocol.specs.Given.{CanMakeRows}
+use Rattle.blocking_columns.specs.Given.{AreKnownAt}
 use Rattle.spin_protocol.specs.Tables.{Tells}
 use Rattle.closer_spin_laws.specs.CloserSpinRows.{is_spun_below}
 
@@ -18,7 +18,7 @@ TellsSpun set i k table = Tells (length set.resources) (is_spun_below set i k) t
 
 -- Can rows of task i be made at these bounds, over these columns, with a table that says which resources lower tasks use?
 pub record CanMakeRowsWith (set : SetDef) (i : ℕ) (bounds : List ℕ) (columns : List Fragment) (table : List Bool) : Type 0 where
-  pub can : CanMakeRows set i bounds columns
+  pub can : AreKnownAt set bounds i columns
   pub below : TellsUsedBelow set i table
 
 -- Is i a task of the set, has each task a bound, at most its deadline, and each resource an entry in the table?

@@ -6,7 +6,7 @@ ghost use Rattle.fragments.specs.Constraints.{per};
 ghost use Rattle.closer_spin_laws.specs.CloserSpinRows.{is_spun_below, closer_spinning_row};
 ghost use Rattle.closer_spin_laws.specs.CloserSpinRows.{lower_spinning_row, other_lower_spinning_row};
 ghost use Rattle.spin_protocol.specs.Origins.{AreOrigins};
-ghost use Rattle.spin_protocol.specs.Given.{CanMakeRows};
+ghost use Rattle.blocking_columns.specs.Given.{AreKnownAt};
 ghost use Rattle.spin_protocol.specs.Tables.{Tells};
 ghost use Rattle.closer_spin.specs.Tables.{TellsUsedBelow, TellsSpun};
 ghost use Rattle.closer_spin.specs.Together.{taken_together, row_together, AreTold};
@@ -171,7 +171,7 @@ fn add_together<T: RowTaker>(
     columns: &[Fragment],
     row: &TogetherRow,
 ) -> Result<(), AllocError>
-    requires can { CanMakeRows set.now i.0 bounds.now columns.now }
+    requires can { AreKnownAt set.now bounds.now i.0 columns.now }
     requires table { Tells (length set.now.resources) (taken_together set.now i.0 row.now.processor row.now.without) row.now.table.items }
     ensures { OnOk result (T.takes taker.old (map column_seen columns.now)
         (row_together set.now i.0 row.now.processor row.now.without ∷ []) bounds.now taker.new) }

@@ -11,7 +11,8 @@ ghost use Rattle.spin_charging.specs.SpinPrograms.{is_used_beside, is_spin_colum
 ghost use Rattle.spin_charging.specs.SpinPrograms.{spin_columns, lower_request_row, own_spinning_row, spin_rows};
 ghost use Rattle.spin_charging.proofs.SpinPrograms.{spin_is_program};
 ghost use Rattle.spin_protocol.specs.SpinRows.{rows_of_kind};
-ghost use Rattle.spin_protocol.specs.Given.{AreTwoTasks, CanMakeRows};
+ghost use Rattle.blocking_columns.specs.Given.{AreKnownAt};
+ghost use Rattle.spin_protocol.specs.Given.{AreTwoTasks};
 ghost use Rattle.spin_protocol.specs.Used.{AreUsedBeside};
 
 use crate::Spin;
@@ -97,7 +98,7 @@ fn add_spinning_rows<T: RowTaker>(
     bounds: &[u64],
     columns: &[Fragment],
 ) -> Result<(), AllocError>
-    requires { CanMakeRows set.now i.0 bounds.now columns.now }
+    requires { AreKnownAt set.now bounds.now i.0 columns.now }
     ensures { OnOk result (T.takes taker.old (map column_seen columns.now) (rows_of_kind spinning set.now i.0) bounds.now taker.new) }
 {
     let processors = set.processors();
@@ -119,7 +120,7 @@ pub fn add_own_spinning<T: RowTaker>(
     bounds: &[u64],
     columns: &[Fragment],
 ) -> Result<(), AllocError>
-    requires { CanMakeRows set.now i.0 bounds.now columns.now }
+    requires { AreKnownAt set.now bounds.now i.0 columns.now }
     ensures { OnOk result (T.takes taker.old (map column_seen columns.now)
         (per_pair set.now.processors (length set.now.resources) (λ k q. own_spinning_row set.now i.0 (k + 1) q)) bounds.now taker.new) }
 {
@@ -136,7 +137,7 @@ pub fn add_lower_requests<T: RowTaker>(
     bounds: &[u64],
     columns: &[Fragment],
 ) -> Result<(), AllocError>
-    requires { CanMakeRows set.now i.0 bounds.now columns.now }
+    requires { AreKnownAt set.now bounds.now i.0 columns.now }
     ensures { OnOk result (T.takes taker.old (map column_seen columns.now) (lower_request_row ∷ []) bounds.now taker.new) }
 {
     add_row(alloc, taker, &LowerRequestRow, set, i, bounds, columns)
