@@ -8,7 +8,7 @@ ghost use Rattle.dpcp_rules.specs.RowTests.{idle_passes, passes_idle, goes_first
 ghost use Rattle.dpcp_rules.specs.RowTests.{passes_priority};
 ghost use Rattle.dpcp_rules.specs.TaskOrder.{task_now};
 ghost use Rattle.dpcp_rules.specs.Given.{IsJobServed, IsRowServed, AreRowAndJobServed};
-ghost use Rattle.shared_rules.specs.Given.{AreRowAndTwoJobs};
+ghost use Rattle.shared_rules.specs.Given.{CanTestJobBeside};
 ghost use Rattle.dpcp_rules.specs.Verdicts.{IsJudgement};
 
 use crate::Dpcp;
@@ -108,7 +108,7 @@ fn goes_first<O: Order>(
     j: JobId,
     running: Option<JobId>,
 ) -> bool
-    requires { AreRowAndTwoJobs machine.now.list (row_seen row.now) j.0 running }
+    requires { CanTestJobBeside machine.now.list (row_seen row.now) j.0 running }
     ensures { result ≡ goes_first machine.now (O.run order.now machine.now) (row_seen row.now) j.0 (place_seen running) }
 {
     let Some(r) = running else {
