@@ -154,15 +154,10 @@ StopsAt points f v i left (stop.Wide task) = (task.0 ≡ i) × WalkRuns points f
 StopsAt points f v i left stop.Allowance = WalkRuns points f v i left OutOfUnits
 StopsAt points f v i left stop.Memory = Unit {0}
 
--- What is found of task i's program at the bounds v with so many units, or why nothing is.
-abbrev pub GivesTask : Result Reached SettleStop → Points → SourceDef → List ℕ → ℕ → ℕ → Type 0
-GivesTask (Ok reached) points f v i left = (IsFoundAt points f v i reached) × (reached.used ≤ left)
-GivesTask (Err e) points f v i left = StopsAt points f v i left e
-
 -- What a round of a walk begins with: bounds in range, and what was found at other bounds.
-pub record IsBegun (points : Points) (f : SourceDef) (v : List ℕ) (before : List Reached) : Type 0 where
+pub record IsBegun (points : Points) (f : SourceDef) (v : List ℕ) (found : List Reached) : Type 0 where
   pub range : IsInRange f.set v
-  pub before : (u : List ℕ) × AreFoundAt points f u before
+  pub before : (u : List ℕ) × AreFoundAt points f u found
 
 -- What is found ahead of a round: of programs at the bounds v, each with its task, or each at its task's place.
 abbrev pub AreFoundWithTasks : Points → SourceDef → List ℕ → List (Placed Reached) → Type 0

@@ -1,10 +1,10 @@
 //! Searches the programs of a round side by side, ahead of their places in it.
 
-ghost use Rattle.std.specs.Prelude.{◌≡◌, ℕ, ◌<◌, ◌^◌, length, slice_get, Some, IfOk, IfSome};
+ghost use Rattle.std.specs.Prelude.{◌≡◌, ℕ, ◌<◌, ◌≤◌, ◌^◌, length, slice_get, Some, IfOk, IfErr, IfSome};
 ghost use Rattle.program_sources.specs.Bounds.{IsInRange};
 ghost use Rattle.program_sources.specs.Recurrence.{source_at};
 ghost use Rattle.response_fixpoint.specs.Sharing.{IsShare};
-ghost use Rattle.settling.specs.Rising.{AreFoundInPlaces, AreFoundWithTasks, GivesTask, IsBegun, IsFoundAt};
+ghost use Rattle.settling.specs.Rising.{AreFoundInPlaces, AreFoundWithTasks, IsBegun, IsFoundAt, StopsAt};
 
 use crate::answer::SettleStop;
 use crate::finding::Points;
@@ -146,7 +146,9 @@ pub(crate) fn reach_in_place<P: ProgramSource>(
     requires task { i.0 < length set.now.tasks }
     requires begun { IsBegun points (source_at (P.source protocol.now) set.now) bounds.now before.now }
     requires ahead { IfSome ahead (IsFoundAt points (source_at (P.source protocol.now) set.now) bounds.now i.0) }
-    ensures { GivesTask result points (source_at (P.source protocol.now) set.now) bounds.now i.0 units }
+    ensures found { IfOk result (IsFoundAt points (source_at (P.source protocol.now) set.now) bounds.now i.0) }
+    ensures within { IfOk result (λ reached. reached.used ≤ units) }
+    ensures stops { IfErr result (StopsAt points (source_at (P.source protocol.now) set.now) bounds.now i.0 units) }
 {
     if let Some(reached) = ahead {
         if reached.used <= units {

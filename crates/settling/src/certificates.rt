@@ -4,7 +4,7 @@ ghost use Rattle.std.specs.Prelude.{◌≡◌, ◌≤◌, map, IfOk, IfErr, IsTr
 ghost use Rattle.program_form.specs.Certificate.{dual_seen, certificate_seen};
 ghost use Rattle.program_sources.specs.Recurrence.{source_at};
 ghost use Rattle.response_fixpoint.specs.Answers.{IsSmallDual};
-ghost use Rattle.settling.specs.Rising.{IsFixed, IsLastFailure, IsProvedLeast, StopsFor, StopsLost};
+ghost use Rattle.settling.specs.Rising.{IsFixed, IsLastFailure, ProvesLeast, StopsFor, StopsLost};
 ghost use Rattle.settling.specs.declared.finding.Points.TheVariants.{Exact};
 
 use crate::answer::SettleStop;

@@ -1,10 +1,10 @@
 //! What the program of each task reaches at bounds, by points that are tested.
 
-ghost use Rattle.std.specs.Prelude.{◌≡◌, ◌<◌, ◌≤◌, ◌^◌, length, IfOk, MatchOption};
+ghost use Rattle.std.specs.Prelude.{◌≡◌, ◌<◌, ◌≤◌, ◌^◌, length, IfOk, IfErr, MatchOption};
 ghost use Rattle.program_form.specs.Certificate.{dual_seen};
 ghost use Rattle.program_sources.specs.Bounds.{IsInRange};
 ghost use Rattle.program_sources.specs.Recurrence.{source_at};
-ghost use Rattle.settling.specs.Rising.{GivesTask, IsBegun, IsSame, IsWrittenOver, AreGreat, seen_point};
+ghost use Rattle.settling.specs.Rising.{IsFoundOf, IsBegun, StopsAt, IsSame, IsWrittenOver, AreGreat, seen_point};
 
 use crate::answer::SettleStop;
 use crate::finding::{Points, find};
@@ -104,7 +104,9 @@ fn search_task<P: ProgramSource>(
     requires task { i.0 < length set.now.tasks }
     requires range { IsInRange set.now bounds.now }
     requires limits { limits.items ≡ ((P.source protocol.now set.now).program i.0 bounds.now).limits }
-    ensures { GivesTask result points (source_at (P.source protocol.now) set.now) bounds.now i.0 units }
+    ensures found { IfOk result (IsFoundOf points ((P.source protocol.now set.now).program i.0 bounds.now)) }
+    ensures within { IfOk result (λ reached. reached.used ≤ units) }
+    ensures stops { IfErr result (StopsAt points (source_at (P.source protocol.now) set.now) bounds.now i.0 units) }
 {
     what_is_found_is_best();
     let program = protocol.sparse_program(alloc, set, i, bounds)?;
@@ -150,7 +152,9 @@ pub(crate) fn reach_task<P: ProgramSource>(
     requires serves { P.serves protocol.now set.now }
     requires task { i.0 < length set.now.tasks }
     requires begun { IsBegun points (source_at (P.source protocol.now) set.now) bounds.now before.now }
-    ensures { GivesTask result points (source_at (P.source protocol.now) set.now) bounds.now i.0 units }
+    ensures found { IfOk result (IsFoundOf points ((P.source protocol.now set.now).program i.0 bounds.now)) }
+    ensures within { IfOk result (λ reached. reached.used ≤ units) }
+    ensures stops { IfErr result (StopsAt points (source_at (P.source protocol.now) set.now) bounds.now i.0 units) }
 {
     let limits = protocol.limits(alloc, set, i, bounds)?;
     if let Some(last) = before.get(i.0 as usize) {

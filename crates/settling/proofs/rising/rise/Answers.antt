@@ -28,8 +28,11 @@ loop-round-init g c =
       written = λ rounded. c.new-steps.ensures.written;
     }
 
-pub take_round-round-requires-clause-before : goal.take_round-round-requires-clause-before
-take_round-round-requires-clause-before g c = λ κs h. rw c.deref-in-loop-round.ensures.value c.loop-round.invariant.before
+pub take_round-round-requires-clause-begun : goal.take_round-round-requires-clause-begun
+take_round-round-requires-clause-begun g c = λ κs h. record {
+  range = rw c.deref.ensures.value c.loop-round.invariant.range;
+  before = rw c.deref-in-loop-round.ensures.value c.loop-round.invariant.before;
+}
 
 pub returns-in-Ok-None-clause-rises : goal.returns-in-Ok-None-clause-rises
 returns-in-Ok-None-clause-rises g c =
@@ -87,6 +90,6 @@ loop-round-preserved g c =
       below = next_below c.args.points f v round.next.items round.reached.items responds part.next part.one_each part.reached
           c.loop-round.invariant.below;
       before = (v, part.reached);
-      trail = given.1;
-      written = given.2;
+      trail = given.1.trail;
+      written = given.1.written;
     }

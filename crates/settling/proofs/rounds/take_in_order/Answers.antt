@@ -20,7 +20,7 @@ pub returns-in-Err : goal.returns-in-Err
 returns-in-Err g c =
     let f : SourceDef = source_at (g.P.ProgramSource.source c.args.protocol.now) c.args.set.now in
     round_stops c.args.points f c.args.bounds.now c.args.left c.loop-i.i c.loop-i.round c.loop-i.steps c.in-Err.stop (omega arith)
-    c.loop-i.invariant.part (rw c.in-Err.is at c.reach_in_place.ensures)
+    c.loop-i.invariant.part c.in-Err.ensures.stops
 
 pub reach_in_place-requires-clause-ahead : goal.reach_in_place-requires-clause-ahead
 reach_in_place-requires-clause-ahead g c =
@@ -88,4 +88,4 @@ returns g c =
     subst (λ (k : ℕ). IsTrailWithin f r (found_of c.loop-i.round) k c.loop-i.steps) last c.loop-i.invariant.trail in
     let count : length (found_of c.loop-i.round).values ≡ tasks_of f =
     values_length (walk c.args.points f) r c.args.left (tasks_of f) (found_of c.loop-i.round) part.passed in
-    (part, trail_whole f r (found_of c.loop-i.round) c.loop-i.steps count trail, c.loop-i.invariant.written)
+    (part, record { trail = trail_whole f r (found_of c.loop-i.round) c.loop-i.steps count trail; written = c.loop-i.invariant.written })
