@@ -50,6 +50,19 @@ HALVES_BOUNDS = {
 }
 
 
+def whole_costs(deadline=10**6):
+    """A set whose first task waits for eight others. Each requests a resource of its own twice, and has the cost for less than both requests. So at
+    each best point the two are its cost over its length. No two lengths share a divisor, so the least common denominator has 65 bits."""
+    lengths = (257, 263, 269, 271, 277, 281, 283, 293)
+    others = (task(f"t{k}", k, 10**6, length + 100 + k, (f"q{k}", length, 2)) for k, length in enumerate(lengths, 2))
+    own = [(f"q{k}", 1, 2) for k in range(2, 10)]
+    return task_set(9, [resource(f"q{k}") for k in range(2, 10)], task("t1", 1, 10**6, 20, *own, deadline=deadline), *others)
+
+
+# t1 is blocked for 3038 ticks, all costs of the others together, and lasts 20 itself
+WHOLE_COSTS_BOUNDS = [3058, 361, 368, 375, 378, 385, 390, 393, 404]
+
+
 def nearly_whole(deadline=10**9):
     """A set whose first task is blocked for a trillionth of a tick less than 600001005 under MPCP. The only best dual has a least common
     denominator of 80 bits and a number of 300000000. Rounded up it comes to 600001005."""
@@ -101,6 +114,15 @@ def refused(shows, protocol, text, analysed="wide t1\n"):
     ]
 
 
+def unwritable(protocol, text, analysed):
+    """No best point of the first task has 63 bits, though the analysis isn't wide."""
+    return [
+        Case(f"no best point has a form, analysed, {protocol}", f"analyse {protocol} set", analysed, 1, {"set": text}),
+        Case(f"no best point has a form, to be refuted, {protocol}", f"refute {protocol} set", "wide t1\n", 5, {"set": text}),
+        Case(f"no best point has a form, {protocol}", f"settle {protocol} set", "wide t1\n", 5, {"set": text}),
+    ]
+
+
 def steps_alone(protocol, text, *steps):
     """A refusal whose steps have these tasks and values, with any points."""
     each = ",".join(rf'\{{"point":\{{"den":\d+,"num":\[[\d,]*\]\}},"task":{number},"value":{value}\}}' for number, value in steps)
@@ -148,6 +170,8 @@ WIDE_AND_NOT_SHOWN = [
 NOT_SETTLED = [
     ended("the only best point has no form", "mpcp set", "wide t1\n", 5, halves(78743917)),
     ended("each dual that has a form comes to a tick more", "mpcp set", "wide t1\n", 5, nearly_whole()),
+    *(case for word in ("fmlp+", "mpcp") for case in unwritable(word, whole_costs(3057), "not shown t1 3058 3057\n")),
+    *bounded("a tick later", "fmlp+", whole_costs(3058), WHOLE_COSTS_BOUNDS),
 ]
 
 ALLOWANCES = [
