@@ -40,7 +40,7 @@ fn refusal_of(alloc: Global, steps: &[Step]) -> Result<Refusal, AllocError> {
     Ok(refusal)
 }
 
-fn confirmed<R: Threads + Sync>(
+fn confirm_steps<R: Threads + Sync>(
     rt: &R,
     alloc: Global,
     set: &TaskSet,
@@ -63,9 +63,9 @@ fn two_points_are_tested_at_the_same_time(rt: HostRuntime) -> Result<(), Fail> {
         written: Written(Protocol::FmlpPlus),
         watch: Watch::Programs(flags.meeting()),
     };
-    assert!(rt; confirmed(&rt, alloc, &set, &source, STEPS)? == Ok(()));
+    assert!(rt; confirm_steps(&rt, alloc, &set, &source, STEPS)? == Ok(()));
     assert!(rt; flags.have_met());
-    let beyond = confirmed(&rt, alloc, &set, &source, &[(1, 5, 1), (2, 5, 2)])?;
+    let beyond = confirm_steps(&rt, alloc, &set, &source, &[(1, 5, 1), (2, 5, 2)])?;
     assert!(rt; beyond == Err(Fault::Row { step: 2, row: 1 }));
     Ok(())
 }

@@ -1,6 +1,6 @@
 ghost use Rattle.std.specs.Prelude.{◌<◌, length};
 
-use crate::simplex_tests::{judged, program_of};
+use crate::simplex_tests::{program_of, program_or_refusal};
 use crate::threads::may_cross_threads;
 use program_form::{Certificate, Dual, MOST_NUMBER, Program, ProgramRefusal, RowBlock};
 use std::alloc::{AllocError, Global};
@@ -66,7 +66,7 @@ fn is_refused(
     limits: &[u64],
     wanted: ProgramRefusal,
 ) -> Result<(), AllocError> {
-    let refusal = judged(rt, alloc, costs, rows, limits)?.err();
+    let refusal = program_or_refusal(rt, alloc, costs, rows, limits)?.err();
     assert_eq!(rt; refusal, Some(wanted));
     Ok(())
 }

@@ -31,12 +31,12 @@ pub(crate) fn are_within(set: &TaskSet, bounds: &[u64]) -> bool
 }
 
 /// The set of the rows. The function has no contract, so what its callers know doesn't have the rows.
-fn built(alloc: Global, rows: SetRow<'_>) -> Result<TaskSet, Fail> {
+fn built_set(alloc: Global, rows: SetRow<'_>) -> Result<TaskSet, Fail> {
     Ok(set_of(alloc, rows)?)
 }
 
 /// The program of the case, made by the source of the protocol's programs.
-fn formed(alloc: Global, set: &TaskSet, case: &Case) -> Result<Program, Fail> {
+fn program_from_source(alloc: Global, set: &TaskSet, case: &Case) -> Result<Program, Fail> {
     let task = TaskId(case.task);
     if case.task < set.tasks() && suits(set, case.protocol) && are_within(set, case.bounds) {
         return Ok(Written(case.protocol).program(alloc, set, task, case.bounds)?);
@@ -46,8 +46,8 @@ fn formed(alloc: Global, set: &TaskSet, case: &Case) -> Result<Program, Fail> {
 
 /// The program of the case, with its set built for it.
 fn program_of(alloc: Global, case: &Case) -> Result<Program, Fail> {
-    let set = built(alloc, case.set)?;
-    formed(alloc, &set, case)
+    let set = built_set(alloc, case.set)?;
+    program_from_source(alloc, &set, case)
 }
 
 /// Are these the columns?
@@ -71,7 +71,7 @@ fn row_of(alloc: Global, program: &Program, r: u32) -> Result<Vec<u64>, AllocErr
 
 /// The columns of the case's program.
 fn columns_of(alloc: Global, case: &Case) -> Result<Vec<Fragment>, Fail> {
-    let set = built(alloc, case.set)?;
+    let set = built_set(alloc, case.set)?;
     if case.task >= set.tasks() || !suits(&set, case.protocol) {
         return Err("out of range".into());
     }
@@ -151,7 +151,7 @@ fn formed_sparse(alloc: Global, set: &TaskSet, case: &Case) -> Result<SparseProg
 }
 
 fn sparse_program_of(alloc: Global, case: &Case) -> Result<SparseProgram, Fail> {
-    let set = built(alloc, case.set)?;
+    let set = built_set(alloc, case.set)?;
     formed_sparse(alloc, &set, case)
 }
 
@@ -200,13 +200,13 @@ fn gives_the_same_programs_by_their_nonzero_coefficients(rt: HostRuntime) -> Res
 }
 
 /// The interference of the case's task at bounds that are no less than the costs.
-fn counted(
+fn interference_of(
     alloc: Global,
     set: SetRow<'_>,
     protocol: Protocol,
     bounds: &[u64],
 ) -> Result<u64, Fail> {
-    let set = built(alloc, set)?;
+    let set = built_set(alloc, set)?;
     let at_costs = set.tasks() > 1 && are_within(&set, bounds) && bounds[0] >= set.cost(TaskId(0));
     if at_costs && suits(&set, protocol) {
         return Ok(Written(protocol).interference(&set, TaskId(1), bounds));
@@ -219,9 +219,12 @@ fn counted(
 #[test]
 fn counts_the_interference(rt: HostRuntime) -> Result<(), Fail> {
     let alloc = rt.alloc();
-    assert_eq!(rt; counted(alloc, BESIDE, Protocol::FmlpPlus, &[4, 9, 7])?, 4);
-    assert_eq!(rt; counted(alloc, LOCAL, Protocol::Mpcp, &[6, 9])?, 8);
-    assert_eq!(rt; counted(alloc, LOCAL, Protocol::Dpcp, &[6, 9])?, 4);
+    assert_eq!(rt;
+        interference_of(alloc, BESIDE, Protocol::FmlpPlus, &[4, 9, 7])?,
+        4
+    );
+    assert_eq!(rt; interference_of(alloc, LOCAL, Protocol::Mpcp, &[6, 9])?, 8);
+    assert_eq!(rt; interference_of(alloc, LOCAL, Protocol::Dpcp, &[6, 9])?, 4);
     Ok(())
 }
 
@@ -255,7 +258,7 @@ fn common_and_preemption(alloc: Global, set: &TaskSet) -> Result<(RowBlock, RowB
 #[test]
 fn gives_common_rows_and_those_of_preemption(rt: HostRuntime) -> Result<(), Fail> {
     let alloc = rt.alloc();
-    let (common, preemption) = common_and_preemption(alloc, &built(alloc, PATHS)?)?;
+    let (common, preemption) = common_and_preemption(alloc, &built_set(alloc, PATHS)?)?;
     let limits = [1, 1, 1, 1, 10, 10, 10, 10];
     assert_eq!(rt; common.limits.as_slice(), limits.as_slice());
     assert!(rt; is_block(&preemption, &[], &[]));
@@ -282,7 +285,7 @@ fn place(from: usize, jobs: u64) -> TaskPlace {
 #[test]
 fn gives_the_places_of_tasks(rt: HostRuntime) -> Result<(), Fail> {
     let alloc = rt.alloc();
-    let places = places_of(alloc, &built(alloc, PATHS)?)?;
+    let places = places_of(alloc, &built_set(alloc, PATHS)?)?;
     let wanted = [
         place(0, 1),
         place(1, 1),
@@ -312,7 +315,7 @@ fn direct_and_indirect(alloc: Global, set: &TaskSet) -> Result<(RowBlock, RowBlo
 #[test]
 fn gives_direct_and_indirect_rows(rt: HostRuntime) -> Result<(), Fail> {
     let alloc = rt.alloc();
-    let (own, indirect) = direct_and_indirect(alloc, &built(alloc, PATHS)?)?;
+    let (own, indirect) = direct_and_indirect(alloc, &built_set(alloc, PATHS)?)?;
     assert!(rt; is_block(&own, &[&[0, 0, 0, 1]], &[1]));
     assert!(rt; is_block(&indirect, &[&[0, 0, 1, 0]], &[3]));
     Ok(())
@@ -321,7 +324,7 @@ fn gives_direct_and_indirect_rows(rt: HostRuntime) -> Result<(), Fail> {
 // The bounds 60 and 60 together are more than a period of 100, so two jobs count.
 #[test]
 fn counts_the_requests_in_a_window(rt: HostRuntime) -> Result<(), Fail> {
-    let set = built(rt.alloc(), PATHS)?;
+    let set = built_set(rt.alloc(), PATHS)?;
     let bounds = [60; 6];
     if set.tasks() != 6 || set.resources() != 2 || !are_within(&set, &bounds) {
         return Err("out of range".into());

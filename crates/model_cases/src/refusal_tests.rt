@@ -21,7 +21,7 @@ pub(crate) const SHORT_THREE: &str =
 type Step<'a> = (u64, u64, u64, &'a [u64]);
 
 /// The answer for the set of a text.
-fn answered(
+fn answer_for(
     alloc: Global,
     text: &str,
     protocol: Protocol,
@@ -52,7 +52,7 @@ fn has_steps(answer: &Result<Answer, RefuteStop>, wanted: &[Step<'_>]) -> bool {
 // the third together at most 1. It is worth 14/3, and 4 + 4 is more than 7.
 #[test]
 fn writes_thirds(rt: HostRuntime) -> Result<(), Fail> {
-    let answer = answered(rt.alloc(), SHORT_THREE, Protocol::Mpcp, MOST)?;
+    let answer = answer_for(rt.alloc(), SHORT_THREE, Protocol::Mpcp, MOST)?;
     assert!(rt; has_steps(&answer, &[(1, 8, 3, &[2, 3, 1])]));
     Ok(())
 }
@@ -61,9 +61,9 @@ fn writes_thirds(rt: HostRuntime) -> Result<(), Fail> {
 #[test]
 fn finds_a_set_schedulable(rt: HostRuntime) -> Result<(), Fail> {
     let alloc = rt.alloc();
-    let answer = answered(alloc, PAIR, Protocol::FmlpPlus, 8)?;
+    let answer = answer_for(alloc, PAIR, Protocol::FmlpPlus, 8)?;
     assert!(rt; matches!(answer, Ok(Answer::Schedulable)));
-    let short = answered(alloc, PAIR, Protocol::FmlpPlus, 7)?;
+    let short = answer_for(alloc, PAIR, Protocol::FmlpPlus, 7)?;
     assert!(rt; matches!(short, Err(RefuteStop::Allowance)));
     Ok(())
 }

@@ -13,7 +13,7 @@ const SHARED: &str =
 {"name":"t3","processor":2,"period":30,"cost":6,"local":4,"requests":[{"resource":"s","count":1,"length":5}]}]}"#;
 
 // It has no contract, so what its callers know doesn't have the text.
-fn shared(alloc: Global) -> Result<TaskSet, Fail> {
+fn shared_set(alloc: Global) -> Result<TaskSet, Fail> {
     set_from(alloc, SHARED)
 }
 
@@ -41,7 +41,7 @@ fn is_higher_local(set: &TaskSet, x: TaskId, y: TaskId) -> Option<bool> {
 
 #[test]
 fn answers_the_numbers(rt: HostRuntime) -> Result<(), Fail> {
-    let set = shared(rt.alloc())?;
+    let set = shared_set(rt.alloc())?;
     let (t1, t2, t3, s) = (TaskId(0), TaskId(1), TaskId(2), ResourceId(1));
     assert!(rt; set.processors() == 2 && set.tasks() == 3 && set.resources() == 3);
     assert!(rt; answers(&set, t2) == Some(("t2", 1, [20, 19, 5, 3])));
@@ -67,7 +67,7 @@ fn requests(set: &TaskSet, x: TaskId, q: ResourceId) -> Option<(u64, u64)> {
 
 #[test]
 fn answers_the_ceilings(rt: HostRuntime) -> Result<(), Fail> {
-    let set = shared(rt.alloc())?;
+    let set = shared_set(rt.alloc())?;
     let (r, s, u) = (ResourceId(0), ResourceId(1), ResourceId(2));
     assert!(rt; set.tasks() == 3 && set.resources() == 3);
     assert_eq!(rt; requests(&set, TaskId(1), r), Some((2, 1)));
@@ -81,7 +81,7 @@ fn answers_the_ceilings(rt: HostRuntime) -> Result<(), Fail> {
 
 #[test]
 fn answers_the_boosts(rt: HostRuntime) -> Result<(), Fail> {
-    let set = shared(rt.alloc())?;
+    let set = shared_set(rt.alloc())?;
     let (r, s, u) = (ResourceId(0), ResourceId(1), ResourceId(2));
     assert!(rt; set.resources() == 3);
     assert_eq!(rt;
@@ -111,7 +111,7 @@ fn has_users(set: &TaskSet, q: ResourceId, tasks: &[TaskId]) -> bool {
 
 #[test]
 fn answers_who_uses_what(rt: HostRuntime) -> Result<(), Fail> {
-    let set = shared(rt.alloc())?;
+    let set = shared_set(rt.alloc())?;
     let (t1, t2, t3) = (TaskId(0), TaskId(1), TaskId(2));
     let (r, s, u) = (ResourceId(0), ResourceId(1), ResourceId(2));
     assert!(rt; set.tasks() == 3 && set.resources() == 3);

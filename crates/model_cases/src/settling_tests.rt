@@ -34,7 +34,7 @@ type Weights<'a> = (u64, &'a [u64]);
 /// A step's task and value, and its point.
 type Step<'a> = (u64, u64, Weights<'a>);
 
-fn answered<R: Threads + Sync>(
+fn settlement_of<R: Threads + Sync>(
     rt: &R,
     alloc: Global,
     text: &str,
@@ -79,7 +79,7 @@ fn has_steps(answer: &Result<Settled, SettleStop>, wanted: &[Step<'_>]) -> bool 
 // By the programs as they are worded, solved in fractions: the first task's optimum is 166383318391163/7356521.
 #[test]
 fn settles_a_wide_set(rt: HostRuntime) -> Result<(), Fail> {
-    let answer = answered(&rt, rt.alloc(), WIDE)?;
+    let answer = settlement_of(&rt, rt.alloc(), WIDE)?;
     assert!(rt;
         has_certificate(
             &answer,
@@ -108,7 +108,7 @@ fn settles_a_wide_set(rt: HostRuntime) -> Result<(), Fail> {
 
 #[test]
 fn refuses_a_wide_set(rt: HostRuntime) -> Result<(), Fail> {
-    let answer = answered(&rt, rt.alloc(), WIDE_AND_SHORT)?;
+    let answer = settlement_of(&rt, rt.alloc(), WIDE_AND_SHORT)?;
     assert!(rt;
         has_steps(
             &answer,
@@ -122,9 +122,9 @@ fn refuses_a_wide_set(rt: HostRuntime) -> Result<(), Fail> {
 #[test]
 fn answers_as_the_rounds_do(rt: HostRuntime) -> Result<(), Fail> {
     let alloc = rt.alloc();
-    let fitting = answered(&rt, alloc, PAIR)?;
+    let fitting = settlement_of(&rt, alloc, PAIR)?;
     assert!(rt; has_certificate(&fitting, &[5, 5], &[(1, &[2, 0, 0]), (1, &[1, 0])]));
-    let late = answered(&rt, alloc, SHORT_THREE)?;
+    let late = settlement_of(&rt, alloc, SHORT_THREE)?;
     assert!(rt; has_steps(&late, &[(1, 8, (3, &[2, 3, 1]))]));
     Ok(())
 }

@@ -20,7 +20,7 @@ fn rows_of(alloc: Global, rows: &[&[u64]]) -> Result<Vec<Vec<u64>>, AllocError>
 }
 
 /// What `Program::new` answers to these lists.
-pub(crate) fn judged(
+pub(crate) fn program_or_refusal(
     rt: &impl Abort,
     alloc: Global,
     costs: &[u64],
@@ -41,7 +41,7 @@ pub(crate) fn program_of(
     rows: &[&[u64]],
     limits: &[u64],
 ) -> Result<Program, AllocError> {
-    Ok(judged(rt, alloc, costs, rows, limits)?.expect(rt, "a program"))
+    Ok(program_or_refusal(rt, alloc, costs, rows, limits)?.expect(rt, "a program"))
 }
 
 fn are_parts(values: &[Frac], parts: &[(i64, i64)]) -> bool {

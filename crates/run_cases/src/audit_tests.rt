@@ -27,7 +27,7 @@ fn certificate_of(alloc: Global, proof: Proof) -> Result<Certificate, AllocError
 }
 
 /// The answer for the rows and the certificate.
-fn audited(
+fn answer_to_audit(
     alloc: Global,
     protocol: Protocol,
     certificate: &Certificate,
@@ -55,7 +55,7 @@ fn audit_of(
     let jobs = trace_csv::read_jobs(alloc, &set, jobs.as_bytes())?;
     let rows = trace_csv::read_rows(alloc, &jobs, rows.as_bytes())?;
     let certificate = certificate_of(alloc, proof)?;
-    audited(alloc, protocol, &certificate, &jobs, &rows)
+    answer_to_audit(alloc, protocol, &certificate, &jobs, &rows)
 }
 
 /// The response, the bound, the blocking, the value, and the ticks of the three classes.

@@ -169,13 +169,13 @@ fn one_shelf_and_one_sink_serve_two_runs(rt: HostRuntime) -> Result<(), Fail> {
 }
 
 /// Analyses the set.
-fn analysed<R: Threads + Sync>(rt: &R, alloc: Global, out: Out) -> Result<Given, AllocError> {
+fn analyse_into<R: Threads + Sync>(rt: &R, alloc: Global, out: Out) -> Result<Given, AllocError> {
     let mut shelf = shelf_of(alloc, &[("set", PAIR.as_bytes())], &[])?;
     ran_into(rt, alloc, &["analyse", "fmlp+", "set"], &mut shelf, out)
 }
 
 /// The first bytes of the certificate, which has 207.
-fn first(count: usize) -> &'static [u8] {
+fn first_bytes(count: usize) -> &'static [u8] {
     let text = PAIR_CERTIFICATE.as_bytes();
     &text[..count.min(text.len())]
 }
@@ -191,8 +191,12 @@ fn a_failing_write_leaves_the_pieces_before_it(rt: HostRuntime) -> Result<(), Fa
             failing: before as u64 + 1,
         };
         let status = if before < 69 { 4 } else { 0 };
-        let want = answer(alloc, status, first(3 * before))?;
-        assert_eq!(rt; analysed(&rt, alloc, out)?, want, "after {before} writes");
+        let want = answer(alloc, status, first_bytes(3 * before))?;
+        assert_eq!(rt;
+            analyse_into(&rt, alloc, out)?,
+            want,
+            "after {before} writes"
+        );
     }
     Ok(())
 }
@@ -207,8 +211,8 @@ fn a_sink_is_full_one_byte_early_or_just_in_time(rt: HostRuntime) -> Result<(), 
             failing: 0,
         };
         assert_eq!(rt;
-            analysed(&rt, alloc, out)?,
-            answer(alloc, status, first(room))?
+            analyse_into(&rt, alloc, out)?,
+            answer(alloc, status, first_bytes(room))?
         );
     }
     Ok(())

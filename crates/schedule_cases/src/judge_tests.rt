@@ -1,4 +1,4 @@
-use crate::judged::judged;
+use crate::judged::judgement_of;
 use crate::texts::{jobs_in, rows_in, set_in};
 use crate::told::told;
 use sporadic_model::Protocol;
@@ -22,7 +22,7 @@ fn judged_of(alloc: Global, protocol: Protocol, schedule: [&str; 3]) -> Result<S
     let set = set_in(alloc, set)?;
     let jobs = jobs_in(alloc, &set, jobs)?;
     let rows = rows_in(alloc, &jobs, rows)?;
-    judged(alloc, protocol, &jobs, &rows)
+    judgement_of(alloc, protocol, &jobs, &rows)
 }
 
 /// A schedule, and the lines that are said of it.

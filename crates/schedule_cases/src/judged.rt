@@ -2,7 +2,7 @@ ghost use Rattle.std.specs.Prelude.{◌≡◌, true};
 ghost use Rattle.sporadic_model.specs.Homes.{EachHasHome};
 
 use crate::texts::rule_word;
-use crate::told::{started, take};
+use crate::told::{machine_at_start, take};
 use dpcp_rules::Dpcp;
 use fmlp_rules::FmlpPlus;
 use mpcp_rules::Mpcp;
@@ -68,7 +68,7 @@ fn full_row(alloc: Global, machine: &Machine) -> Result<Row, AllocError> {
 }
 
 /// The row that is chosen next.
-fn chosen(alloc: Global, protocol: Protocol, machine: &Machine) -> Result<Row, Fail> {
+fn chosen_row(alloc: Global, protocol: Protocol, machine: &Machine) -> Result<Row, Fail> {
     let mut row = full_row(alloc, machine)?;
     if !is_row_for(machine, &row) {
         return Err("no jobs".into());
@@ -143,7 +143,7 @@ fn say(
         }
     }
     said.text.push_str(" ")?;
-    said.are_chosen = said.are_chosen && chosen(alloc, protocol, machine)? == *row;
+    said.are_chosen = said.are_chosen && chosen_row(alloc, protocol, machine)? == *row;
     take(machine, row)?;
     Ok(false)
 }
@@ -166,13 +166,13 @@ fn say_run(
 
 /// A word for each lawful row, of the jobs that are blocked in it. Then the first rule that is broken. If none is, `chosen` if each row is
 /// the chosen one, and else `lawful`.
-pub(crate) fn judged(
+pub(crate) fn judgement_of(
     alloc: Global,
     protocol: Protocol,
     jobs: &JobList,
     rows: &RowList,
 ) -> Result<String, Fail> {
-    let mut machine = started(alloc, jobs)?;
+    let mut machine = machine_at_start(alloc, jobs)?;
     let mut said = Said {
         text: String::new(alloc),
         are_chosen: true,

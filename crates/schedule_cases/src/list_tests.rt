@@ -1,7 +1,7 @@
 ghost use Rattle.std.specs.Prelude.{◌<◌, length};
 ghost use Rattle.schedule_model.specs.Fitting.{IsMadeFor};
 
-use crate::lists::{Work, built, list_of, no_jobs, refusal_of, refusal_to, row_of};
+use crate::lists::{Work, built_set, list_of, no_jobs, refusal_of, refusal_to, row_of};
 use crate::scripts::{Part, has_segments};
 use schedule_model::{Job, JobId, JobList, JobRefusal, RowList, RowRefusal, RowRun, Segment};
 use sporadic_model::{ResourceId, TaskId};
@@ -119,7 +119,7 @@ macro_rules! segment_row {
 
 #[test]
 fn takes_jobs_or_names_the_first_refusal(rt: HostRuntime) -> Result<(), Fail> {
-    let set = built(rt.alloc(), PAIR)?;
+    let set = built_set(rt.alloc(), PAIR)?;
     let mut jobs = no_jobs(rt.alloc(), &set);
     for case in CASES {
         let is_right = is_answered(rt.alloc(), &mut jobs, case)?;
@@ -215,7 +215,7 @@ fn are_answered(
 
 #[test]
 fn reads_back_each_job_and_segment(rt: HostRuntime) -> Result<(), Fail> {
-    let set = built(rt.alloc(), LONG)?;
+    let set = built_set(rt.alloc(), LONG)?;
     let mut jobs = no_jobs(rt.alloc(), &set);
     assert!(rt; lists(&jobs, &[]));
     assert!(rt; are_answered(rt.alloc(), &mut jobs, READ, None)?);
@@ -279,7 +279,7 @@ fn arrival_and_release(jobs: &JobList, j: u32) -> Option<(u64, u64)> {
 
 #[test]
 fn spaces_jobs_by_arrivals_and_holds_them_by_the_jitter(rt: HostRuntime) -> Result<(), Fail> {
-    let set = built(rt.alloc(), JITTERY)?;
+    let set = built_set(rt.alloc(), JITTERY)?;
     let mut jobs = no_jobs(rt.alloc(), &set);
     for held in HELD {
         let refusal = refusal_to_held(rt.alloc(), &mut jobs, held)?;
@@ -319,7 +319,7 @@ fn is_too_many(alloc: Global, jobs: &mut JobList, times: (u64, u64)) -> Result<b
 
 #[test]
 fn keeps_the_limits_on_jobs_and_segments(rt: HostRuntime) -> Result<(), Fail> {
-    let set = built(rt.alloc(), BUSY)?;
+    let set = built_set(rt.alloc(), BUSY)?;
     let mut jobs = no_jobs(rt.alloc(), &set);
     assert!(rt; are_taken(rt.alloc(), &mut jobs, 100_000, &[(1, None)])?);
     assert!(rt; is_too_many(rt.alloc(), &mut jobs, (100_000_000, 100_000_001))?);
@@ -468,7 +468,7 @@ fn rows_of_runs(
 }
 
 fn rows_of_pair(rt: &impl Abort, alloc: Global) -> Result<RowList, Fail> {
-    let set = built(alloc, PAIR)?;
+    let set = built_set(alloc, PAIR)?;
     let jobs = list_of(alloc, &set, FIRST_JOBS)?;
     let fewer = list_of(alloc, &set, FIRST_JOB)?;
     rows_of_runs(rt, alloc, &jobs, &fewer)
@@ -476,7 +476,7 @@ fn rows_of_pair(rt: &impl Abort, alloc: Global) -> Result<RowList, Fail> {
 
 /// Do the rows fit the first jobs of the wider set?
 fn fit_wider(alloc: Global, rows: &RowList) -> Result<bool, Fail> {
-    let set = built(alloc, WIDE)?;
+    let set = built_set(alloc, WIDE)?;
     let jobs = list_of(alloc, &set, FIRST_JOBS)?;
     Ok(rows.fits(&jobs))
 }

@@ -8,7 +8,7 @@ use std::test::Fail;
 use worked_sets::{SetRow, set_of};
 
 /// The set of the rows.
-pub(crate) fn built(alloc: Global, rows: SetRow<'_>) -> Result<TaskSet, Fail> {
+pub(crate) fn built_set(alloc: Global, rows: SetRow<'_>) -> Result<TaskSet, Fail> {
     Ok(set_of(alloc, rows)?)
 }
 
@@ -57,7 +57,7 @@ pub(crate) fn list_of<'a>(
     Ok(jobs)
 }
 
-pub(crate) fn named(job: Option<u32>) -> Option<JobId> {
+pub(crate) fn job_named(job: Option<u32>) -> Option<JobId> {
     match job {
         Some(job) => Some(JobId(job)),
         None => None,
@@ -75,8 +75,8 @@ pub(crate) fn row_of(
         holders: Vec::new(alloc),
     };
     for job in running {
-        row.running.push(named(*job))?;
+        row.running.push(job_named(*job))?;
     }
-    row.holders.push(named(holder))?;
+    row.holders.push(job_named(holder))?;
     Ok(row)
 }

@@ -1,8 +1,8 @@
 ghost use Rattle.std.specs.Prelude.{◌<◌, length};
 
-use crate::lists::{Work, built, list_of, named, row_of};
+use crate::lists::{Work, built_set, job_named, list_of, row_of};
 use crate::scripts::Q;
-use crate::told::{Answers, answers, is_taken, started};
+use crate::told::{Answers, answers, is_taken, machine_at_start};
 use phase_machine::{Machine, Phase, can_take};
 use schedule_model::{JobList, Row};
 use sporadic_model::TaskId;
@@ -44,7 +44,7 @@ fn shows_jobs(machine: &Machine, wanted: &[Answers]) -> bool {
 }
 
 fn is_current(machine: &Machine, x: u32, job: Option<u32>) -> bool {
-    x < machine.jobs().set().tasks() && machine.current(TaskId(x)) == named(job)
+    x < machine.jobs().set().tasks() && machine.current(TaskId(x)) == job_named(job)
 }
 
 fn are_current(machine: &Machine, wanted: &[Option<u32>]) -> bool {
@@ -61,7 +61,7 @@ fn are_current(machine: &Machine, wanted: &[Option<u32>]) -> bool {
 
 /// Does this job alone hold a resource, if there is only one?
 fn is_holder(machine: &Machine, job: Option<u32>) -> bool {
-    machine.jobs().set().resources() == 1 && machine.holder(Q) == named(job)
+    machine.jobs().set().resources() == 1 && machine.holder(Q) == job_named(job)
 }
 
 /// Does the machine answer this of the jobs, of the tasks and of the resource?
@@ -89,7 +89,7 @@ fn is_next(
 
 /// The first tick at which an answer differs from the table, or at which the row can't be taken.
 fn first_other(alloc: Global, jobs: &JobList, ticks: &[Tick]) -> Result<Option<usize>, AllocError> {
-    let mut machine = started(alloc, jobs)?;
+    let mut machine = machine_at_start(alloc, jobs)?;
     for (t, tick) in ticks.iter().enumerate() {
         if !is_next(alloc, &mut machine, t, tick)? {
             return Ok(Some(t));
@@ -132,7 +132,7 @@ fn first_other_stretch(
     jobs: &JobList,
     stretches: &[Stretch],
 ) -> Result<Option<usize>, AllocError> {
-    let mut machine = started(alloc, jobs)?;
+    let mut machine = machine_at_start(alloc, jobs)?;
     for (i, stretch) in stretches.iter().enumerate() {
         if !is_next_stretch(alloc, &mut machine, stretch)? {
             return Ok(Some(i));
@@ -350,7 +350,7 @@ const BY_STRETCHES: &[Stretch] = &[
 
 #[test]
 fn takes_rows_by_stretches(rt: HostRuntime) -> Result<(), Fail> {
-    let set = built(rt.alloc(), LONG)?;
+    let set = built_set(rt.alloc(), LONG)?;
     let jobs = list_of(rt.alloc(), &set, LONG_JOBS)?;
     assert_eq!(rt; first_other_stretch(rt.alloc(), &jobs, BY_STRETCHES)?, None);
     Ok(())
@@ -358,7 +358,7 @@ fn takes_rows_by_stretches(rt: HostRuntime) -> Result<(), Fail> {
 
 #[test]
 fn answers_of_the_rows_that_it_took(rt: HostRuntime) -> Result<(), Fail> {
-    let set = built(rt.alloc(), PAIR)?;
+    let set = built_set(rt.alloc(), PAIR)?;
     let jobs = list_of(rt.alloc(), &set, PAIR_JOBS)?;
     assert_eq!(rt; first_other(rt.alloc(), &jobs, LOWER_FIRST)?, None);
     assert_eq!(rt; first_other(rt.alloc(), &jobs, HIGHER_FIRST)?, None);
@@ -367,7 +367,7 @@ fn answers_of_the_rows_that_it_took(rt: HostRuntime) -> Result<(), Fail> {
 
 #[test]
 fn carries_one_job_of_a_task_after_the_other(rt: HostRuntime) -> Result<(), Fail> {
-    let set = built(rt.alloc(), ONE_PROCESSOR)?;
+    let set = built_set(rt.alloc(), ONE_PROCESSOR)?;
     let jobs = list_of(rt.alloc(), &set, IN_TURN)?;
     assert_eq!(rt; first_other(rt.alloc(), &jobs, ONE_AT_A_TIME)?, None);
     Ok(())

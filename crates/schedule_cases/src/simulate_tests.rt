@@ -21,7 +21,7 @@ fn rows_of(alloc: Global, protocol: Protocol, jobs: &JobList) -> Result<RowList,
     Ok(simulate(alloc, protocol, jobs, 10)?)
 }
 
-fn written(alloc: Global, jobs: &JobList, rows: &RowList) -> Result<Vec<u8>, Fail> {
+fn text_of_rows(alloc: Global, jobs: &JobList, rows: &RowList) -> Result<Vec<u8>, Fail> {
     if !rows.fits(jobs) {
         return Err("the rows don't fit".into());
     }
@@ -33,7 +33,7 @@ fn text_of(alloc: Global, protocol: Protocol, set: &str, jobs: &str) -> Result<V
     let set = set_in(alloc, set)?;
     let jobs = jobs_in(alloc, &set, jobs)?;
     let rows = rows_of(alloc, protocol, &jobs)?;
-    written(alloc, &jobs, &rows)
+    text_of_rows(alloc, &jobs, &rows)
 }
 
 /// A task on each of three processors. They share `q`, whose home is a fourth processor without tasks.

@@ -131,7 +131,10 @@ pub(crate) fn take(machine: &mut Machine, row: &Row) -> Result<(), Fail> {
 }
 
 /// The machine before the first row.
-pub(crate) fn started<'a>(alloc: Global, jobs: &'a JobList<'a>) -> Result<Machine<'a>, AllocError> {
+pub(crate) fn machine_at_start<'a>(
+    alloc: Global,
+    jobs: &'a JobList<'a>,
+) -> Result<Machine<'a>, AllocError> {
     Machine::new(alloc, jobs)
 }
 
@@ -146,7 +149,7 @@ fn push_run(text: &mut String, machine: &mut Machine, run: &RowRun) -> Result<()
 
 /// A line of what is answered at each tick before its row is taken, and one after the last row.
 pub(crate) fn told(alloc: Global, jobs: &JobList, rows: &RowList) -> Result<String, Fail> {
-    let mut machine = started(alloc, jobs)?;
+    let mut machine = machine_at_start(alloc, jobs)?;
     let mut text = String::new(alloc);
     for run in rows.runs() {
         push_run(&mut text, &mut machine, run)?;

@@ -55,7 +55,7 @@ fn push_job(text: &mut String, jobs: &JobList, j: u32) -> Result<(), AllocError>
 }
 
 /// A line for each job.
-fn described(alloc: Global, jobs: &JobList) -> Result<String, AllocError> {
+fn lines_of_jobs(alloc: Global, jobs: &JobList) -> Result<String, AllocError> {
     let mut text = String::new(alloc);
     for j in 0..jobs.len() {
         push_job(&mut text, jobs, j)?;
@@ -109,7 +109,7 @@ fn read_of(alloc: Global, set: &str, header: &str, lines: &str) -> Result<String
     let set = set_in(alloc, set)?;
     let text = format!(in alloc; "{header}\n{lines}")?;
     let jobs = jobs_in(alloc, &set, text.as_str())?;
-    Ok(described(alloc, &jobs)?)
+    Ok(lines_of_jobs(alloc, &jobs)?)
 }
 
 fn is_read(alloc: Global, case: &Case) -> Result<bool, Fail> {

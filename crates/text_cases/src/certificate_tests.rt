@@ -62,14 +62,18 @@ fn of_two(alloc: Global) -> Result<Certificate, AllocError> {
 }
 
 /// The text of the certificate of no set. It has no contract, so what its callers know doesn't have the text.
-fn written(alloc: Global, word: &str, certificate: &Certificate) -> Result<Vec<u8>, AllocError> {
+fn text_of_certificate(
+    alloc: Global,
+    word: &str,
+    certificate: &Certificate,
+) -> Result<Vec<u8>, AllocError> {
     write(alloc, word, &DIGEST, certificate)
 }
 
 #[test]
 fn writes_the_certificate_of_two_tasks(rt: HostRuntime) -> Result<(), Fail> {
     let certificate = of_two(rt.alloc())?;
-    let text = written(rt.alloc(), "fmlp+", &certificate)?;
+    let text = text_of_certificate(rt.alloc(), "fmlp+", &certificate)?;
     assert_eq!(rt; text.as_slice(), OF_TWO.as_bytes());
     Ok(())
 }
@@ -150,7 +154,7 @@ fn refuses_a_certificate_for_another_protocol(rt: HostRuntime) -> Result<(), Fai
 }
 
 /// What the text of version 1 is read as, written as version 2; or why it is refused.
-fn renewed(
+fn upgraded_text(
     alloc: Global,
     text: &str,
     word: &str,
@@ -159,14 +163,14 @@ fn renewed(
         return Ok(Err(CertRefusal::NotJson));
     }
     match read_old(alloc, text.as_bytes(), word) {
-        Ok(certificate) => Ok(Ok(written(alloc, word, &certificate)?)),
+        Ok(certificate) => Ok(Ok(text_of_certificate(alloc, word, &certificate)?)),
         Err(refusal) => Ok(Err(refusal)),
     }
 }
 
 #[test]
 fn the_version_before_is_written_with_a_digest(rt: HostRuntime) -> Result<(), Fail> {
-    match renewed(rt.alloc(), OLD_OF_TWO, "fmlp+")? {
+    match upgraded_text(rt.alloc(), OLD_OF_TWO, "fmlp+")? {
         Ok(text) => assert_eq!(rt; text.as_slice(), OF_TWO.as_bytes()),
         Err(refusal) => assert_eq!(rt; Some(refusal), None),
     }
@@ -174,7 +178,7 @@ fn the_version_before_is_written_with_a_digest(rt: HostRuntime) -> Result<(), Fa
 }
 
 /// A certificate of 64 tasks, whose duals have 400 numerators of 19 digits each.
-fn largest(alloc: Global) -> Result<Certificate, AllocError> {
+fn largest_certificate(alloc: Global) -> Result<Certificate, AllocError> {
     let mut duals = Vec::new(alloc);
     for x in 0..64u64 {
         duals.push(Dual {
@@ -190,7 +194,7 @@ fn largest(alloc: Global) -> Result<Certificate, AllocError> {
 
 #[test]
 fn reads_half_a_megabyte_that_was_written(rt: HostRuntime) -> Result<(), Fail> {
-    let text = written(rt.alloc(), "dpcp", &largest(rt.alloc())?)?;
+    let text = text_of_certificate(rt.alloc(), "dpcp", &largest_certificate(rt.alloc())?)?;
     if text.len() < 512_000 || text.len() > MOST_TEXT {
         return Err("64 times 400 numerators take 20 bytes each".into());
     }

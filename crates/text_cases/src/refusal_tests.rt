@@ -30,7 +30,7 @@ fn step(
 }
 
 /// The text of the refusal for no set. It has no contract, so what its callers know doesn't have the text.
-fn written(alloc: Global, word: &str, refusal: &Refusal) -> Result<Vec<u8>, AllocError> {
+fn text_of_refusal(alloc: Global, word: &str, refusal: &Refusal) -> Result<Vec<u8>, AllocError> {
     write_refusal(alloc, word, &DIGEST, refusal)
 }
 
@@ -42,7 +42,7 @@ fn of_one(alloc: Global) -> Result<Refusal, AllocError> {
 
 #[test]
 fn writes_the_refusal_of_one_step(rt: HostRuntime) -> Result<(), Fail> {
-    let text = written(rt.alloc(), "mpcp", &of_one(rt.alloc())?)?;
+    let text = text_of_refusal(rt.alloc(), "mpcp", &of_one(rt.alloc())?)?;
     assert_eq!(rt; text.as_slice(), OF_ONE.as_bytes());
     Ok(())
 }

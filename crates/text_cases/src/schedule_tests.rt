@@ -8,7 +8,7 @@ use trace_csv::{RowsRefusal, read_rows, write_rows};
 use worked_sets::files::{PAIR, PAIR_JOBS, PAIR_LOWER_FIRST};
 
 /// The text of the rows, if they fit the jobs.
-fn written(alloc: Global, jobs: &JobList, rows: &RowList) -> Result<Vec<u8>, Fail> {
+fn text_of_rows(alloc: Global, jobs: &JobList, rows: &RowList) -> Result<Vec<u8>, Fail> {
     if !rows.fits(jobs) {
         return Err("does not fit".into());
     }
@@ -17,7 +17,7 @@ fn written(alloc: Global, jobs: &JobList, rows: &RowList) -> Result<Vec<u8>, Fai
 
 /// Is this the text of the rows?
 fn are_written(alloc: Global, jobs: &JobList, rows: &RowList, text: &str) -> Result<bool, Fail> {
-    Ok(written(alloc, jobs, rows)?.as_slice() == text.as_bytes())
+    Ok(text_of_rows(alloc, jobs, rows)?.as_slice() == text.as_bytes())
 }
 
 /// Has the job this task, and this arrival and release?

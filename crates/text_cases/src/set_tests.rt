@@ -73,7 +73,7 @@ fn push_resources(text: &mut String, set: &TaskSet) -> Result<(), AllocError> {
 }
 
 /// A line for each resource and each task, and after a task one for each resource that it uses.
-fn described(alloc: Global, set: &TaskSet) -> Result<String, AllocError> {
+fn lines_of_set(alloc: Global, set: &TaskSet) -> Result<String, AllocError> {
     let mut text = String::new(alloc);
     writeln!(text, "{} processors", set.processors())?;
     push_resources(&mut text, set)?;
@@ -101,7 +101,7 @@ const LEAST_READ: &str = "1 processors\nt on 1: 8 8 3 3 0\n";
 // The set of the text is described by these lines.
 fn is_described(rt: &impl Abort, alloc: Global, text: &str, lines: &str) -> Result<(), Fail> {
     let set = set_in(alloc, text)?;
-    assert_eq!(rt; described(alloc, &set)?.as_str(), lines);
+    assert_eq!(rt; lines_of_set(alloc, &set)?.as_str(), lines);
     Ok(())
 }
 
@@ -147,7 +147,7 @@ fn push_largest_task(text: &mut String, x: u64) -> Result<(), AllocError>
 }
 
 /// A set at all its limits: 64 processors and tasks, 32 resources, 256 requests, and the greatest numbers and names.
-fn largest(alloc: Global) -> Result<String, AllocError> {
+fn largest_set(alloc: Global) -> Result<String, AllocError> {
     let mut text = String::from_str(alloc, r#"{"processors":64,"resources":["#)?;
     for q in 10..42 {
         if q > 10 {
@@ -183,7 +183,7 @@ fn has_requests(set: &TaskSet, x: TaskId, q: ResourceId, count: u64, length: u64
 
 #[test]
 fn reads_a_set_at_all_its_limits(rt: HostRuntime) -> Result<(), Fail> {
-    let text = largest(rt.alloc())?;
+    let text = largest_set(rt.alloc())?;
     let set = set_in(rt.alloc(), text.as_str())?;
     assert!(rt; set.tasks() == 64);
     assert!(rt; set.resources() == 32);

@@ -2,7 +2,7 @@ use Rattle.std.proofs.Common.{◌≡◌, true, sym, subst}
 use Rattle.sporadic_model.specs.SetDef.{SetDef}
 use Rattle.trace_csv.specs.Written.{are_sized}
 use Rattle.trace_csv.proofs.Sized.{sized_if_fitting}
-use Rattle.text_cases.proofs.schedule_tests.written.Goals as goal
+use Rattle.schedule_cases.proofs.simulate_tests.text_of_rows.Goals as goal
 
 pub write_rows-requires : goal.write_rows-requires
 write_rows-requires c =
