@@ -2,16 +2,16 @@
 //! MPCP.
 #![tactic(auto)]
 
-ghost use Rattle.std.specs.Prelude.{◌≡◌, ◌<◌, map, length, slice_index, IfOk, OnOk};
+ghost use Rattle.std.specs.Prelude.{◌≡◌, map, length, slice_index, IfOk, OnOk};
 ghost use Rattle.program_form.specs.RowBlock.{block_seen};
-ghost use Rattle.sporadic_model.specs.Homes.{HasHomesFor};
+ghost use Rattle.sporadic_model.specs.declared.ids.Protocol.TheVariants.{Mpcp};
 ghost use Rattle.blocking_columns.specs.Given.{AreColumnsAt, AreInOrderAt, AreLaidOut};
 ghost use Rattle.blocking_columns.specs.ColumnDef.{column_seen};
 ghost use Rattle.blocking_columns.specs.Columns.{columns_of};
 ghost use Rattle.fragments.specs.Constraints.{per, per_pair, block_of};
 ghost use Rattle.blocking_columns.specs.TaskPlaces.{ArePlaces};
 ghost use Rattle.direct_constraints.specs.Asked.{AreAskedFor};
-ghost use Rattle.direct_constraints.specs.Rows.{request_row, time_row, turn_row, lower_holder_row, common_rows, own_rows};
+ghost use Rattle.direct_constraints.specs.Rows.{request_row, time_row, turn_row, common_rows, own_rows};
 
 use fragments::{
     EachRequest, EachTask, Fragment, RowTaker, TaskPlace, add_per_number, add_per_request,
@@ -115,8 +115,7 @@ fn add_lower_holder_rows<T: RowTaker>(
 ) -> Result<(), AllocError>
     requires laid { AreLaidOut set.now bounds.now i.0 columns.now places.now }
     requires asked { AreAskedFor set.now i.0 columns.now }
-    ensures { OnOk result (T.takes taker.old (map column_seen columns.now)
-        (per (length set.now.resources) (lower_holder_row set.now i.0)) bounds.now taker.new) }
+    ensures { OnOk result (T.takes taker.old (map column_seen columns.now) (own_rows Mpcp set.now i.0) bounds.now taker.new) }
 {
     let resources = set.resources();
     let rows = LowerHolders {
@@ -179,8 +178,7 @@ pub fn common(
     bounds: &[u64],
     columns: &[Fragment],
 ) -> Result<RowBlock, AllocError>
-    requires suits { HasHomesFor protocol set.now }
-    requires at { AreColumnsAt protocol set.now bounds.now i.0 columns.now }
+    requires { AreColumnsAt protocol set.now bounds.now i.0 columns.now }
     ensures { IfOk result (λ b. block_seen b ≡ block_of (columns_of protocol set.now i.0) (common_rows set.now i.0) bounds.now) }
 {
     let mut block = RowBlock {
@@ -203,8 +201,7 @@ pub fn own(
     bounds: &[u64],
     columns: &[Fragment],
 ) -> Result<RowBlock, AllocError>
-    requires suits { HasHomesFor protocol set.now }
-    requires at { AreColumnsAt protocol set.now bounds.now i.0 columns.now }
+    requires { AreColumnsAt protocol set.now bounds.now i.0 columns.now }
     ensures { IfOk result (λ b. block_seen b ≡ block_of (columns_of protocol set.now i.0) (own_rows protocol set.now i.0) bounds.now) }
 {
     let mut block = RowBlock {

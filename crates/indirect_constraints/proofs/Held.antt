@@ -11,7 +11,8 @@ use Rattle.sporadic_model.specs.SetDef.{SetDef, task_at}
 use Rattle.sporadic_model.specs.Users.{is_user, count_of, users_of}
 use Rattle.sporadic_model.specs.declared.ids.TaskId.{TaskId}
 use Rattle.indirect_constraints.specs.Rows.{lower_holdings, holdings}
-use Rattle.indirect_constraints.specs.Tables.{AreSums, awaited, held_on, held_alone, lower_user, over_used, sum_on}
+use Rattle.indirect_constraints.specs.Tables.{AreSums, AreRaised, AreAwaited, HaveRoomAfter}
+use Rattle.indirect_constraints.specs.Tables.{awaited, held_on, held_alone, all_held_on, all_held_alone, lower_user, over_used, sum_on}
 use Rattle.indirect_constraints.proofs.Beside.{sum_beside, beside_and_own, beside_same, lower_there}
 use Rattle.indirect_constraints.proofs.ByTask.{only_if_plus, holdings_parts}
 use Rattle.indirect_constraints.proofs.ByUser.{kept_at}
@@ -120,17 +121,27 @@ total_parts set bounds i x numbers l each others =
 
 -- The same, of tables.
 pub own_in_total : (set : SetDef) (bounds : ℕ → ℕ) (i x : ℕ) (higher numbers sums totals : List ℕ) → x < length set.tasks
-    → (task_at set x).processor ≤ set.processors
-    → ((y : ℕ) → y < i → slice_index higher y ≡ awaited set bounds i (length set.resources) y)
-    → ((y : ℕ) → i ≤ y → y < length set.tasks → slice_index higher y ≡ 0)
-    → AreSums set (slice_index higher) i sums
-    → ((k : ℕ) → k ≤ set.processors → slice_index totals k ≡ slice_index sums k + over_used set i (held_on set i k))
-    → ((y : ℕ) → y < length set.tasks → slice_index numbers y ≡ slice_index higher y + over_used set i (held_alone set i y))
+    → (task_at set x).processor ≤ set.processors → AreAwaited set bounds i higher → AreSums set (slice_index higher) i sums
+    → AreRaised (set.processors + 1) (all_held_on set i) sums totals → AreRaised (length set.tasks) (all_held_alone set i) higher numbers
     → slice_index totals (task_at set x).processor ≡ holdings set bounds i x + slice_index numbers x
-own_in_total set bounds i x higher numbers sums totals l there each others are on alone = omega (
+own_in_total set bounds i x higher numbers sums totals l there are sum on alone = omega (
   arith,
-  total_parts set bounds i x (slice_index higher) l each others,
-  are.each (task_at set x).processor there,
-  on (task_at set x).processor there,
-  alone x l,
+  total_parts set bounds i x (slice_index higher) l are.each are.others,
+  sum.each (task_at set x).processor there,
+  on.each (task_at set x).processor (omega (arith, there)),
+  alone.each x l,
 )
+
+-- Where there is room after some requests, there is room after more.
+pub room_stays : (set : SetDef) (m n : ℕ) (totals numbers : List ℕ) → m ≤ n → HaveRoomAfter set m totals numbers
+    → HaveRoomAfter set n totals numbers
+room_stays set m n totals numbers more room = record {
+  on_processors = record {
+    size = room.on_processors.size;
+    each = λ k l. omega (arith, more, room.on_processors.each k l);
+  };
+  of_tasks = record {
+    size = room.of_tasks.size;
+    each = λ x l. omega (arith, more, room.of_tasks.each x l);
+  };
+}

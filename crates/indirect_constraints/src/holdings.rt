@@ -1,10 +1,11 @@
 //! How many requests that a job may wait for can be held by other tasks on each task's processor.
 
-ghost use Rattle.std.specs.Prelude.{◌≡◌, ℕ, ◌+◌, ◌<◌, ◌≤◌, length, slice_index, IfOk, OnOk};
+ghost use Rattle.std.specs.Prelude.{◌≡◌, ◌+◌, ◌<◌, ◌≤◌, length, slice_index, IfOk, OnOk};
 ghost use Rattle.sporadic_model.specs.Users.{count_of};
 ghost use Rattle.program_sources.specs.Bounds.{AreWithinDeadlines};
-ghost use Rattle.blocking_columns.specs.Windows.{requests_in};
-ghost use Rattle.indirect_constraints.specs.Tables.{AreHoldings, AreSums, awaited, held_on, held_alone, lower_user, over_used};
+ghost use Rattle.indirect_constraints.specs.Tables.{AreAtMost, AreRaised, AreSums, HigherAreAtMost, HasRequestsAdded, AreAwaited, IsCountOf};
+ghost use Rattle.indirect_constraints.specs.Tables.{AreTotalsAndNumbers, HaveRoomAfter, AreHoldings};
+ghost use Rattle.indirect_constraints.specs.Tables.{held_on, held_alone, all_held_on, all_held_alone, lower_user};
 
 use crate::tables::{add_at, leave_own, sum_lower, sums_of, where_passed};
 use fragments::cnt;
@@ -16,13 +17,8 @@ fn add_requests_of(numbers: &mut [u64], set: &TaskSet, i: TaskId, q: ResourceId,
     requires task { i.0 < length set.now.tasks }
     requires resource { q.0 < length set.now.resources }
     requires within { AreWithinDeadlines set.now bounds.now }
-    requires one_each { length numbers.old ≡ length set.now.tasks }
-    requires room { (y : ℕ) → y < i.0 → slice_index numbers.old y ≤ 62000000000000 }
-    ensures one_each { length numbers.new ≡ length set.now.tasks }
-    ensures each { (y : ℕ) → y < i.0
-        → slice_index numbers.new y ≡ slice_index numbers.old y + requests_in set.now (slice_index bounds.now) i.0 y q.0 }
-    ensures most { (y : ℕ) → y < i.0 → slice_index numbers.new y ≤ slice_index numbers.old y + 2000000000000 }
-    ensures others { (y : ℕ) → i.0 ≤ y → slice_index numbers.new y ≡ slice_index numbers.old y }
+    requires room { HigherAreAtMost set.now i.0 62000000000000 numbers.old }
+    ensures { HasRequestsAdded set.now (slice_index bounds.now) i.0 q.0 numbers.old numbers.new }
 {
     for y in set.users(q) {
         if y.0 < i.0 {
@@ -40,11 +36,7 @@ fn awaited_of(
 ) -> Result<Vec<u64>, AllocError>
     requires task { i.0 < length set.now.tasks }
     requires within { AreWithinDeadlines set.now bounds.now }
-    ensures one_each { IfOk result (λ v. length v.items ≡ length set.now.tasks) }
-    ensures each { IfOk result (λ v. (y : ℕ) → y < i.0
-        → slice_index v.items y ≡ awaited set.now (slice_index bounds.now) i.0 (length set.now.resources) y) }
-    ensures small { IfOk result (λ v. (y : ℕ) → y < i.0 → slice_index v.items y ≤ 64000000000000) }
-    ensures others { IfOk result (λ v. (y : ℕ) → i.0 ≤ y → y < length set.now.tasks → slice_index v.items y ≡ 0) }
+    ensures { IfOk result (λ v. AreAwaited set.now (slice_index bounds.now) i.0 v.items) }
 {
     // a set has at most 32 resources, so the sums fit
     let _resources = set.resources();
@@ -64,15 +56,10 @@ fn add_alone(
     count: u64,
     users: &[u64],
 )
-    requires resource { q.0 < length set.now.resources }
-    requires one_each { length numbers.old ≡ length set.now.tasks }
-    requires count { count ≡ count_of set.now i.0 q.0 }
-    requires small { count ≤ 1000 }
+    requires count { IsCountOf set.now i.0 q.0 count }
     requires users { AreSums set.now (lower_user set.now i.0 q.0) (length set.now.tasks) users.now }
-    requires room { (x : ℕ) → x < length set.now.tasks → slice_index numbers.old x ≤ 64000000031000 }
-    ensures one_each { length numbers.new ≡ length set.now.tasks }
-    ensures each { (x : ℕ) → x < length set.now.tasks
-        → slice_index numbers.new x ≡ slice_index numbers.old x + held_alone set.now i.0 x q.0 }
+    requires room { AreAtMost (length set.now.tasks) 64000000031000 numbers.old }
+    ensures { AreRaised (length set.now.tasks) (λ x. held_alone set.now i.0 x q.0) numbers.old numbers.new }
 {
     for y in set.users(q) {
         if i.0 < y.0 {
@@ -94,18 +81,11 @@ fn add_lower(
 )
     requires task { i.0 < length set.now.tasks }
     requires resource { q.0 < length set.now.resources }
-    requires totals { length totals.old ≡ set.now.processors + 1 }
-    requires one_each { length numbers.old ≡ length set.now.tasks }
     requires users { length users.old ≡ set.now.processors + 1 }
-    requires room { (k : ℕ) → k ≤ set.now.processors → slice_index totals.old k ≤ 4096000000031000 }
-    requires place { (x : ℕ) → x < length set.now.tasks → slice_index numbers.old x ≤ 64000000031000 }
-    ensures totals { length totals.new ≡ set.now.processors + 1 }
-    ensures one_each { length numbers.new ≡ length set.now.tasks }
+    requires room { HaveRoomAfter set.now 31000 totals.old numbers.old }
     ensures users { length users.new ≡ set.now.processors + 1 }
-    ensures each { (k : ℕ) → k ≤ set.now.processors
-        → slice_index totals.new k ≡ slice_index totals.old k + held_on set.now i.0 k q.0 }
-    ensures alone { (x : ℕ) → x < length set.now.tasks
-        → slice_index numbers.new x ≡ slice_index numbers.old x + held_alone set.now i.0 x q.0 }
+    ensures totals { AreRaised (set.now.processors + 1) (λ k. held_on set.now i.0 k q.0) totals.old totals.new }
+    ensures alone { AreRaised (length set.now.tasks) (λ x. held_alone set.now i.0 x q.0) numbers.old numbers.new }
     ensures few { count_of set.now i.0 q.0 ≤ 1000 }
 {
     let count = set.count(i, q);
@@ -123,16 +103,10 @@ fn add_all_lower(
     i: TaskId,
 ) -> Result<(), AllocError>
     requires task { i.0 < length set.now.tasks }
-    requires totals { length totals.old ≡ set.now.processors + 1 }
-    requires one_each { length numbers.old ≡ length set.now.tasks }
-    requires room { (k : ℕ) → k ≤ set.now.processors → slice_index totals.old k ≤ 4096000000000000 }
-    requires place { (x : ℕ) → x < length set.now.tasks → slice_index numbers.old x ≤ 64000000000000 }
-    ensures totals { length totals.new ≡ set.now.processors + 1 }
-    ensures one_each { length numbers.new ≡ length set.now.tasks }
-    ensures each { OnOk result ((k : ℕ) → k ≤ set.now.processors
-        → slice_index totals.new k ≡ slice_index totals.old k + over_used set.now i.0 (held_on set.now i.0 k)) }
-    ensures alone { OnOk result ((x : ℕ) → x < length set.now.tasks
-        → slice_index numbers.new x ≡ slice_index numbers.old x + over_used set.now i.0 (held_alone set.now i.0 x)) }
+    requires room { HaveRoomAfter set.now 0 totals.old numbers.old }
+    ensures sizes { AreTotalsAndNumbers set.now totals.new numbers.new }
+    ensures totals { OnOk result (AreRaised (set.now.processors + 1) (all_held_on set.now i.0) totals.old totals.new) }
+    ensures alone { OnOk result (AreRaised (length set.now.tasks) (all_held_alone set.now i.0) numbers.old numbers.new) }
 {
     // a set has at most 32 resources, so the sums fit
     let _resources = set.resources();

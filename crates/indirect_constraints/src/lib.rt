@@ -1,16 +1,16 @@
 //! The rows of indirect blocking: queues under FMLP+, holdings under MPCP, homes under DPCP.
 #![tactic(auto)]
 
-ghost use Rattle.std.specs.Prelude.{◌≡◌, ◌<◌, ◌+◌, map, length, slice_index, IfOk, OnOk};
+ghost use Rattle.std.specs.Prelude.{◌≡◌, map, length, slice_index, IfOk, OnOk};
 ghost use Rattle.program_form.specs.RowBlock.{block_seen};
-ghost use Rattle.sporadic_model.specs.Homes.{HasHomesFor};
+ghost use Rattle.sporadic_model.specs.declared.ids.Protocol.TheVariants.{FmlpPlus, Mpcp, Dpcp};
 ghost use Rattle.blocking_columns.specs.Given.{AreColumnsAt, AreLaidOut};
 ghost use Rattle.blocking_columns.specs.ColumnDef.{column_seen};
 ghost use Rattle.blocking_columns.specs.Columns.{columns_of};
-ghost use Rattle.fragments.specs.Constraints.{per, block_of};
+ghost use Rattle.fragments.specs.Constraints.{block_of};
 ghost use Rattle.blocking_columns.specs.TaskPlaces.{ArePlaces};
 ghost use Rattle.indirect_constraints.specs.Asked.{AreAskedAtHome};
-ghost use Rattle.indirect_constraints.specs.Rows.{queue_row, holding_row, home_row, indirect_rows};
+ghost use Rattle.indirect_constraints.specs.Rows.{indirect_rows};
 
 use fragments::{
     EachTask, Fragment, RowTaker, TaskPlace, add_per_number, add_per_task, columns_stand_in_order,
@@ -37,8 +37,7 @@ fn add_queue_rows<T: RowTaker>(
     places: &[TaskPlace],
 ) -> Result<(), AllocError>
     requires laid { AreLaidOut set.now bounds.now i.0 columns.now places.now }
-    ensures { OnOk result (T.takes taker.old (map column_seen columns.now)
-        (per (length set.now.tasks) (queue_row set.now i.0)) bounds.now taker.new) }
+    ensures { OnOk result (T.takes taker.old (map column_seen columns.now) (indirect_rows FmlpPlus set.now i.0) bounds.now taker.new) }
 {
     let requests = requests_of(set, i);
     let rows = EachTask(Queues { requests });
@@ -56,8 +55,7 @@ fn add_holding_rows<T: RowTaker>(
     places: &[TaskPlace],
 ) -> Result<(), AllocError>
     requires laid { AreLaidOut set.now bounds.now i.0 columns.now places.now }
-    ensures { OnOk result (T.takes taker.old (map column_seen columns.now)
-        (per (length set.now.tasks) (holding_row set.now i.0)) bounds.now taker.new) }
+    ensures { OnOk result (T.takes taker.old (map column_seen columns.now) (indirect_rows Mpcp set.now i.0) bounds.now taker.new) }
 {
     let counts = holdings_of(alloc, set, i, bounds)?;
     let rows = EachTask(Holdings { counts });
@@ -76,8 +74,7 @@ fn add_home_rows<T: RowTaker>(
 ) -> Result<(), AllocError>
     requires laid { AreLaidOut set.now bounds.now i.0 columns.now places.now }
     requires asked { AreAskedAtHome set.now i.0 columns.now }
-    ensures { OnOk result (T.takes taker.old (map column_seen columns.now)
-        (per set.now.processors (λ k. home_row set.now i.0 (k + 1))) bounds.now taker.new) }
+    ensures { OnOk result (T.takes taker.old (map column_seen columns.now) (indirect_rows Dpcp set.now i.0) bounds.now taker.new) }
 {
     let processors = set.processors();
     let rows = Homes {
@@ -124,8 +121,7 @@ pub fn rows(
     bounds: &[u64],
     columns: &[Fragment],
 ) -> Result<RowBlock, AllocError>
-    requires suits { HasHomesFor protocol set.now }
-    requires at { AreColumnsAt protocol set.now bounds.now i.0 columns.now }
+    requires { AreColumnsAt protocol set.now bounds.now i.0 columns.now }
     ensures { IfOk result (λ b. block_seen b ≡ block_of (columns_of protocol set.now i.0) (indirect_rows protocol set.now i.0) bounds.now) }
 {
     let mut block = RowBlock {

@@ -1,10 +1,9 @@
 //! Tables of a number for each task, and their sums by processor.
 
-ghost use Rattle.std.specs.Prelude.{◌≡◌, ℕ, ◌+◌, ◌<◌, ◌≤◌, ◌^◌, ◌==◌, length, slice_index, IfOk};
+ghost use Rattle.std.specs.Prelude.{◌≡◌, ℕ, ◌+◌, ◌<◌, ◌^◌, ◌==◌, length, slice_index, IfOk};
 ghost use Rattle.number_laws.specs.Sums.{only_if, sum_below};
-ghost use Rattle.sporadic_model.specs.SetDef.{task_at};
-ghost use Rattle.sporadic_model.specs.Users.{count_of};
-ghost use Rattle.indirect_constraints.specs.Tables.{AreSums, held_on, lower_user};
+ghost use Rattle.indirect_constraints.specs.Tables.{AreAtMost, AreRaised, AreSums, HigherAreAtMost, IsCountOf, ArePartsOf, AreTheRest};
+ghost use Rattle.indirect_constraints.specs.Tables.{held_on, lower_user};
 
 use sporadic_model::{ResourceId, TaskId, TaskSet};
 use std::alloc::{AllocError, Global};
@@ -42,8 +41,7 @@ pub(crate) fn sums_of(
     numbers: &[u64],
 ) -> Result<Vec<u64>, AllocError>
     requires task { i.0 < length set.now.tasks }
-    requires one_each { length numbers.now ≡ length set.now.tasks }
-    requires small { (y : ℕ) → y < i.0 → slice_index numbers.now y ≤ 64000000000000 }
+    requires small { HigherAreAtMost set.now i.0 64000000000000 numbers.now }
     ensures { IfOk result (λ v. AreSums set.now (slice_index numbers.now) i.0 v.items) }
 {
     // a set has at most 64 tasks, so the sums fit
@@ -66,17 +64,12 @@ pub(crate) fn sum_lower(
     q: ResourceId,
     count: u64,
 ) -> u64
-    requires resource { q.0 < length set.now.resources }
+    requires count { IsCountOf set.now i.0 q.0 count }
     requires one_each { length sums.old ≡ set.now.processors + 1 }
-    requires totals { length totals.old ≡ set.now.processors + 1 }
-    requires room { (k : ℕ) → k ≤ set.now.processors → slice_index totals.old k ≤ 4096000000031000 }
-    requires count { count ≡ count_of set.now i.0 q.0 }
-    requires small { count ≤ 1000 }
+    requires room { AreAtMost (set.now.processors + 1) 4096000000031000 totals.old }
     ensures sums { AreSums set.now (lower_user set.now i.0 q.0) (length set.now.tasks) sums.new }
     ensures all { result ≡ sum_below (length set.now.tasks) (lower_user set.now i.0 q.0) }
-    ensures totals { length totals.new ≡ set.now.processors + 1 }
-    ensures each { (k : ℕ) → k ≤ set.now.processors
-        → slice_index totals.new k ≡ slice_index totals.old k + held_on set.now i.0 k q.0 }
+    ensures totals { AreRaised (set.now.processors + 1) (λ k. held_on set.now i.0 k q.0) totals.old totals.new }
 {
     // a set has at most 64 tasks, so the sums fit
     let _tasks = set.tasks();
@@ -96,13 +89,8 @@ pub(crate) fn sum_lower(
 
 /// Replaces each task's number by the sum of its processor less that number.
 pub(crate) fn leave_own(numbers: &mut [u64], set: &TaskSet, sums: &[u64])
-    requires one_each { length numbers.old ≡ length set.now.tasks }
-    requires sums { length sums.now ≡ set.now.processors + 1 }
-    requires part { (x : ℕ) → x < length set.now.tasks
-        → slice_index numbers.old x ≤ slice_index sums.now (task_at set.now x).processor }
-    ensures one_each { length numbers.new ≡ length set.now.tasks }
-    ensures each { (x : ℕ) → x < length set.now.tasks
-        → slice_index numbers.new x + slice_index numbers.old x ≡ slice_index sums.now (task_at set.now x).processor }
+    requires { ArePartsOf set.now sums.now numbers.old }
+    ensures { AreTheRest set.now sums.now numbers.old numbers.new }
 {
     for x in 0..set.tasks() {
         let all = sums[set.processor(TaskId(x)) as usize];

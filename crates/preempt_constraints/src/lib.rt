@@ -1,11 +1,10 @@
 //! The rows of preemption blocking: how often requests of lower tasks can preempt a job of the analysed task on its processor.
 #![tactic(auto)]
 
-ghost use Rattle.std.specs.Prelude.{◌≡◌, ◌<◌, ◌+◌, map, IfOk, OnOk, [], ◌∷◌, if◌then◌else◌, ◌&&◌};
+ghost use Rattle.std.specs.Prelude.{◌≡◌, ◌+◌, map, IfOk, OnOk, [], ◌∷◌, if◌then◌else◌, ◌&&◌};
 ghost use Rattle.std.proofs.Common.{ap};
 ghost use Rattle.number_laws.specs.Sums.{flag};
 ghost use Rattle.program_form.specs.RowBlock.{block_seen};
-ghost use Rattle.sporadic_model.specs.Homes.{HasHomesFor};
 ghost use Rattle.blocking_columns.specs.declared.columns.Class.TheVariants.{Preemption};
 ghost use Rattle.blocking_columns.specs.Given.{AreColumnsAt, AreLaidOut};
 ghost use Rattle.blocking_columns.specs.ColumnDef.{column_seen, is_class};
@@ -104,8 +103,7 @@ pub fn rows(
     bounds: &[u64],
     columns: &[Fragment],
 ) -> Result<RowBlock, AllocError>
-    requires suits { HasHomesFor protocol set.now }
-    requires at { AreColumnsAt protocol set.now bounds.now i.0 columns.now }
+    requires { AreColumnsAt protocol set.now bounds.now i.0 columns.now }
     ensures { IfOk result (λ b. block_seen b ≡ block_of (columns_of protocol set.now i.0) (preemption_rows set.now i.0) bounds.now) }
 {
     let mut block = RowBlock {

@@ -1,9 +1,9 @@
-ghost use Rattle.std.specs.Prelude.{◌≡◌, ◌<◌, ◌≤◌, ◌*◌, length, slice_index};
-ghost use Rattle.sporadic_model.specs.Accepted.{TaskNumbers};
+ghost use Rattle.std.specs.Prelude.{◌≡◌, ◌<◌, ◌≤◌, ◌*◌, length};
 ghost use Rattle.sporadic_model.specs.SetDef.{task_at};
-ghost use Rattle.program_sources.specs.Bounds.{AreWithinDeadlines, AreFromCostsAbove, most_of_one_task};
+ghost use Rattle.program_sources.specs.Bounds.{most_of_one_task};
 ghost use Rattle.program_sources.specs.Recurrence.{interference_by, interference_of};
 ghost use Rattle.program_laws.specs.Programs.{interfering_cost};
+ghost use Rattle.protocol_programs.specs.Given.{CanCountInterference};
 
 use sporadic_model::{Protocol, TaskId, TaskSet, jobs_in};
 
@@ -28,10 +28,8 @@ fn interference_of_task(
     h: TaskId,
     bounds: &[u64],
 ) -> u64
-    requires task { i.0 < length set.now.tasks }
+    requires at { CanCountInterference set.now i.0 bounds.now }
     requires higher { h.0 < i.0 }
-    requires within { AreWithinDeadlines set.now bounds.now }
-    requires from_costs { AreFromCostsAbove set.now bounds.now i.0 }
     ensures value { result ≡ interference_by (interfering_cost protocol set.now) set.now bounds.now i.0 h.0 }
     ensures most { result ≤ most_of_one_task }
 {
@@ -47,9 +45,7 @@ fn interference_of_task(
 /// The ticks that the recurrence counts at these bounds for jobs of all higher tasks on `i`'s processor. Of each task as many jobs count as
 /// can run within `i`'s bound, each with the task's cost; under DPCP with its local limit.
 pub fn interference(set: &TaskSet, protocol: Protocol, i: TaskId, bounds: &[u64]) -> u64
-    requires task { i.0 < length set.now.tasks }
-    requires within { AreWithinDeadlines set.now bounds.now }
-    requires from_costs { AreFromCostsAbove set.now bounds.now i.0 }
+    requires { CanCountInterference set.now i.0 bounds.now }
     ensures value { result ≡ interference_of (interfering_cost protocol set.now) set.now bounds.now i.0 }
     ensures most { result ≤ i.0 * most_of_one_task }
 {

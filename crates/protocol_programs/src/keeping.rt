@@ -1,8 +1,8 @@
-ghost use Rattle.std.specs.Prelude.{◌≡◌, ◌<◌, ◌↔◌, length, IsTrue};
+ghost use Rattle.std.specs.Prelude.{◌↔◌, IsTrue};
 ghost use Rattle.sporadic_model.specs.declared.ids.Protocol.{Protocol};
-ghost use Rattle.program_sources.specs.Bounds.{AreWithinDeadlines};
-ghost use Rattle.program_laws.specs.Programs.{program_of};
 ghost use Rattle.program_laws.specs.Written.{KeepsJobs};
+ghost use Rattle.protocol_programs.specs.Given.{IsTaskAtBoth};
+ghost use Rattle.protocol_programs.specs.Lists.{HaveSameLimits};
 
 use fragments::jobs;
 use sporadic_model::{TaskId, TaskSet};
@@ -10,12 +10,9 @@ use sporadic_model::{TaskId, TaskSet};
 /// Can exactly as many jobs of each task run within task `i`'s bound at these bounds as at the earlier ones? Then the limits of `i`'s
 /// program are the same, under every protocol that this crate forms programs of.
 pub fn keeps_jobs(set: &TaskSet, i: TaskId, earlier: &[u64], bounds: &[u64]) -> bool
-    requires task { i.0 < length set.now.tasks }
-    requires earlier { AreWithinDeadlines set.now earlier.now }
-    requires within { AreWithinDeadlines set.now bounds.now }
+    requires { IsTaskAtBoth set.now i.0 earlier.now bounds.now }
     ensures jobs { IsTrue result ↔ KeepsJobs set.now i.0 earlier.now bounds.now }
-    ensures limits { (p : Protocol) → IsTrue result
-        → (program_of p set.now i.0 earlier.now).limits ≡ (program_of p set.now i.0 bounds.now).limits }
+    ensures limits { (p : Protocol) → IsTrue result → HaveSameLimits p set.now i.0 earlier.now bounds.now }
 {
     for x in 0..set.tasks() {
         let task = TaskId(x);

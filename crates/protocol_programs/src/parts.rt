@@ -9,6 +9,7 @@ ghost use Rattle.program_sources.specs.Bounds.{AreWithinDeadlines};
 ghost use Rattle.blocking_columns.specs.ColumnDef.{ColumnDef, column_seen, AreKnown};
 ghost use Rattle.fragments.specs.Constraints.{ConstraintDef};
 ghost use Rattle.program_laws.specs.Programs.{cost_of, program_with};
+ghost use Rattle.protocol_programs.specs.Given.{HasProgramAt};
 ghost use Rattle.protocol_programs.specs.Lists.{lists_of};
 
 use fragments::{Fragment, RowLimits, RowTaker, most_columns};
@@ -37,9 +38,7 @@ pub trait ProgramParts {
         i: TaskId,
         bounds: &[u64],
     ) -> Result<Vec<Fragment>, AllocError>
-        requires serves { serves self.now set.now }
-        requires task { i.0 < length set.now.tasks }
-        requires within { AreWithinDeadlines set.now bounds.now }
+        requires { HasProgramAt (serves self.now) set.now i.0 bounds.now }
         ensures columns { IfOk result (λ v. map column_seen v.items ≡ columns self.now set.now i.0) }
         ensures known { IfOk result (λ v. AreKnown (length set.now.tasks) (length set.now.resources) v.items) }
         ensures rows { IfOk result (λ v. T.takes taker.old (map column_seen v.items) (rows self.now set.now i.0) bounds.now taker.new) };
@@ -63,7 +62,7 @@ fn costs(alloc: Global, set: &TaskSet, columns: &[Fragment]) -> Result<Vec<u64>,
 }
 
 // The program of these lists, which are those of one.
-fn program_of(costs: Vec<u64>, block: RowBlock) -> Program
+fn program_from(costs: Vec<u64>, block: RowBlock) -> Program
     requires { IsProgram (lists_of costs.items (block_seen block)) }
     ensures { result ≡ lists_of costs.items (block_seen block) }
 {
@@ -82,9 +81,7 @@ pub fn program_with<P: ProgramParts>(
     i: TaskId,
     bounds: &[u64],
 ) -> Result<Program, AllocError>
-    requires serves { P.serves parts.now set.now }
-    requires task { i.0 < length set.now.tasks }
-    requires within { AreWithinDeadlines set.now bounds.now }
+    requires { HasProgramAt (P.serves parts.now) set.now i.0 bounds.now }
     ensures { IfOk result (λ p. p ≡ program_with set.now (P.columns parts.now set.now i.0) (P.rows parts.now set.now i.0) bounds.now) }
 {
     // the set is accepted, so its columns and rows make a program
@@ -95,7 +92,7 @@ pub fn program_with<P: ProgramParts>(
     };
     let columns = parts.take_rows(alloc, &mut block, set, i, bounds)?;
     let costs = costs(alloc, set, &columns)?;
-    Ok(program_of(costs, block))
+    Ok(program_from(costs, block))
 }
 
 /// The same program as that of [`program_with`], kept by its nonzero coefficients. It fails only for want of memory.
@@ -106,9 +103,7 @@ pub fn sparse_program_with<P: ProgramParts>(
     i: TaskId,
     bounds: &[u64],
 ) -> Result<SparseProgram, AllocError>
-    requires serves { P.serves parts.now set.now }
-    requires task { i.0 < length set.now.tasks }
-    requires within { AreWithinDeadlines set.now bounds.now }
+    requires { HasProgramAt (P.serves parts.now) set.now i.0 bounds.now }
     ensures { IfOk result (λ p. p ≡ program_with set.now (P.columns parts.now set.now i.0) (P.rows parts.now set.now i.0) bounds.now) }
 {
     // the set is accepted, so its columns and rows make a program
@@ -129,9 +124,7 @@ pub fn limits_with<P: ProgramParts>(
     i: TaskId,
     bounds: &[u64],
 ) -> Result<Vec<u64>, AllocError>
-    requires serves { P.serves parts.now set.now }
-    requires task { i.0 < length set.now.tasks }
-    requires within { AreWithinDeadlines set.now bounds.now }
+    requires { HasProgramAt (P.serves parts.now) set.now i.0 bounds.now }
     ensures { IfOk result (λ v. v.items
         ≡ (program_with set.now (P.columns parts.now set.now i.0) (P.rows parts.now set.now i.0) bounds.now).limits) }
 {

@@ -1,10 +1,10 @@
-ghost use Rattle.std.specs.Prelude.{◌≡◌, ◌<◌, map, length, slice_index, IfOk, OnOk};
+ghost use Rattle.std.specs.Prelude.{◌≡◌, map, length, slice_index, IfOk, OnOk};
 ghost use Rattle.sporadic_model.specs.Homes.{HasHomesFor};
-ghost use Rattle.program_sources.specs.Bounds.{AreWithinDeadlines};
 ghost use Rattle.blocking_columns.specs.Given.{AreColumnsAt};
 ghost use Rattle.blocking_columns.specs.ColumnDef.{column_seen};
 ghost use Rattle.blocking_columns.specs.TaskPlaces.{ArePlaces};
 ghost use Rattle.program_laws.specs.Programs.{rows_of, program_of};
+ghost use Rattle.protocol_programs.specs.Given.{HasProgramAt};
 
 use crate::{Written, limits_with, program_with, sparse_program_with};
 use direct_constraints::{add_common, add_own};
@@ -44,9 +44,7 @@ pub fn program(
     i: TaskId,
     bounds: &[u64],
 ) -> Result<Program, AllocError>
-    requires task { i.0 < length set.now.tasks }
-    requires suits { HasHomesFor protocol set.now }
-    requires within { AreWithinDeadlines set.now bounds.now }
+    requires { HasProgramAt (HasHomesFor protocol) set.now i.0 bounds.now }
     ensures { IfOk result (λ p. p ≡ program_of protocol set.now i.0 bounds.now) }
 {
     program_with(alloc, &Written(protocol), set, i, bounds)
@@ -60,9 +58,7 @@ pub fn sparse_program(
     i: TaskId,
     bounds: &[u64],
 ) -> Result<SparseProgram, AllocError>
-    requires task { i.0 < length set.now.tasks }
-    requires suits { HasHomesFor protocol set.now }
-    requires within { AreWithinDeadlines set.now bounds.now }
+    requires { HasProgramAt (HasHomesFor protocol) set.now i.0 bounds.now }
     ensures { IfOk result (λ p. p ≡ program_of protocol set.now i.0 bounds.now) }
 {
     sparse_program_with(alloc, &Written(protocol), set, i, bounds)
@@ -76,9 +72,7 @@ pub fn limits(
     i: TaskId,
     bounds: &[u64],
 ) -> Result<Vec<u64>, AllocError>
-    requires task { i.0 < length set.now.tasks }
-    requires suits { HasHomesFor protocol set.now }
-    requires within { AreWithinDeadlines set.now bounds.now }
+    requires { HasProgramAt (HasHomesFor protocol) set.now i.0 bounds.now }
     ensures { IfOk result (λ v. v.items ≡ (program_of protocol set.now i.0 bounds.now).limits) }
 {
     limits_with(alloc, &Written(protocol), set, i, bounds)

@@ -19,7 +19,7 @@ pub loop-y-init : goal.loop-y-init
 loop-y-init c =
     let users = c.users-y-items in
     record {
-      one_each = c.requires.one_each;
+      one_each = c.requires.room.size;
       each = λ k l. ap (λ (n : ℕ). slice_index c.args.numbers.now k + n)
           (users_alone c.args.set.now c.args.i.0 c.args.q.0 k users.result.now users.ensures.value l);
     }
@@ -36,11 +36,11 @@ add_at-requires-clause-room c =
       arith,
       c.loop-y.invariant.each y there,
       alone_few set c.args.i.0 c.args.q.0 y,
-      c.requires.room y there,
+      c.requires.room.each y there,
       c.where_passed.ensures,
       only_if-at_most (slice_index c.args.users.now c.processor.result == 1) c.args.count,
-      c.requires.count,
-      c.requires.small,
+      c.requires.count.value,
+      c.requires.count.most,
     )
 
 pub loop-y-preserved : goal.loop-y-preserved
@@ -58,7 +58,7 @@ loop-y-preserved c =
           let p : ℕ = (task_at set y).processor in
           let there : p ≤ set.processors = omega (arith, w.processor.ensures.value, w.processor.ensures.most) in
           let here : w.where_passed.result ≡ f y = w.where_passed.ensures
-          ∙ rw (w.processor.ensures.value, c.requires.users.each p there, c.requires.count, lt-ltb i y w.if-i-y.true) refl in
+          ∙ rw (w.processor.ensures.value, c.requires.users.each p there, c.requires.count.value, lt-ltb i y w.if-i-y.true) refl in
           rw w.numbers-is (record {
             one_each = w.add_at.ensures.size ∙ c.loop-y.invariant.one_each;
             each = λ k l. omega (arith, w.add_at.ensures.each k, ap (only_if (y == k)) here, next k, c.loop-y.invariant.each k l);
@@ -79,8 +79,11 @@ loop-y-preserved c =
           })
     ]
 
-pub returns-clause-each : goal.returns-clause-each
-returns-clause-each c = λ x l.
+pub returns : goal.returns
+returns c =
     let ys = c.users-y-items.result.now in
     let end : drop c.loop-y.y-index ys ≡ [] = drop_all c.loop-y.y-index ys (omega (arith, c.loop-y-test.false)) in
-    let here = c.loop-y.invariant.each x l in omega (arith, rw end at here)
+    record {
+      size = c.loop-y.invariant.one_each;
+      each = λ x l. let here = c.loop-y.invariant.each x l in omega (arith, rw end at here);
+    }

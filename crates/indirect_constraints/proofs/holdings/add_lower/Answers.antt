@@ -9,4 +9,7 @@ returns-else-sum_lower-gt0-clause-alone c =
     let set = c.args.set.now in
     let none : sum_below (length set.tasks) (lower_user set c.args.i.0 c.args.q.0) ≡ 0 =
     omega (arith, c.sum_lower.ensures.all, c.if-sum_lower-gt0.false) in
-    λ x l. omega (arith, none_alone set c.args.i.0 c.args.q.0 x none)
+    record {
+      size = c.requires.room.of_tasks.size;
+      each = λ x l. omega (arith, none_alone set c.args.i.0 c.args.q.0 x none);
+    }

@@ -15,7 +15,7 @@ loop-y-init c =
     let set = c.args.set.now in
     let users = c.users-y-items in
     record {
-      one_each = c.requires.one_each;
+      one_each = c.requires.room.one_each;
       each = λ k l. ap (λ (n : ℕ). slice_index c.args.numbers.now k + n)
           (users_requests set (slice_index c.args.bounds.now) c.args.i.0 k c.args.q.0 users.result.now users.ensures.value
           (omega (arith, l, c.requires.task)));

@@ -21,16 +21,19 @@ loop-q-init c =
     }
 
 pub add_requests_of-requires-clause-room : goal.add_requests_of-requires-clause-room
-add_requests_of-requires-clause-room c = λ y l.
+add_requests_of-requires-clause-room c =
     let few = used_few c.args.set.now c.args.i.0 c.used_by-q-items.result.now c.used_by-q-items.ensures.value in
-    rw c.deref_mut.ensures.value (omega (
-      arith,
-      few,
-      c.loop-q-test.true,
-      c.loop-q.invariant.room y l,
-      c.resources-resources.ensures.value,
-      c.resources-resources.ensures.most,
-    ))
+    rw c.deref_mut.ensures.value (record {
+      one_each = c.loop-q.invariant.one_each;
+      each = λ y l. omega (
+        arith,
+        few,
+        c.loop-q-test.true,
+        c.loop-q.invariant.room y l,
+        c.resources-resources.ensures.value,
+        c.resources-resources.ensures.most,
+      );
+    })
 
 pub loop-q-preserved : goal.loop-q-preserved
 loop-q-preserved c =
@@ -55,20 +58,21 @@ loop-q-preserved c =
           omega (arith, kept, c.loop-q.invariant.others y m l);
     })
 
-pub returns-clause-small : goal.returns-clause-small
-returns-clause-small c = λ y l.
+pub returns : goal.returns
+returns c =
     let few = used_few c.args.set.now c.args.i.0 c.used_by-q-items.result.now c.used_by-q-items.ensures.value in
-    omega (
-      arith,
-      few,
-      c.loop-q.auto.q-index-end,
-      c.loop-q.invariant.room y l,
-      c.resources-resources.ensures.value,
-      c.resources-resources.ensures.most,
-    )
-
-pub returns-clause-each : goal.returns-clause-each
-returns-clause-each c = λ y l.
     let end : drop c.loop-q.q-index c.used_by-q-items.result.now ≡ [] =
     drop_all c.loop-q.q-index c.used_by-q-items.result.now (omega (arith, c.loop-q-test.false)) in
-    let here = c.loop-q.invariant.each y l in omega (arith, rw end at here)
+    record {
+      one_each = c.loop-q.invariant.one_each;
+      each = λ y l. let here = c.loop-q.invariant.each y l in omega (arith, rw end at here);
+      small = λ y l. omega (
+        arith,
+        few,
+        c.loop-q.auto.q-index-end,
+        c.loop-q.invariant.room y l,
+        c.resources-resources.ensures.value,
+        c.resources-resources.ensures.most,
+      );
+      others = c.loop-q.invariant.others;
+    }

@@ -1,4 +1,4 @@
-use Rattle.std.proofs.Common.{◌≡◌, ℕ, ◌+◌, ◌==◌, ◌∙◌, nat_lt, length, drop, get_or, [], refl, ap, arith}
+use Rattle.std.proofs.Common.{◌≡◌, ℕ, ◌+◌, ◌≤◌, ◌==◌, ◌∙◌, nat_lt, length, drop, get_or, [], refl, ap, arith}
 use Rattle.std.specs.Prelude.{slice_index}
 use Rattle.std.proofs.lemmas.Bool.{lt-ltb, le-ltb}
 use Rattle.std.proofs.lemmas.List.{drop_all}
@@ -22,7 +22,7 @@ loop-y-init c =
       most = λ k l. omega (arith, c.clear.ensures.each k);
       all = omega (arith, users_all set c.args.i.0 c.args.q.0 users.result.now users.ensures.value);
       few = omega arith;
-      totals = c.requires.totals;
+      totals = c.requires.room.size;
       held = λ k l. rw (c.clear.ensures.each k) (omega arith);
     }
 
@@ -39,10 +39,10 @@ add_at-requires-then-i-y-clause-room c =
       arith,
       c.loop-y.invariant.held p c.processor-processor.ensures.most,
       only_if-at_most (nat_lt 0 (slice_index c.loop-y.sums p)) c.args.count,
-      c.requires.room p c.processor-processor.ensures.most,
+      c.requires.room.each p (omega (arith, c.processor-processor.ensures.most)),
       c.where_passed.ensures,
       only_if-at_most (slice_index c.loop-y.sums p == 0) c.args.count,
-      c.requires.small,
+      c.requires.count.most,
     )
 
 pub overflow_add-all : goal.overflow_add-all
@@ -114,12 +114,17 @@ returns-clause-all c =
     let end : drop c.loop-y.y-index ys ≡ [] = drop_all c.loop-y.y-index ys (omega (arith, c.loop-y-test.false)) in
     let here = c.loop-y.invariant.all in omega (arith, rw end at here)
 
-pub returns-clause-each : goal.returns-clause-each
-returns-clause-each c = λ k l.
+pub returns-clause-totals : goal.returns-clause-totals
+returns-clause-totals c =
     let ys = c.users-y-items.result.now in
     let end : drop c.loop-y.y-index ys ≡ [] = drop_all c.loop-y.y-index ys (omega (arith, c.loop-y-test.false)) in
-    let here = c.loop-y.invariant.each k l in
-    let all = sum_on c.args.set.now (lower_user c.args.set.now c.args.i.0 c.args.q.0) (length c.args.set.now.tasks) k in
-    let sum : slice_index c.loop-y.sums k ≡ all = omega (arith, rw end at here) in
-    c.loop-y.invariant.held k l
-    ∙ ap (λ (n : ℕ). slice_index c.args.totals.now k + n) (rw (sum, c.requires.count) refl)
+    record {
+      size = c.loop-y.invariant.totals;
+      each = λ k l.
+          let there : k ≤ c.args.set.now.processors = omega (arith, l) in
+          let here = c.loop-y.invariant.each k there in
+          let all = sum_on c.args.set.now (lower_user c.args.set.now c.args.i.0 c.args.q.0) (length c.args.set.now.tasks) k in
+          let sum : slice_index c.loop-y.sums k ≡ all = omega (arith, rw end at here) in
+          c.loop-y.invariant.held k there
+          ∙ ap (λ (n : ℕ). slice_index c.args.totals.now k + n) (rw (sum, c.requires.count.value) refl);
+    }

@@ -5,7 +5,7 @@ use Rattle.program_form.specs.Refusals.{first_refusal}
 use Rattle.program_form.specs.RowBlock.{block_seen}
 use Rattle.program_form.proofs.Accepted.{not_refused}
 use Rattle.protocol_programs.specs.Lists.{lists_of}
-use Rattle.protocol_programs.proofs.parts.program_of.Goals as goal
+use Rattle.protocol_programs.proofs.parts.program_from.Goals as goal
 
 pub new-requires-clause-few_columns : goal.new-requires-clause-few_columns
 new-requires-clause-few_columns c =
