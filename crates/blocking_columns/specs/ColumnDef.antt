@@ -1,5 +1,5 @@
 -- A column of a blocking program, as plain numbers: the requests of a resource by a task, and how they block.
-use Rattle.std.specs.Prelude.{ℕ, ◌<◌, List, [], ◌∷◌, map, Bool, true, false}
+use Rattle.std.specs.Prelude.{◌≡◌, ℕ, ◌<◌, List, [], ◌∷◌, ◌++◌, map, Bool, true, false}
 use Rattle.std.specs.List.{All}
 use Rattle.number_laws.specs.Sums.{collect_below}
 use Rattle.blocking_columns.specs.declared.columns.Class.{Class}
@@ -38,6 +38,10 @@ is_indirect k = is_class class.Indirect k
 
 abbrev pub is_preemption : Class → Bool
 is_preemption k = is_class class.Preemption k
+
+-- Have these columns been added behind those that were there before?
+abbrev pub Gains : List Fragment → List Fragment → List ColumnDef → Type 0
+Gains before now added = map column_seen now ≡ map column_seen before ++ added
 
 -- Is the column of a task below n and a resource below m?
 abbrev pub IsKnown : ℕ → ℕ → ColumnDef → Type 0

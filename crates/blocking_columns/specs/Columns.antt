@@ -1,6 +1,7 @@
 -- The columns of a task's blocking program: which requests of other tasks may block a job of it, and how.
 use Rattle.std.specs.Prelude.{◌≡◌, ℕ, ◌==◌, ◌&&◌, ◌||◌, not, Bool, true, false, nat_lt, nat_le, List, length}
 use Rattle.std.specs.List.{filter}
+use Rattle.number_laws.specs.Sums.{collect_below}
 use Rattle.number_laws.specs.Tests.{any_below}
 use Rattle.sporadic_model.specs.SetDef.{SetDef, task_at, is_higher_local}
 use Rattle.sporadic_model.specs.Users.{is_user}
@@ -10,7 +11,7 @@ use Rattle.blocking_columns.specs.declared.columns.Class.{Class}
 use Rattle.blocking_columns.specs.declared.columns.Class.TheVariants as class
 use Rattle.sporadic_model.specs.Homes.{home_in}
 use Rattle.blocking_columns.specs.Ceilings.{ceiling_rank, remote_ceiling_rank}
-use Rattle.blocking_columns.specs.ColumnDef.{ColumnDef, is_class, all_columns}
+use Rattle.blocking_columns.specs.ColumnDef.{ColumnDef, is_class, classes_of, all_columns}
 
 -- Do two tasks share a processor?
 abbrev pub have_one_processor : SetDef → ℕ → ℕ → Bool
@@ -79,6 +80,10 @@ columns_of p set i = columns_by (may_block p set i) set i
 -- The columns of a set that pass any test, in the same order.
 abbrev pub columns_where : (ColumnDef → Bool) → SetDef → List ColumnDef
 columns_where test set = filter test (all_columns (length set.tasks) (length set.resources))
+
+-- Those of them that are requests by task x.
+abbrev pub requests_where : (ColumnDef → Bool) → SetDef → ℕ → List ColumnDef
+requests_where test set x = filter test (collect_below (length set.resources) (λ q. classes_of x q))
 
 -- Are the columns that pass requests of resources that their tasks use?
 abbrev pub AreRequests : (ColumnDef → Bool) → SetDef → Type 0

@@ -1,6 +1,8 @@
--- What functions that add rows are given: the task that is analysed, i, with bounds, columns and places that belong together.
-use Rattle.std.specs.Prelude.{◌≡◌, ℕ, ◌<◌, List, map, length, slice_index}
+-- What functions are given: tasks and a resource of the set, and the task that is analysed, i, with bounds, columns and places that belong
+-- together.
+use Rattle.std.specs.Prelude.{◌≡◌, ℕ, ◌<◌, true, List, map, length, slice_index}
 use Rattle.sporadic_model.specs.SetDef.{SetDef}
+use Rattle.sporadic_model.specs.Users.{is_user}
 use Rattle.sporadic_model.specs.declared.ids.Protocol.{Protocol}
 use Rattle.program_sources.specs.Bounds.{AreWithinDeadlines}
 use Rattle.blocking_columns.specs.declared.columns.Fragment.{Fragment}
@@ -9,6 +11,18 @@ use Rattle.blocking_columns.specs.ColumnDef.{column_seen, AreKnown}
 use Rattle.blocking_columns.specs.Columns.{columns_of}
 use Rattle.blocking_columns.specs.Stretches.{AreInOrder}
 use Rattle.blocking_columns.specs.TaskPlaces.{ArePlaces}
+
+-- Are i and x tasks of the set?
+pub record AreTwoTasks (set : SetDef) (i x : ℕ) : Type 0 where
+  pub task : i < length set.tasks
+  pub other : x < length set.tasks
+
+-- Is i a task of the set, and x one that uses its resource q?
+pub record AreTaskAndUser (set : SetDef) (i x q : ℕ) : Type 0 where
+  pub task : i < length set.tasks
+  pub other : x < length set.tasks
+  pub resource : q < length set.resources
+  pub used : is_user set q x ≡ true
 
 -- Is i a task of the set, where each task has a bound, at most its latest one, and are these its columns under the protocol?
 pub record AreColumnsAt (protocol : Protocol) (set : SetDef) (bounds : List ℕ) (i : ℕ) (given : List Fragment) : Type 0 where

@@ -1,5 +1,6 @@
 -- The resources by which requests of another task can block indirectly, before the requests' own resource is looked at.
-use Rattle.std.specs.Prelude.{◌≡◌, ℕ, ◌+◌, ◌-◌, ◌<◌, ◌≤◌, ◌==◌, ◌&&◌, ◌||◌, not, Bool, List, length, slice_index, take, drop}
+use Rattle.std.specs.Prelude.{◌≡◌, ℕ, ◌+◌, ◌-◌, ◌<◌, ◌≤◌, ◌==◌, ◌&&◌, ◌||◌, not, true, if◌then◌else◌, Bool, List, [], ◌∷◌, length}
+use Rattle.std.specs.Prelude.{slice_index, take, drop}
 use Rattle.std.specs.List.{All, list_any, filter}
 use Rattle.number_laws.specs.Tests.{any_below}
 use Rattle.sporadic_model.specs.SetDef.{SetDef, task_at, is_higher_local}
@@ -33,6 +34,11 @@ AreLinks p set i k links = (x : ℕ) → k ≡ (task_at set x).processor → (te
 abbrev pub may_have_columns : SetDef → ℕ → ℕ → Bool
 may_have_columns set i x = not (x == i) && not (is_higher_local set i x)
 
+-- Is i a task of the set, under MPCP or FMLP+?
+pub record IsTaskUnderSharing (p : Protocol) (set : SetDef) (i : ℕ) : Type 0 where
+  pub sharing : p ≡ protocol.Dpcp → ⊥
+  pub task : i < length set.tasks
+
 -- Does another task y than i use resource r, which i uses too?
 abbrev pub is_rival : SetDef → ℕ → ℕ → ℕ → Bool
 is_rival set i y r = not (y == i) && (is_user set r i && is_user set r y)
@@ -61,7 +67,7 @@ abbrev pub AreRivalsAmong : ℕ → ℕ → List TaskId → List Rival → List 
 AreRivalsAmong i r tasks before now = (test : ℕ → ℕ → Bool) → list_any (λ e. test e.task.0 e.resource.0) now
     ≡ (list_any (λ e. test e.task.0 e.resource.0) before || list_any (λ y. not (y.0 == i) && test y.0 r) tasks)
 
--- A task with a resource that it uses.
+-- A task with a resource that it uses. And this alone in a list, if the task is another one than i.
 abbrev pub rival_at : Protocol → SetDef → TaskId → ResourceId → Rival
 rival_at p set y r = record {
   task = y;
@@ -69,6 +75,9 @@ rival_at p set y r = record {
   processor = (task_at set y.0).processor;
   place = place_in p set (task_at set y.0).processor r.0;
 }
+
+abbrev pub rival_if_other : Protocol → SetDef → ℕ → TaskId → ResourceId → List Rival
+rival_if_other p set i y r = if not (y.0 == i) then rival_at p set y r ∷ [] else []
 
 -- Is it a task of the set, with its processor, and with the place of the resource's ceiling as that processor sees it?
 abbrev pub IsKnownRival : Protocol → SetDef → Rival → Type 0
@@ -78,6 +87,16 @@ IsKnownRival p set e = (e.task.0 < length set.tasks) × (e.processor ≡ (task_a
 -- Are they all?
 abbrev pub AreKnownRivals : Protocol → SetDef → List Rival → Type 0
 AreKnownRivals p set rivals = All (IsKnownRival p set) rivals
+
+-- Are they the tasks other than i that use a resource which i uses too, as such rivals?
+pub record AreAllRivals (p : Protocol) (set : SetDef) (i : ℕ) (rivals : List Rival) : Type 0 where
+  pub are : AreRivals set i rivals
+  pub known : AreKnownRivals p set rivals
+
+-- Are they such rivals, and are those of resource r there, besides those that were there before?
+pub record AreKnownRivalsAt (p : Protocol) (set : SetDef) (i r : ℕ) (before now : List Rival) : Type 0 where
+  pub users : AreRivalsAt set i r before now
+  pub known : AreKnownRivals p set now
 
 -- Has each the place of its resource's ceiling as processor k sees it?
 abbrev pub AreSeenFrom : Protocol → SetDef → ℕ → List Rival → Type 0
@@ -91,9 +110,28 @@ is_beside set x y = have_one_processor set y x && not (y == x)
 abbrev pub is_at : ℕ → Rival → Bool
 is_at k e = e.processor == k
 
+-- Are i and x tasks of the set, and are these the rivals on x's processor, as it sees them?
+pub record AreLinksTo (p : Protocol) (set : SetDef) (i x : ℕ) (rivals : List Rival) : Type 0 where
+  pub task : i < length set.tasks
+  pub other : x < length set.tasks
+  pub links : AreLinks p set i (task_at set x).processor rivals
+  pub seen : AreSeenFrom p set (task_at set x).processor rivals
+
+-- Under MPCP or FMLP+, are they so of a task x whose requests may be columns of i?
+pub record AreLinksOfColumns (p : Protocol) (set : SetDef) (i x : ℕ) (rivals : List Rival) : Type 0 where
+  pub sharing : p ≡ protocol.Dpcp → ⊥
+  pub to : AreLinksTo p set i x rivals
+  pub blocks : may_have_columns set i x ≡ true
+
 -- The rivals of processor k, where those of each processor begin at its place.
 abbrev pub part_at : List Rival → List ℕ → ℕ → List Rival
 part_at parted begins k = take (slice_index begins (k + 1) - slice_index begins k) (drop (slice_index begins k) parted)
+
+-- Has processor k a part of them?
+pub record HasPart (parted : List Rival) (begins : List ℕ) (k : ℕ) : Type 0 where
+  pub listed : k + 1 < length begins
+  pub order : slice_index begins k ≤ slice_index begins (k + 1)
+  pub within : slice_index begins (k + 1) ≤ length parted
 
 -- Are the rivals of each processor below m there, those of one behind those of another?
 pub record AreParted (m : ℕ) (rivals parted : List Rival) (begins : List ℕ) : Type 0 where

@@ -2,7 +2,9 @@
 use Rattle.std.specs.Prelude.{◌≡◌, ℕ, ◌+◌, ◌*◌, ◌<◌, ◌≤◌, List, length}
 use Rattle.std.specs.List.{AllWithin}
 use Rattle.std.specs.List.Sorted.{IsNonDecreasingBy}
+use Rattle.sporadic_model.specs.SetDef.{SetDef}
 use Rattle.blocking_columns.specs.declared.columns.Fragment.{Fragment}
+use Rattle.blocking_columns.specs.ColumnDef.{AreKnown}
 
 -- The number of task x and resource q in the order of columns, where there are at most 2 ^ 32 resources.
 abbrev pub slot : ℕ → ℕ → ℕ
@@ -14,6 +16,11 @@ slot_of c = slot c.task.0 c.resource.0
 -- Do the columns stand in order of the task, then the resource?
 abbrev pub AreInOrder : List Fragment → Type 0
 AreInOrder columns = IsNonDecreasingBy slot_of columns
+
+-- Are the columns of tasks and resources of the set, and do they stand in order?
+pub record StandInOrder (set : SetDef) (columns : List Fragment) : Type 0 where
+  pub known : AreKnown (length set.tasks) (length set.resources) columns
+  pub order : AreInOrder columns
 
 -- Do the columns of slot s and of later ones begin at this place?
 pub record BeginsAt (s : ℕ) (columns : List Fragment) (place : ℕ) : Type 0 where

@@ -1,13 +1,13 @@
-ghost use Rattle.std.specs.Prelude.{◌≡◌, ◌<◌, ◌≤◌, ◌*◌, ◌++◌, map, length, OnOk, IfOk, not, ◌==◌, ◌&&◌, true, if◌then◌else◌, [], ◌∷◌};
+ghost use Rattle.std.specs.Prelude.{◌≡◌, ◌<◌, ◌≤◌, ◌*◌, map, length, OnOk, IfOk, not, ◌==◌, ◌&&◌, if◌then◌else◌, [], ◌∷◌};
 ghost use Rattle.std.specs.List.{filter};
-ghost use Rattle.number_laws.specs.Sums.{collect_below, sum_below};
-ghost use Rattle.sporadic_model.specs.SetDef.{task_at};
-ghost use Rattle.sporadic_model.specs.Users.{is_user, users_of};
+ghost use Rattle.number_laws.specs.Sums.{sum_below};
+ghost use Rattle.sporadic_model.specs.Users.{users_of};
 ghost use Rattle.sporadic_model.specs.Homes.{HasHomesFor};
 ghost use Rattle.blocking_columns.specs.Ceilings.{may_precede};
-ghost use Rattle.blocking_columns.specs.ColumnDef.{column_seen, classes_of, is_direct, is_indirect, is_preemption};
-ghost use Rattle.blocking_columns.specs.Columns.{has_path, is_column, is_lower_local, columns_of};
-ghost use Rattle.blocking_columns.specs.Links.{AreLinks, AreSeenFrom, HaveLinks, may_have_columns};
+ghost use Rattle.blocking_columns.specs.ColumnDef.{column_seen, classes_of, Gains, is_direct, is_indirect, is_preemption};
+ghost use Rattle.blocking_columns.specs.Columns.{has_path, is_column, is_lower_local, columns_of, requests_where};
+ghost use Rattle.blocking_columns.specs.Given.{AreTwoTasks, AreTaskAndUser};
+ghost use Rattle.blocking_columns.specs.Links.{AreLinksTo, AreLinksOfColumns, HaveLinks, IsTaskUnderSharing, may_have_columns};
 
 use crate::homes::{HomeTest, home_marks};
 use crate::linking::{Links, Rival, links_of};
@@ -102,11 +102,8 @@ fn reaches(
     q: ResourceId,
     links: &[Rival],
 ) -> bool
-    requires task { i.0 < length set.now.tasks }
-    requires other { x.0 < length set.now.tasks }
     requires resource { q.0 < length set.now.resources }
-    requires links { AreLinks protocol set.now i.0 (task_at set.now x.0).processor links.now }
-    requires seen { AreSeenFrom protocol set.now (task_at set.now x.0).processor links.now }
+    requires to { AreLinksTo protocol set.now i.0 x.0 links.now }
     ensures { result ≡ has_path protocol set.now i.0 x.0 q.0 }
 {
     if links.is_empty() {
@@ -120,8 +117,7 @@ fn reaches(
 
 // Adds the column, if it passes.
 fn add_if(columns: &mut Vec<Fragment>, passes: bool, c: Fragment) -> Result<(), AllocError>
-    ensures { OnOk result (map column_seen columns.new.items
-        ≡ map column_seen columns.old.items ++ (if passes then column_seen c ∷ [] else [])) }
+    ensures { OnOk result (Gains columns.old.items columns.new.items (if passes then column_seen c ∷ [] else [])) }
 {
     if passes {
         columns.push(c)?;
@@ -140,17 +136,10 @@ fn add_requests(
     q: ResourceId,
     lower: bool,
 ) -> Result<(), AllocError>
-    requires sharing { protocol ≡ Protocol.Dpcp → ⊥ }
-    requires task { i.0 < length set.now.tasks }
-    requires other { x.0 < length set.now.tasks }
-    requires resource { q.0 < length set.now.resources }
-    requires blocks { may_have_columns set.now i.0 x.0 ≡ true }
-    requires used { is_user set.now q.0 x.0 ≡ true }
+    requires user { AreTaskAndUser set.now i.0 x.0 q.0 }
     requires lower { lower ≡ is_lower_local set.now i.0 x.0 }
-    requires links { AreLinks protocol set.now i.0 (task_at set.now x.0).processor links.now }
-    requires seen { AreSeenFrom protocol set.now (task_at set.now x.0).processor links.now }
-    ensures { OnOk result (map column_seen columns.new.items
-        ≡ map column_seen columns.old.items ++ filter (is_column protocol set.now i.0) (classes_of x.0 q.0)) }
+    requires links { AreLinksOfColumns protocol set.now i.0 x.0 links.now }
+    ensures { OnOk result (Gains columns.old.items columns.new.items (filter (is_column protocol set.now i.0) (classes_of x.0 q.0))) }
 {
     let direct = uses(set, i, q);
     let indirect = reaches(set, protocol, i, x, q, links);
@@ -168,14 +157,8 @@ fn add_requests_of(
     i: TaskId,
     x: TaskId,
 ) -> Result<(), AllocError>
-    requires sharing { protocol ≡ Protocol.Dpcp → ⊥ }
-    requires task { i.0 < length set.now.tasks }
-    requires other { x.0 < length set.now.tasks }
-    requires blocks { may_have_columns set.now i.0 x.0 ≡ true }
-    requires links { AreLinks protocol set.now i.0 (task_at set.now x.0).processor links.now }
-    requires seen { AreSeenFrom protocol set.now (task_at set.now x.0).processor links.now }
-    ensures { OnOk result (map column_seen columns.new.items ≡ map column_seen columns.old.items
-        ++ filter (is_column protocol set.now i.0) (collect_below (length set.now.resources) (λ q. classes_of x.0 q))) }
+    requires { AreLinksOfColumns protocol set.now i.0 x.0 links.now }
+    ensures { OnOk result (Gains columns.old.items columns.new.items (requests_where (is_column protocol set.now i.0) set.now x.0)) }
 {
     let lower = lower_local(set, i, x);
     let used = set.used_by(x);
@@ -187,8 +170,7 @@ fn add_requests_of(
 
 // Under MPCP and FMLP+, may requests by `x` be columns? Those of `i` and of higher tasks beside it never are.
 fn may_have_columns(set: &TaskSet, i: TaskId, x: TaskId) -> bool
-    requires task { i.0 < length set.now.tasks }
-    requires other { x.0 < length set.now.tasks }
+    requires { AreTwoTasks set.now i.0 x.0 }
     ensures { result ≡ may_have_columns set.now i.0 x.0 }
 {
     x != i && !set.higher_local(i, x)
@@ -203,12 +185,10 @@ fn add_requests_by(
     i: TaskId,
     x: TaskId,
 ) -> Result<(), AllocError>
-    requires sharing { protocol ≡ Protocol.Dpcp → ⊥ }
-    requires task { i.0 < length set.now.tasks }
+    requires sharing { IsTaskUnderSharing protocol set.now i.0 }
     requires other { x.0 < length set.now.tasks }
     requires links { HaveLinks protocol set.now i.0 links.now.rivals.items links.now.begins.items }
-    ensures { OnOk result (map column_seen columns.new.items ≡ map column_seen columns.old.items
-        ++ filter (is_column protocol set.now i.0) (collect_below (length set.now.resources) (λ q. classes_of x.0 q))) }
+    ensures { OnOk result (Gains columns.old.items columns.new.items (requests_where (is_column protocol set.now i.0) set.now x.0)) }
 {
     if !may_have_columns(set, i, x) {
         return Ok(());
@@ -247,8 +227,7 @@ fn shared_fragments(
     protocol: Protocol,
     i: TaskId,
 ) -> Result<Vec<Fragment>, AllocError>
-    requires sharing { protocol ≡ Protocol.Dpcp → ⊥ }
-    requires task { i.0 < length set.now.tasks }
+    requires { IsTaskUnderSharing protocol set.now i.0 }
     ensures { IfOk result (λ v. map column_seen v.items ≡ columns_of protocol set.now i.0) }
 {
     let links = links_of(alloc, set, protocol, i)?;

@@ -1,11 +1,10 @@
 //! The test of columns where requests run on their resource's home.
 
-ghost use Rattle.std.specs.Prelude.{◌≡◌, ℕ, ◌<◌, length, slice_index, IfOk};
+ghost use Rattle.std.specs.Prelude.{◌≡◌, ◌<◌, length, IfOk};
 ghost use Rattle.sporadic_model.specs.declared.ids.Protocol.TheVariants as protocol;
-ghost use Rattle.sporadic_model.specs.declared.limits.TheConstants.{MOST_PROCESSORS};
 ghost use Rattle.sporadic_model.specs.SetDef.{task_at};
 ghost use Rattle.blocking_columns.specs.Columns.{requests_beside, blocks_at_home, is_column};
-ghost use Rattle.blocking_columns.specs.Asked.{AreAskedBeside, AreHomeCounts};
+ghost use Rattle.blocking_columns.specs.Asked.{AreAskedBeside, AreNoCounts, AreHomeCounts, AreHomeCountsFor};
 ghost use Rattle.blocking_columns.specs.HomeMarks.{mark_of, AreHomeMarks, blocks_marked};
 
 use crate::columns::{Class, Fragment};
@@ -17,8 +16,7 @@ use std::alloc::{AllocError, Global};
 // Counts by home the resources that `i` uses. Those without a home count at 0.
 fn count_homes(set: &TaskSet, i: TaskId, counts: &mut [u8])
     requires task { i.0 < length set.now.tasks }
-    requires room { MOST_PROCESSORS < length counts.old }
-    requires none { (k : ℕ) → k < length counts.old → slice_index counts.old k ≡ 0 }
+    requires none { AreNoCounts counts.old }
     ensures { AreHomeCounts set.now i.0 counts.new }
 {
     // the call says how many processors and resources there are at most
@@ -31,9 +29,7 @@ fn count_homes(set: &TaskSet, i: TaskId, counts: &mut [u8])
 
 // Does `i` request another resource of the same home?
 fn asks_beside(set: &TaskSet, i: TaskId, q: ResourceId, counts: &[u8]) -> bool
-    requires task { i.0 < length set.now.tasks }
-    requires resource { q.0 < length set.now.resources }
-    requires counts { AreHomeCounts set.now i.0 counts.now }
+    requires { AreHomeCountsFor set.now i.0 q.0 counts.now }
     ensures { result ≡ requests_beside set.now i.0 q.0 }
 {
     counts[home(set, q) as usize] > uses(set, i, q) as u8
@@ -82,10 +78,8 @@ pub(crate) struct HomeMark {
 
 // The mark of resource `q`, where `i` runs on processor `k`.
 fn mark(set: &TaskSet, i: TaskId, k: u32, q: ResourceId, counts: &[u8]) -> HomeMark
-    requires task { i.0 < length set.now.tasks }
     requires processor { k ≡ (task_at set.now i.0).processor }
-    requires resource { q.0 < length set.now.resources }
-    requires counts { AreHomeCounts set.now i.0 counts.now }
+    requires counted { AreHomeCountsFor set.now i.0 q.0 counts.now }
     ensures { result ≡ mark_of set.now i.0 q.0 }
 {
     let asked = uses(set, i, q);

@@ -1,10 +1,9 @@
 //! The resources by which requests of another task can block the analysed one indirectly.
 
-ghost use Rattle.std.specs.Prelude.{◌≡◌, ℕ, ◌<◌, ◌≤◌, ◌+◌, ◌++◌, length, slice_index, OnOk, IfOk, [], ◌∷◌, not, ◌==◌};
-ghost use Rattle.std.specs.Prelude.{if◌then◌else◌};
+ghost use Rattle.std.specs.Prelude.{◌≡◌, ◌<◌, ◌+◌, ◌++◌, length, OnOk, IfOk, [], ◌∷◌};
 ghost use Rattle.std.specs.List.{filter};
-ghost use Rattle.blocking_columns.specs.Links.{AreRivalsAt, AreRivals, AreKnownRivals, AreParted, HaveLinks};
-ghost use Rattle.blocking_columns.specs.Links.{rival_at, is_at, part_at};
+ghost use Rattle.blocking_columns.specs.Links.{AreKnownRivals, AreKnownRivalsAt, AreAllRivals, AreParted, HaveLinks, HasPart};
+ghost use Rattle.blocking_columns.specs.Links.{IsTaskUnderSharing, rival_if_other, is_at, part_at};
 
 use crate::places::place_seen;
 use sporadic_model::{Protocol, ResourceId, TaskId, TaskSet};
@@ -32,8 +31,7 @@ fn add_rival(
 ) -> Result<(), AllocError>
     requires task { y.0 < length set.now.tasks }
     requires by { r.0 < length set.now.resources }
-    ensures { OnOk result (rivals.new.items ≡ rivals.old.items
-        ++ (if not (y.0 == i.0) then rival_at protocol set.now y r ∷ [] else [])) }
+    ensures { OnOk result (rivals.new.items ≡ rivals.old.items ++ rival_if_other protocol set.now i.0 y r) }
 {
     if y != i {
         let processor = set.processor(y);
@@ -57,8 +55,7 @@ fn add_users(
 ) -> Result<(), AllocError>
     requires by { r.0 < length set.now.resources }
     requires known { AreKnownRivals protocol set.now rivals.old.items }
-    ensures users { OnOk result (AreRivalsAt set.now i.0 r.0 rivals.old.items rivals.new.items) }
-    ensures known { OnOk result (AreKnownRivals protocol set.now rivals.new.items) }
+    ensures { OnOk result (AreKnownRivalsAt protocol set.now i.0 r.0 rivals.old.items rivals.new.items) }
 {
     let users = set.users(r);
     for y in users {
@@ -74,9 +71,8 @@ pub(crate) fn rivals_of(
     protocol: Protocol,
     i: TaskId,
 ) -> Result<Vec<Rival>, AllocError>
-    requires task { i.0 < length set.now.tasks }
-    ensures rivals { IfOk result (λ v. AreRivals set.now i.0 v.items) }
-    ensures known { IfOk result (λ v. AreKnownRivals protocol set.now v.items) }
+    requires { i.0 < length set.now.tasks }
+    ensures { IfOk result (λ v. AreAllRivals protocol set.now i.0 v.items) }
 {
     let used = set.used_by(i);
     // room to begin with; the list grows where there are more
@@ -119,9 +115,7 @@ pub(crate) struct Links {
 impl Links {
     /// The rivals on processor `k`.
     pub(crate) fn at(&self, k: u32) -> &[Rival]
-        requires known { k + 1 < length self.now.begins.items }
-        requires order { slice_index self.now.begins.items k ≤ slice_index self.now.begins.items (k + 1) }
-        requires within { slice_index self.now.begins.items (k + 1) ≤ length self.now.rivals.items }
+        requires { HasPart self.now.rivals.items self.now.begins.items k }
         ensures { result.now ≡ part_at self.now.rivals.items self.now.begins.items k }
     {
         let place = k as usize;
@@ -154,8 +148,7 @@ pub(crate) fn links_of(
     protocol: Protocol,
     i: TaskId,
 ) -> Result<Links, AllocError>
-    requires sharing { protocol ≡ Protocol.Dpcp → ⊥ }
-    requires task { i.0 < length set.now.tasks }
+    requires { IsTaskUnderSharing protocol set.now i.0 }
     ensures { IfOk result (λ l. HaveLinks protocol set.now i.0 l.rivals.items l.begins.items) }
 {
     let rivals = rivals_of(alloc, set, protocol, i)?;

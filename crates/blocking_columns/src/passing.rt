@@ -1,10 +1,9 @@
-ghost use Rattle.std.specs.Prelude.{◌≡◌, ℕ, ◌<◌, ◌++◌, map, length, OnOk, IfOk, Bool, true, [], ◌∷◌};
+ghost use Rattle.std.specs.Prelude.{◌≡◌, ℕ, ◌<◌, map, length, OnOk, IfOk, Bool, [], ◌∷◌};
 ghost use Rattle.std.specs.List.{filter};
-ghost use Rattle.number_laws.specs.Sums.{collect_below};
 ghost use Rattle.sporadic_model.specs.SetDef.{SetDef};
-ghost use Rattle.sporadic_model.specs.Users.{is_user};
-ghost use Rattle.blocking_columns.specs.ColumnDef.{ColumnDef, column_seen, classes_of, all_columns};
-ghost use Rattle.blocking_columns.specs.Columns.{columns_where, AreRequests};
+ghost use Rattle.blocking_columns.specs.ColumnDef.{ColumnDef, column_seen, classes_of, Gains};
+ghost use Rattle.blocking_columns.specs.Columns.{columns_where, requests_where, AreRequests};
+ghost use Rattle.blocking_columns.specs.Given.{AreTwoTasks, AreTaskAndUser};
 
 use crate::columns::{Class, Fragment, column, most_columns};
 use sporadic_model::{ResourceId, TaskId, TaskSet};
@@ -24,10 +23,7 @@ pub trait ColumnTest {
     /// Does the column pass?
     fn test(&self, set: &TaskSet, i: TaskId, column: Fragment) -> bool
         requires fits { fits self.now set.now i.0 column.task.0 }
-        requires task { i.0 < length set.now.tasks }
-        requires column { column.task.0 < length set.now.tasks }
-        requires resource { column.resource.0 < length set.now.resources }
-        requires used { is_user set.now column.resource.0 column.task.0 ≡ true }
+        requires user { AreTaskAndUser set.now i.0 column.task.0 column.resource.0 }
         ensures { result ≡ passes self.now set.now i.0 (column_seen column) };
 }
 
@@ -40,12 +36,8 @@ fn add_column<T: ColumnTest>(
     c: Fragment,
 ) -> Result<(), AllocError>
     requires fits { T.fits test.now set.now i.0 c.task.0 }
-    requires task { i.0 < length set.now.tasks }
-    requires column { c.task.0 < length set.now.tasks }
-    requires resource { c.resource.0 < length set.now.resources }
-    requires used { is_user set.now c.resource.0 c.task.0 ≡ true }
-    ensures { OnOk result (map column_seen columns.new.items
-        ≡ map column_seen columns.old.items ++ filter (T.passes test.now set.now i.0) (column_seen c ∷ [])) }
+    requires user { AreTaskAndUser set.now i.0 c.task.0 c.resource.0 }
+    ensures { OnOk result (Gains columns.old.items columns.new.items (filter (T.passes test.now set.now i.0) (column_seen c ∷ []))) }
 {
     if test.test(set, i, c) {
         columns.push(c)?;
@@ -63,12 +55,8 @@ fn add_classes<T: ColumnTest>(
     q: ResourceId,
 ) -> Result<(), AllocError>
     requires fits { T.fits test.now set.now i.0 x.0 }
-    requires task { i.0 < length set.now.tasks }
-    requires other { x.0 < length set.now.tasks }
-    requires resource { q.0 < length set.now.resources }
-    requires used { is_user set.now q.0 x.0 ≡ true }
-    ensures { OnOk result (map column_seen columns.new.items
-        ≡ map column_seen columns.old.items ++ filter (T.passes test.now set.now i.0) (classes_of x.0 q.0)) }
+    requires user { AreTaskAndUser set.now i.0 x.0 q.0 }
+    ensures { OnOk result (Gains columns.old.items columns.new.items (filter (T.passes test.now set.now i.0) (classes_of x.0 q.0))) }
 {
     add_column(columns, test, set, i, column(x, q, Class::Direct))?;
     add_column(columns, test, set, i, column(x, q, Class::Indirect))?;
@@ -84,10 +72,8 @@ fn add_task<T: ColumnTest>(
     x: TaskId,
 ) -> Result<(), AllocError>
     requires fits { T.fits test.now set.now i.0 x.0 }
-    requires task { i.0 < length set.now.tasks }
-    requires other { x.0 < length set.now.tasks }
-    ensures { OnOk result (map column_seen columns.new.items ≡ map column_seen columns.old.items
-        ++ filter (T.passes test.now set.now i.0) (collect_below (length set.now.resources) (λ q. classes_of x.0 q))) }
+    requires tasks { AreTwoTasks set.now i.0 x.0 }
+    ensures { OnOk result (Gains columns.old.items columns.new.items (requests_where (T.passes test.now set.now i.0) set.now x.0)) }
 {
     let used = set.used_by(x);
     for q in used {

@@ -1,8 +1,9 @@
-ghost use Rattle.std.specs.Prelude.{◌≡◌, ◌+◌, ◌<◌, ◌≤◌, map, length, slice_index, IfOk};
-ghost use Rattle.program_sources.specs.Bounds.{AreWithinDeadlines};
+ghost use Rattle.std.specs.Prelude.{◌≡◌, map, length, slice_index, IfOk};
 ghost use Rattle.blocking_columns.specs.ColumnDef.{column_seen, AreKnown};
 ghost use Rattle.blocking_columns.specs.Columns.{columns_where, columns_of};
+ghost use Rattle.blocking_columns.specs.Given.{AreInOrderAt};
 ghost use Rattle.blocking_columns.specs.Stretches.{slot, AreInOrder, BeginsAt, IsNextRequest};
+ghost use Rattle.blocking_columns.specs.Stretches.{StandInOrder, IsTaskStretch, IsRequestStretch};
 ghost use Rattle.blocking_columns.specs.TaskPlaces.{ArePlaces};
 
 use crate::columns::Fragment;
@@ -47,11 +48,9 @@ pub fn columns_stand_in_order(set: &TaskSet, protocol: Protocol, i: TaskId, colu
 
 // The place behind the columns of task `x`, which begin at `from`.
 fn task_end(set: &TaskSet, columns: &[Fragment], from: usize, x: TaskId) -> usize
-    requires known { AreKnown (length set.now.tasks) (length set.now.resources) columns.now }
-    requires order { AreInOrder columns.now }
+    requires ordered { StandInOrder set.now columns.now }
     requires from { BeginsAt (slot x.0 0) columns.now from }
-    ensures begins { BeginsAt (slot (x.0 + 1) 0) columns.now result }
-    ensures order { from ≤ result }
+    ensures { IsTaskStretch x.0 columns.now from result }
 {
     // a set has at most 32 resources, so the slots of a task end before those of the next one
     let _resources = set.resources();
@@ -70,10 +69,7 @@ pub fn task_places(
     bounds: &[u64],
     columns: &[Fragment],
 ) -> Result<Vec<TaskPlace>, AllocError>
-    requires task { i.0 < length set.now.tasks }
-    requires within { AreWithinDeadlines set.now bounds.now }
-    requires known { AreKnown (length set.now.tasks) (length set.now.resources) columns.now }
-    requires order { AreInOrder columns.now }
+    requires { AreInOrderAt set.now bounds.now i.0 columns.now }
     ensures { IfOk result (λ v. ArePlaces set.now (slice_index bounds.now) i.0 (length set.now.tasks) columns.now v.items) }
 {
     let tasks = set.tasks();
@@ -99,13 +95,10 @@ pub fn requests_end(
     x: TaskId,
     q: ResourceId,
 ) -> usize
-    requires resource { q.0 < length set.now.resources }
-    requires known { AreKnown (length set.now.tasks) (length set.now.resources) columns.now }
-    requires order { AreInOrder columns.now }
+    requires ordered { StandInOrder set.now columns.now }
     requires from { BeginsAt (slot x.0 q.0) columns.now from }
     requires first { IsNextRequest (length set.now.resources) x.0 q.0 columns.now from }
-    ensures begins { BeginsAt (slot x.0 (q.0 + 1)) columns.now result }
-    ensures order { from ≤ result }
+    ensures { IsRequestStretch x.0 q.0 columns.now from result }
 {
     // a set has at most 32 resources, so the slots of a task end before those of the next one
     let _resources = set.resources();

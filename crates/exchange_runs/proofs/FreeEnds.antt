@@ -6,7 +6,7 @@ use Rattle.number_laws.proofs.Order.{times_positive}
 use Rattle.number_laws.specs.Sums.{sum_below}
 use Rattle.number_laws.proofs.SumLaws.{sum_below-agree}
 use Rattle.fraction128.specs.Fraction.{Fraction, IsQuotient, over, whole}
-use Rattle.program_form.specs.Program.{ProgramDef, IsProgram, height, entry, limit}
+use Rattle.program_form.specs.Program.{ProgramDef, AreCovered, IsProgram, height, entry, limit}
 use Rattle.program_form.specs.Certificate.{DualDef}
 use Rattle.program_form.specs.Optimum.{IsOptimum}
 use Rattle.program_form.specs.Duals.{Covers, IsOptimalDual, dual_total}
@@ -21,7 +21,7 @@ use Rattle.exchange_runs.proofs.Bounded.{shadow_has_ratio}
 use Rattle.exchange_runs.proofs.Found.{listed}
 use Rattle.exchange_runs.proofs.Course.{entering_or_last, has_outcome}
 use Rattle.exchange_runs.proofs.Best.{scale_of, dual_num, covers_of, optimum_of, optimum_value}
-use Rattle.exchange_runs.specs.Unbounded.{IsFraction, FreelyReached, AreCovered}
+use Rattle.exchange_runs.specs.Unbounded.{IsFraction, FreelyReached}
 use Rattle.exchange_runs.proofs.FreeRuns.{are_fractions, few_exchanges, freely}
 
 -- a / b, f * y and a - b with no common divisor taken off

@@ -1,9 +1,9 @@
 -- The run of a program over unbounded fractions, in which no value is too wide for a table.
-use Rattle.std.specs.Prelude.{ℕ, ◌<◌, ◌^◌, pos, ◌<ℤ◌}
+use Rattle.std.specs.Prelude.{ℕ, ◌^◌, pos, ◌<ℤ◌}
 use Rattle.std.proofs.Common.{arith}
 use Rattle.std.proofs.lemmas.Int.{ints}
 use Rattle.fraction128.specs.Fraction.{Fraction, over}
-use Rattle.program_form.specs.Program.{ProgramDef, IsCovered, columns}
+use Rattle.program_form.specs.Program.{ProgramDef}
 use Rattle.exchange_runs.specs.Table.{Table, variables}
 use Rattle.exchange_runs.specs.Run.{ReachedOver}
 
@@ -22,7 +22,3 @@ FreelyReached p k t = ReachedOver IsFraction p k t
 -- How many sets of variables are there? No run makes this many exchanges.
 abbrev pub sets_of_variables : ProgramDef → ℕ
 sets_of_variables p = 2 ^ variables p
-
--- Has each column a coefficient above zero in some row?
-abbrev pub AreCovered : ProgramDef → Type 0
-AreCovered p = (c : ℕ) → c < columns p → IsCovered p c

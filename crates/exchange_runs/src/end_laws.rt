@@ -3,7 +3,7 @@
 
 ghost use Rattle.std.specs.Prelude.{◌≡◌, ◌⊎◌, ℕ, suc, ◌<◌, ◌≤◌, List};
 ghost use Rattle.fraction128.specs.Fraction.{Fraction};
-ghost use Rattle.program_form.specs.Program.{ProgramDef, IsProgram};
+ghost use Rattle.program_form.specs.Program.{ProgramDef, AreCovered, IsProgram};
 ghost use Rattle.program_form.specs.Certificate.{DualDef};
 ghost use Rattle.program_form.specs.SevenRows.{seven_rows};
 ghost use Rattle.program_form.specs.Optimum.{IsOptimum};
@@ -14,7 +14,7 @@ ghost use Rattle.exchange_runs.specs.Run.{Reached};
 ghost use Rattle.exchange_runs.specs.Readings.{value_of};
 ghost use Rattle.exchange_runs.specs.Feasible.{IsOptimumValue};
 ghost use Rattle.exchange_runs.specs.Outcomes.{EndsWithin, IsWideWithin};
-ghost use Rattle.exchange_runs.specs.Unbounded.{FreelyReached, AreCovered, sets_of_variables};
+ghost use Rattle.exchange_runs.specs.Unbounded.{FreelyReached, sets_of_variables};
 
 /// Over unbounded fractions each table of a covered program's run is the last, or has a next one. A run makes fewer exchanges than there
 /// are sets of variables. So it comes to a last table. There its value is the optimum, and no run goes on past it.

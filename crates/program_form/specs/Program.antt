@@ -46,6 +46,10 @@ pub record IsCovered (p : ProgramDef) (c : ℕ) : Type 0 where
   pub within : by_row < height p
   pub above : 0 < entry p by_row c
 
+-- Has each column one?
+abbrev pub AreCovered : ProgramDef → Type 0
+AreCovered p = (c : ℕ) → c < columns p → IsCovered p c
+
 -- Is c the first column that has none?
 pub record IsFirstUncovered (p : ProgramDef) (c : ℕ) : Type 0 where
   pub within : c < columns p

@@ -1,7 +1,8 @@
--- What contracts see of a block of rows: its numbers.
+-- What contracts see of a block of rows: its numbers. And the lists of a program over it.
 use Rattle.std.specs.Prelude.{ℕ, List, map}
 use Rattle.std.specs.declared.vec.Vec.{Vec}
 use Rattle.std.specs.Global.{Global}
+use Rattle.program_form.specs.Program.{ProgramDef}
 use Rattle.program_form.specs.declared.row_block.RowBlock.{RowBlock}
 
 -- Some rows of a program, and the limit of each.
@@ -15,3 +16,7 @@ rows_seen rows = map (λ row. row.items) rows
 
 abbrev pub block_seen : RowBlock → RowBlockDef
 block_seen b = record { rows = rows_seen b.rows.items; limits = b.limits.items }
+
+-- The costs of a program's columns, and its rows with their limits.
+abbrev pub lists_of : List ℕ → RowBlockDef → ProgramDef
+lists_of costs block = record { costs = costs; rows = block.rows; limits = block.limits }

@@ -3,12 +3,12 @@
 
 ghost use Rattle.std.specs.Prelude.{◌≡◌, ℕ, ◌+◌, ◌*◌, ◌/◌, ◌^◌, ◌<◌, ◌≤◌, ◌↔◌, Some, None, slice_index};
 ghost use Rattle.number_laws.specs.Sums.{sum_below};
-ghost use Rattle.program_form.specs.Program.{ProgramDef, HasLengths, IsCovered, IsFirstUncovered, AreSmall, IsProgram};
+ghost use Rattle.program_form.specs.Program.{ProgramDef, HasLengths, IsFirstUncovered, AreCovered, AreSmall, IsProgram};
 ghost use Rattle.program_form.specs.Program.{columns, height, cost};
 ghost use Rattle.program_form.specs.Refusals.{first_refusal};
 ghost use Rattle.program_form.specs.Points.{IsScaledPoint, worth, Reaches, IsGreatestReached};
 ghost use Rattle.program_form.specs.Optimum.{IsOptimum};
-ghost use Rattle.program_form.specs.Duals.{Covers, dual_total, dual_value, IsOptimalDual};
+ghost use Rattle.program_form.specs.Duals.{Covers, Meet, dual_total, dual_value, IsOptimalDual};
 ghost use Rattle.program_form.specs.Limits.{HasLimitsAtMost};
 ghost use Rattle.program_form.specs.SevenRows.{seven_rows, seven_rows_dual};
 
@@ -20,9 +20,7 @@ pub fn refusals_are_exact()
     ensures length { (p : ProgramDef) → (first_refusal p ≡ Some ProgramRefusal.Length) ↔ (HasLengths p → ⊥) }
     ensures uncovered { (p : ProgramDef) (c : ℕ)
         → (first_refusal p ≡ Some (ProgramRefusal.Uncovered c)) ↔ (HasLengths p × IsFirstUncovered p c) }
-    ensures large { (p : ProgramDef)
-        → (first_refusal p ≡ Some ProgramRefusal.Large)
-        ↔ (HasLengths p × ((c : ℕ) → c < columns p → IsCovered p c) × (AreSmall p → ⊥)) }
+    ensures large { (p : ProgramDef) → (first_refusal p ≡ Some ProgramRefusal.Large) ↔ (HasLengths p × AreCovered p × (AreSmall p → ⊥)) }
     ensures none { (p : ProgramDef) → columns p < 2 ^ 32 → height p < 2 ^ 32 → (first_refusal p ≡ None) ↔ IsProgram p }
 {}
 
@@ -40,12 +38,8 @@ pub fn a_dual_bounds_what_is_reached()
 /// If a scaled point and a feasible dual have equal values, that value is the optimum. Its whole part is the greatest whole value that is
 /// reached.
 pub fn equal_values_are_best()
-    ensures optimum { (p : ProgramDef) (s : ℕ) (ys : ℕ → ℕ) (den : ℕ) (num : ℕ → ℕ)
-        → IsScaledPoint p s ys → Covers p den num → worth p ys * den ≡ s * dual_total p num
-        → IsOptimum p (dual_total p num) den }
-    ensures greatest { (p : ProgramDef) (s : ℕ) (ys : ℕ → ℕ) (den : ℕ) (num : ℕ → ℕ)
-        → IsScaledPoint p s ys → Covers p den num → worth p ys * den ≡ s * dual_total p num
-        → IsGreatestReached p (dual_value p den num) }
+    ensures optimum { (p : ProgramDef) (s den : ℕ) (ys num : ℕ → ℕ) → Meet p s ys den num → IsOptimum p (dual_total p num) den }
+    ensures greatest { (p : ProgramDef) (s den : ℕ) (ys num : ℕ → ℕ) → Meet p s ys den num → IsGreatestReached p (dual_value p den num) }
 {}
 
 /// The whole part of the optimum is the greatest whole value that is reached.

@@ -5,8 +5,8 @@
 //!
 //! There is no code here. The functions state what holds of every program.
 
-ghost use Rattle.std.specs.Prelude.{ℕ, ◌<◌, ◌⊎◌};
-ghost use Rattle.program_form.specs.Program.{ProgramDef, IsCovered, columns};
+ghost use Rattle.std.specs.Prelude.{ℕ, ◌⊎◌};
+ghost use Rattle.program_form.specs.Program.{ProgramDef, AreCovered};
 ghost use Rattle.program_form.specs.Points.{Reaches, IsGreatestReached};
 
 /// A program reaches a number, or it doesn't, whatever its lists are.
@@ -16,5 +16,5 @@ pub fn reaching_is_decided()
 
 /// If each column of a program is covered, there is a greatest number that it reaches.
 pub fn a_greatest_reached_value_exists()
-    ensures { (p : ProgramDef) → ((c : ℕ) → c < columns p → IsCovered p c) → (b : ℕ) × IsGreatestReached p b }
+    ensures { (p : ProgramDef) → AreCovered p → (b : ℕ) × IsGreatestReached p b }
 {}

@@ -2,6 +2,7 @@
 
 ghost use Rattle.std.specs.Prelude.{◌≡◌, ℕ, ◌+◌, ◌<◌, ◌≤◌, [], ◌∷◌, ◌++◌, length, IfOk, OnOk};
 ghost use Rattle.program_form.specs.Program.{IsProgram, columns, height, cost, row, entry, limit};
+ghost use Rattle.program_form.specs.RowBlock.{lists_of};
 ghost use Rattle.program_form.specs.SparseRows.{full_row, AreCoefficients, AreListed, sparse_rows_seen};
 ghost use Rattle.program_form.specs.Listings.{ListsRows, ListsUpTo};
 
@@ -46,16 +47,8 @@ impl SparseProgram {
     /// no memory.
     pub fn over(costs: Vec<u64>, rows: SparseRows) -> SparseProgram
         requires listed { AreListed (length costs.items) rows.rows }
-        requires program { IsProgram (record {
-          costs = costs.items;
-          rows = (sparse_rows_seen (length costs.items) rows).rows;
-          limits = rows.limits;
-        }) }
-        ensures { result ≡ record {
-          costs = costs.items;
-          rows = (sparse_rows_seen (length costs.items) rows).rows;
-          limits = rows.limits;
-        } }
+        requires program { IsProgram (lists_of costs.items (sparse_rows_seen (length costs.items) rows)) }
+        ensures { result ≡ lists_of costs.items (sparse_rows_seen (length costs.items) rows) }
     {
         SparseProgram { costs, rows }
     }

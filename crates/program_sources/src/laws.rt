@@ -13,10 +13,8 @@ use crate::source::ProgramSource;
 /// The recurrence never falls when its bounds rise. And for each response time that is possible at some bounds, one that is no less is
 /// possible at greater bounds.
 pub fn recurrence_is_monotone<P: ProgramSource>()
-    ensures value { (p : P) (set : SetDef) → P.serves p set
-        → NeverFalls (source_at (P.source p) set) }
-    ensures reached { (p : P) (set : SetDef) → P.serves p set
-        → ComesUpAbove (source_at (P.source p) set) }
+    ensures value { (p : P) (set : SetDef) → P.serves p set → NeverFalls (source_at (P.source p) set) }
+    ensures reached { (p : P) (set : SetDef) → P.serves p set → ComesUpAbove (source_at (P.source p) set) }
 {}
 
 /// The recurrence has one value. It is a possible response time, and no possible response time is greater.

@@ -3,14 +3,13 @@
 use Rattle.std.proofs.Common.{◌≡◌, ℕ, ◌<◌, ◌^◌, List, [], map, length, sym, ◌∙◌, ap, subst, arith}
 use Rattle.std.proofs.lemmas.List.{length-map}
 use Rattle.program_form.specs.Program.{IsProgram}
-use Rattle.program_form.specs.RowBlock.{RowBlockDef}
+use Rattle.program_form.specs.RowBlock.{RowBlockDef, lists_of}
 use Rattle.program_form.specs.SparseRows.{SparseRowsDef, AreListed, sparse_rows_seen}
 use Rattle.sporadic_model.specs.SetDef.{SetDef}
 use Rattle.blocking_columns.specs.ColumnDef.{ColumnDef}
 use Rattle.fragments.specs.Constraints.{ConstraintDef, block_of}
 use Rattle.fragments.specs.SparseTaking.{HasSparseBehind, takes_sparse}
 use Rattle.program_laws.specs.Programs.{cost_of, program_with}
-use Rattle.protocol_programs.specs.Lists.{lists_of}
 
 pub sparse_is_program : (set : SetDef) (seen cs : List ColumnDef) (rows : List ConstraintDef) (bounds costs : List ℕ) (start taken : SparseRowsDef)
     → seen ≡ cs → costs ≡ map (cost_of set) seen → start ≡ record { rows = []; limits = [] }

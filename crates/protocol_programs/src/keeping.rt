@@ -2,7 +2,7 @@ ghost use Rattle.std.specs.Prelude.{◌↔◌, IsTrue};
 ghost use Rattle.sporadic_model.specs.declared.ids.Protocol.{Protocol};
 ghost use Rattle.program_laws.specs.Written.{KeepsJobs};
 ghost use Rattle.protocol_programs.specs.Given.{IsTaskAtBoth};
-ghost use Rattle.protocol_programs.specs.Lists.{HaveSameLimits};
+ghost use Rattle.protocol_programs.specs.Limits.{HaveSameLimits};
 
 use fragments::jobs;
 use sporadic_model::{TaskId, TaskSet};

@@ -1,7 +1,7 @@
 //! The parts of blocking programs, and the programs and limits that are made of them.
 
 ghost use Rattle.std.specs.Prelude.{◌≡◌, ℕ, ◌<◌, List, map, length, IfOk};
-ghost use Rattle.program_form.specs.RowBlock.{block_seen};
+ghost use Rattle.program_form.specs.RowBlock.{block_seen, lists_of};
 ghost use Rattle.program_form.specs.Program.{IsProgram};
 ghost use Rattle.sporadic_model.specs.SetDef.{SetDef};
 ghost use Rattle.sporadic_model.specs.Accepted.{IsAccepted};
@@ -10,7 +10,6 @@ ghost use Rattle.blocking_columns.specs.ColumnDef.{ColumnDef, column_seen, AreKn
 ghost use Rattle.fragments.specs.Constraints.{ConstraintDef};
 ghost use Rattle.program_laws.specs.Programs.{cost_of, program_with};
 ghost use Rattle.protocol_programs.specs.Given.{HasProgramAt};
-ghost use Rattle.protocol_programs.specs.Lists.{lists_of};
 
 use fragments::{Fragment, RowLimits, RowTaker, most_columns};
 use program_form::{Program, RowBlock, SparseProgram, SparseRows, refusals_are_exact};

@@ -15,4 +15,4 @@ returns-then-not-may_have_columns c =
     let before = map column_seen c.args.columns.now.items in
     let never : may_have_columns set i x ≡ false =
     sym c.may_have_columns.ensures ∙ c.if-not-may_have_columns.true in
-    sym (ap (λ (cs : List ColumnDef). before ++ cs) (no_columns p set i x m c.requires.sharing never) ∙ append-nil before)
+    sym (ap (λ (cs : List ColumnDef). before ++ cs) (no_columns p set i x m c.requires.sharing.sharing never) ∙ append-nil before)

@@ -10,11 +10,16 @@ use Rattle.blocking_columns.proofs.KeptNumbers.{kept_pass}
 use Rattle.blocking_columns.proofs.UsedColumns.{used_columns}
 use Rattle.blocking_columns.proofs.columns.add_requests_of.Goals as goal
 
-pub add_requests-requires-clause-used : goal.add_requests-requires-clause-used
-add_requests-requires-clause-used c =
+pub add_requests-requires-clause-user : goal.add_requests-requires-clause-user
+add_requests-requires-clause-user c =
     let set = c.args.set.now in
-    kept_pass (λ (q : ResourceId). q.0) c.used_by-used.result.now (λ q. is_user set q c.args.x.0) _ c.used_by-used.ensures.value
-    c.loop-q.q-index _ c.loop-q-test.true
+    record {
+      task = c.requires.to.task;
+      other = c.requires.to.other;
+      resource = c.used_by-used.ensures.within c.loop-q.q-index _ c.loop-q-test.true;
+      used = kept_pass (λ (q : ResourceId). q.0) c.used_by-used.result.now (λ q. is_user set q c.args.x.0) _ c.used_by-used.ensures.value
+          c.loop-q.q-index _ c.loop-q-test.true;
+    }
 
 pub returns : goal.returns
 returns c =

@@ -8,7 +8,7 @@ use Rattle.blocking_columns.proofs.homes.count_homes.Goals as goal
 
 pub bounds-counts-home : goal.bounds-counts-home
 bounds-counts-home c =
-    let room : MOST_PROCESSORS < length c.loop-r.counts = omega (arith, c.requires.room, c.loop-r.auto.counts) in
+    let room : MOST_PROCESSORS < length c.loop-r.counts = omega (arith, c.requires.none.room, c.loop-r.auto.counts) in
     let known = c.used_by-used.ensures.within c.loop-r.r-index (record { 0 = 0 }) c.loop-r-test.true in
     omega (
       arith,
@@ -18,7 +18,7 @@ bounds-counts-home c =
 
 pub bounds-counts-home-in-loop-r : goal.bounds-counts-home-in-loop-r
 bounds-counts-home-in-loop-r c =
-    let room : MOST_PROCESSORS < length c.loop-r.counts = omega (arith, c.requires.room, c.loop-r.auto.counts) in
+    let room : MOST_PROCESSORS < length c.loop-r.counts = omega (arith, c.requires.none.room, c.loop-r.auto.counts) in
     let known = c.used_by-used.ensures.within c.loop-r.r-index (record { 0 = 0 }) c.loop-r-test.true in
     omega (
       arith,
@@ -29,7 +29,7 @@ bounds-counts-home-in-loop-r c =
 pub overflow_add-counts : goal.overflow_add-counts
 overflow_add-counts c =
     let set = c.args.set.now in
-    let room : MOST_PROCESSORS < length c.loop-r.counts = omega (arith, c.requires.room, c.loop-r.auto.counts) in
+    let room : MOST_PROCESSORS < length c.loop-r.counts = omega (arith, c.requires.none.room, c.loop-r.auto.counts) in
     let known = c.used_by-used.ensures.within c.loop-r.r-index (record { 0 = 0 }) c.loop-r-test.true in
     let placed : c.home.result < length c.loop-r.counts =
     omega (arith, home_placed set _ (length c.loop-r.counts) c.tasks-tasks.ensures.accepted c.tasks-tasks.ensures.sizes room known, c.home.ensures) in
@@ -42,7 +42,7 @@ returns c =
     let set = c.args.set.now in
     let used = c.used_by-used.result.now in
     let counts = c.loop-r.counts in
-    let room : MOST_PROCESSORS < length counts = omega (arith, c.requires.room, c.loop-r.auto.counts) in
+    let room : MOST_PROCESSORS < length counts = omega (arith, c.requires.none.room, c.loop-r.auto.counts) in
     are_counts set c.args.i.0 used counts c.used_by-used.ensures.value c.tasks-tasks.ensures.accepted c.tasks-tasks.ensures.sizes room
     (subst (λ (rs : List ResourceId). (k : ℕ) → k < length counts → slice_index counts k ≡ count_by (λ r. home_in set r.0 == k) rs)
     (take_all c.loop-r.r-index used c.loop-r-test.false) c.loop-r.invariant.each)

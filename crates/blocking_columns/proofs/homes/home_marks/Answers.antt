@@ -8,7 +8,7 @@ use Rattle.blocking_columns.specs.declared.homes.HomeMark.{HomeMark}
 use Rattle.blocking_columns.proofs.homes.home_marks.Goals as goal
 
 pub count_homes-requires-clause-none : goal.count_homes-requires-clause-none
-count_homes-requires-clause-none c = λ k l. get_or-replicate 65 k 0 0 l
+count_homes-requires-clause-none c = record { room = omega arith; none = λ k l. get_or-replicate 65 k 0 0 l }
 
 pub loop-q-preserved : goal.loop-q-preserved
 loop-q-preserved c =

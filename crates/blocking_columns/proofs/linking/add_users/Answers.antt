@@ -24,10 +24,13 @@ loop-y-preserved c =
           c.add_rival.new.rivals.items c.loop-y.invariant.known (within, refl, refl) c.in_ok-add_rival.ensures;
     }
 
-pub returns-clause-users : goal.returns-clause-users
-returns-clause-users c =
+pub returns : goal.returns
+returns c =
     let set = c.args.set.now in
     let users = c.users-users.result.now in
-    rivals_at set c.args.i.0 c.args.r.0 users c.args.rivals.now.items c.loop-y.rivals.items c.users-users.ensures.value
-    (subst (λ (ys : List TaskId). AreRivalsAmong c.args.i.0 c.args.r.0 ys c.args.rivals.now.items c.loop-y.rivals.items)
-    (take_all c.loop-y.y-index users c.loop-y-test.false) c.loop-y.invariant.users)
+    record {
+      users = rivals_at set c.args.i.0 c.args.r.0 users c.args.rivals.now.items c.loop-y.rivals.items c.users-users.ensures.value
+          (subst (λ (ys : List TaskId). AreRivalsAmong c.args.i.0 c.args.r.0 ys c.args.rivals.now.items c.loop-y.rivals.items)
+          (take_all c.loop-y.y-index users c.loop-y-test.false) c.loop-y.invariant.users);
+      known = c.loop-y.invariant.known;
+    }

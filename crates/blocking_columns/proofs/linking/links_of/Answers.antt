@@ -23,5 +23,5 @@ returns c =
     let set = c.args.set.now in
     let rivals = c.deref.result.now in
     let known : AreKnownRivals p set rivals = rw c.deref.ensures.value c.in_ok-rivals.ensures.known in
-    let are : AreRivals set c.args.i.0 rivals = rw c.deref.ensures.value c.in_ok-rivals.ensures.rivals in
+    let are : AreRivals set c.args.i.0 rivals = rw c.deref.ensures.value c.in_ok-rivals.ensures.are in
     parts_have_links p set c.args.i.0 rivals c.requires.sharing are known c.links_by_processor.result c.links_by_processor.ensures

@@ -19,10 +19,13 @@ loop-r-preserved c =
       known = c.in_ok-add_users.ensures.known;
     }
 
-pub returns-clause-rivals : goal.returns-clause-rivals
-returns-clause-rivals c =
+pub returns : goal.returns
+returns c =
     let set = c.args.set.now in
     let used = c.used_by-used.result.now in
-    all_rivals set c.args.i.0 used c.loop-r.rivals.items c.used_by-used.ensures.value
-    (subst (λ (rs : List ResourceId). AreRivalsOf set c.args.i.0 rs c.loop-r.rivals.items)
-    (take_all c.loop-r.r-index used c.loop-r-test.false) c.loop-r.invariant.rivals)
+    record {
+      are = all_rivals set c.args.i.0 used c.loop-r.rivals.items c.used_by-used.ensures.value
+          (subst (λ (rs : List ResourceId). AreRivalsOf set c.args.i.0 rs c.loop-r.rivals.items)
+          (take_all c.loop-r.r-index used c.loop-r-test.false) c.loop-r.invariant.rivals);
+      known = c.loop-r.invariant.known;
+    }

@@ -8,11 +8,16 @@ use Rattle.blocking_columns.proofs.KeptNumbers.{kept_pass}
 use Rattle.blocking_columns.proofs.UsedColumns.{used_columns}
 use Rattle.blocking_columns.proofs.passing.add_task.Goals as goal
 
-pub add_classes-requires-clause-used : goal.add_classes-requires-clause-used
-add_classes-requires-clause-used g c =
+pub add_classes-requires-clause-user : goal.add_classes-requires-clause-user
+add_classes-requires-clause-user g c =
     let set = c.args.set.now in
-    kept_pass (λ (q : ResourceId). q.0) c.used_by-used.result.now (λ q. is_user set q c.args.x.0) _ c.used_by-used.ensures.value
-    c.loop-q.q-index _ c.loop-q-test.true
+    record {
+      task = c.requires.tasks.task;
+      other = c.requires.tasks.other;
+      resource = c.used_by-used.ensures.within c.loop-q.q-index _ c.loop-q-test.true;
+      used = kept_pass (λ (q : ResourceId). q.0) c.used_by-used.result.now (λ q. is_user set q c.args.x.0) _ c.used_by-used.ensures.value
+          c.loop-q.q-index _ c.loop-q-test.true;
+    }
 
 pub returns : goal.returns
 returns g c =

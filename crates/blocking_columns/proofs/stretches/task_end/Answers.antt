@@ -8,15 +8,18 @@ loop-place-preserved c = record {
   from = omega arith;
   within = omega (arith, c.loop-place-test.true);
   before = task_more (length c.args.set.now.tasks) (length c.args.set.now.resources) c.args.x.0 c.args.columns.now
-      c.loop-place.place _ c.requires.known
+      c.loop-place.place _ c.requires.ordered.known
       (omega (arith, c.resources-resources.ensures.most, c.resources-resources.ensures.value)) c.loop-place-test.true
       (eqb-true _ _ (sym c.eq.ensures ∙ c.if-eq.true)) c.loop-place.invariant.before;
 }
 
-pub returns-else-eq-clause-begins : goal.returns-else-eq-clause-begins
-returns-else-eq-clause-begins c =
-    task_stops (length c.args.set.now.tasks) (length c.args.set.now.resources) c.args.x.0 c.args.from c.args.columns.now
-    c.loop-place.place _ c.requires.known
-    (omega (arith, c.resources-resources.ensures.most, c.resources-resources.ensures.value)) c.requires.order
-    c.requires.from c.loop-place.invariant.from
-    c.loop-place-test.true (eqb-false _ _ (sym c.eq.ensures ∙ c.if-eq.false)) c.loop-place.invariant.before
+pub returns-else-eq : goal.returns-else-eq
+returns-else-eq c = record {
+  from = c.requires.from;
+  to = task_stops (length c.args.set.now.tasks) (length c.args.set.now.resources) c.args.x.0 c.args.from c.args.columns.now
+      c.loop-place.place _ c.requires.ordered.known
+      (omega (arith, c.resources-resources.ensures.most, c.resources-resources.ensures.value)) c.requires.ordered.order
+      c.requires.from c.loop-place.invariant.from
+      c.loop-place-test.true (eqb-false _ _ (sym c.eq.ensures ∙ c.if-eq.false)) c.loop-place.invariant.before;
+  order = c.loop-place.invariant.from;
+}

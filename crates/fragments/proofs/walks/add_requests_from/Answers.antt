@@ -10,16 +10,12 @@ pub requests_end-end-requires-clause-from : goal.requests_end-end-requires-claus
 requests_end-end-requires-clause-from g c = c.in-Some.ensures.some.begins c.loop-q.invariant.0 c.loop-q.invariant.2
 
 pub add-requires-clause-stretch : goal.add-requires-clause-stretch
-add-requires-clause-stretch g c = record {
-  from = c.in-Some.ensures.some.begins c.loop-q.invariant.0 c.loop-q.invariant.2;
-  to = c.requests_end-end.ensures.begins;
-  order = c.requests_end-end.ensures.order;
-}
+add-requires-clause-stretch g c = c.requests_end-end.ensures
 
 pub loop-q-smaller : goal.loop-q-smaller
 loop-q-smaller g c =
     let further : c.loop-q.place < c.requests_end-end.result =
-    c.in-Some.ensures.some.further c.requests_end-end.result c.requests_end-end.ensures.begins in
+    c.in-Some.ensures.some.further c.requests_end-end.result c.requests_end-end.ensures.to in
     omega (arith, further, c.in-Some.ensures.some.within)
 
 pub loop-q-preserved : goal.loop-q-preserved
@@ -38,7 +34,7 @@ loop-q-preserved g c =
     (g.met.R.PerRequest.apart c.args.rows.now c.args.set.now c.args.i.0 c.args.x.0 k)))) in (
       q + 1,
       omega (arith, here.known),
-      c.requests_end-end.ensures.begins,
+      c.requests_end-end.ensures.to,
       next_number (λ rows. g.T.RowTaker.takes c.args.taker.now seen rows c.args.bounds.now c.add.new.taker) (λ q. row q ∷ []) q
           (g.met.T.RowTaker.behind c.args.taker.now c.loop-q.taker c.add.new.taker seen (per q row) (row q ∷ [])
           c.args.bounds.now before c.in_ok-add.ensures),

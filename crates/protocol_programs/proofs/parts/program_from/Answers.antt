@@ -2,9 +2,8 @@ use Rattle.std.proofs.Common.{◌≡◌, ◌<◌, ◌^◌, Some, None, length, m
 use Rattle.std.proofs.lemmas.List.{length-map}
 use Rattle.program_form.specs.Program.{ProgramDef}
 use Rattle.program_form.specs.Refusals.{first_refusal}
-use Rattle.program_form.specs.RowBlock.{block_seen}
+use Rattle.program_form.specs.RowBlock.{block_seen, lists_of}
 use Rattle.program_form.proofs.Accepted.{not_refused}
-use Rattle.protocol_programs.specs.Lists.{lists_of}
 use Rattle.protocol_programs.proofs.parts.program_from.Goals as goal
 
 pub new-requires-clause-few_columns : goal.new-requires-clause-few_columns
