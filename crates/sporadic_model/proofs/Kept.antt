@@ -1,6 +1,6 @@
 -- What the tables of a set say, in terms of its definitions.
 use Rattle.std.proofs.Common.{◌≡◌, ℕ, ◌+◌, ◌<◌, ◌≤◌, not, ◌==◌, List, [], length, map, ap, subst, sym, ◌∙◌, refl, arith}
-use Rattle.std.proofs.Common.{Bool, Option, Some, None, nat_lt, IfSome, IfNone, Result, Ok, Err, IfOk, IfErr}
+use Rattle.std.proofs.Common.{Bool, Option, Some, None, nat_lt, IfSome, IfNone}
 use Rattle.std.specs.List.{slice_index_or, find, filter}
 use Rattle.std.specs.Option.{option_map, option_or}
 use Rattle.std.specs.Str.{bytes_eq}
@@ -11,9 +11,6 @@ use Rattle.sporadic_model.specs.Accepted.{IsAccepted, TaskNumbers, EntryNumbers,
 use Rattle.sporadic_model.specs.Demands.{demand_by, demand_for, demands_in, demand_in, no_demand, IsDemand, AreBoosts, boosts_on}
 use Rattle.sporadic_model.specs.declared.ids.TaskId.{TaskId}
 use Rattle.sporadic_model.specs.declared.demands.Demand.{Demand}
-use Rattle.sporadic_model.specs.Refusals.{Judged}
-use Rattle.sporadic_model.specs.declared.refusal.ModelRefusal.{ModelRefusal}
-use Rattle.sporadic_model.specs.declared.refusal.ModelRefusal.TheVariants as refusal
 use Rattle.sporadic_model.proofs.Mapped.{element-map}
 use Rattle.sporadic_model.proofs.Filtered.{find_filter, kept_long, kept_at, HasIds, has_ids}
 use Rattle.sporadic_model.proofs.Laws.{numbers_of_accepted, entry_of_accepted, highest_user, no_user, boost_of_found}
@@ -125,9 +122,3 @@ pub boost_kept : (set : SetDef) (rows : List (List (Option TaskId))) (k q : ℕ)
 boost_kept set rows k q kept h i =
     kept_at (option_map (λ (x : TaskId). x.0)) (λ r. remote_ceiling_of set r k) (slice_index_or rows k []) (length set.resources) q None
     (boosts_row set rows k kept h) i
-
--- The set that keeps accepted parts judges them rightly, and so does want of memory.
-pub judged : (parts : SetDef) (answer : Result SetDef ModelRefusal) → IsAccepted parts
-    → IfOk answer (λ set. set ≡ parts) → IfErr answer (λ r. r ≡ refusal.Memory) → Judged answer parts
-judged parts (Ok set) accepted same none = (accepted, same)
-judged parts (Err r) accepted none memory = subst (λ e. Judged (Err e) parts) (sym memory) tt

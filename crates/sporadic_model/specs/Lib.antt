@@ -7,4 +7,5 @@ pub mod Refusals
 pub mod Faults
 pub mod Accepted
 pub mod Demands
+pub mod Given
 pub mod SetView

@@ -54,15 +54,19 @@ is_due set (refusal.Home q) = option_map_or (λ k. not (is_in_range 1 set.proces
 is_due set (refusal.Jitter x) = nat_lt ((task_at set x.0).deadline - (task_at set x.0).cost) (task_at set x.0).jitter
 is_due set _ = false
 
--- The refusals of one kind, in the order of their places: one for each resource, for each task, or for each request entry, task by task.
+-- The refusals of one kind, in the order of their places: one for each resource, for each task, for each request entry of task x, or for
+-- each request entry, task by task.
 abbrev pub at_resources : SetDef → (ℕ → ModelRefusal) → List ModelRefusal
 at_resources set refusal_at = map refusal_at (numbers (length set.resources))
 
 abbrev pub at_tasks : SetDef → (ℕ → ModelRefusal) → List ModelRefusal
 at_tasks set refusal_at = map refusal_at (numbers (length set.tasks))
 
+abbrev pub at_entries : SetDef → ℕ → (ℕ → ℕ → ModelRefusal) → List ModelRefusal
+at_entries set x refusal_at = map (refusal_at x) (numbers (length (task_at set x).requests))
+
 abbrev pub at_requests : SetDef → (ℕ → ℕ → ModelRefusal) → List ModelRefusal
-at_requests set refusal_at = flat_map (λ x. map (refusal_at x) (numbers (length (task_at set x).requests))) (numbers (length set.tasks))
+at_requests set refusal_at = flat_map (λ x. at_entries set x refusal_at) (numbers (length set.tasks))
 
 -- The refusals in the order in which they are tried.
 unfoldable pub size_refusals : List ModelRefusal

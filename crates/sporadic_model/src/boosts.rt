@@ -5,8 +5,8 @@ ghost use Rattle.std.specs.List.{All};
 ghost use Rattle.sporadic_model.specs.SetDef.{task_at};
 ghost use Rattle.sporadic_model.specs.Seen.{parts_seen};
 ghost use Rattle.sporadic_model.specs.Users.{remote_ceiling_of};
-ghost use Rattle.sporadic_model.specs.Accepted.{IsAccepted};
 ghost use Rattle.sporadic_model.specs.Demands.{AreUsers, AreBoosts, boosts_on};
+ghost use Rattle.sporadic_model.specs.Given.{HasEntry, HasUsers};
 
 use crate::ids::TaskId;
 use crate::lookup::task_part;
@@ -72,8 +72,7 @@ pub(crate) fn boosts_of_processors(
     parts: &Parts,
     users: &[Vec<TaskId>],
 ) -> Result<Vec<Vec<Option<TaskId>>>, AllocError>
-    requires accepted { IsAccepted (parts_seen parts.now) }
-    requires kept { AreUsers (parts_seen parts.now) (map (λ row. row.items) users.now) }
+    requires { HasUsers (parts_seen parts.now) (map (λ row. row.items) users.now) }
     ensures { IfOk result (λ v. AreBoosts (parts_seen parts.now) (map (λ row. row.items) v.items)) }
 {
     let count = parts.processors as usize + 1;
@@ -86,8 +85,7 @@ pub(crate) fn boosts_of_processors(
 
 /// The ceiling of resource `q` in the row of processor `k`.
 pub(crate) fn boost_at(boosts: &[Vec<Option<TaskId>>], k: usize, q: usize) -> Option<TaskId>
-    requires processor { k < length boosts.now }
-    requires resource { q < length (slice_index_or (map (λ row. row.items) boosts.now) k []) }
+    requires { HasEntry boosts.now k q }
     ensures { result ≡ slice_index_or (slice_index_or (map (λ row. row.items) boosts.now) k []) q None }
 {
     boosts[k][q]

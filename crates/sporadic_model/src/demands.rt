@@ -1,6 +1,7 @@
-ghost use Rattle.std.specs.Prelude.{◌≡◌, ℕ, ◌<◌, [], length, map, slice_index_or, IfOk};
+ghost use Rattle.std.specs.Prelude.{◌≡◌, map, IfOk};
 ghost use Rattle.sporadic_model.specs.Seen.{parts_seen, task_seen, resource_seen};
 ghost use Rattle.sporadic_model.specs.Demands.{demand_for, demands_in, demand_in};
+ghost use Rattle.sporadic_model.specs.Given.{HasEntry};
 
 use crate::lookup::entry_for;
 use crate::parts::{Parts, ResourcePart, TaskPart};
@@ -58,8 +59,7 @@ pub(crate) fn demands_of(alloc: Global, parts: &Parts) -> Result<Vec<Vec<Demand>
 
 /// What task `x` may ask of resource `q`.
 pub(crate) fn demand_at(demands: &[Vec<Demand>], x: usize, q: usize) -> Demand
-    requires task { x < length demands.now }
-    requires resource { q < length (slice_index_or (map (λ row. row.items) demands.now) x []) }
+    requires { HasEntry demands.now x q }
     ensures { result ≡ demand_in (map (λ row. row.items) demands.now) x q }
 {
     demands[x][q]

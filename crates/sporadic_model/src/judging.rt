@@ -1,12 +1,11 @@
-ghost use Rattle.std.specs.Prelude.{◌≡◌, ℕ, ◌<◌, ◌≤◌, ◌^◌, length, map, find, nat_lt, not, false, sum_by, ◌++◌, IfNone, Option};
+ghost use Rattle.std.specs.Prelude.{◌≡◌, ◌<◌, ◌^◌, length, map, find, nat_lt, not, false, sum_by, IfNone, Option};
 ghost use Rattle.std.specs.Option.{option_map_or};
 ghost use Rattle.std.specs.Int.{is_in_range};
-ghost use Rattle.sporadic_model.specs.SetDef.{task_at};
 ghost use Rattle.sporadic_model.specs.Seen.{parts_seen, task_seen};
-ghost use Rattle.sporadic_model.specs.Users.{numbers};
 ghost use Rattle.sporadic_model.specs.Accepted.{FitsIds};
+ghost use Rattle.sporadic_model.specs.Given.{HasRequest, TaskFitsIds};
 ghost use Rattle.sporadic_model.specs.Faults.{resource_refusal, task_refusal, request_refusal};
-ghost use Rattle.sporadic_model.specs.Refusals.{is_due, at_resources, at_tasks, at_requests, size_refusals};
+ghost use Rattle.sporadic_model.specs.Refusals.{is_due, at_resources, at_tasks, at_entries, at_requests, size_refusals};
 ghost use Rattle.sporadic_model.specs.Refusals.{name_refusals, number_refusals, request_refusals};
 ghost use Rattle.sporadic_model.specs.Refusals.{first_refusal as first_due};
 
@@ -136,8 +135,7 @@ fn is_due_at_task(parts: &Parts, fault: TaskFault, x: usize) -> bool
 /// Does entry `j` of task `x` have the fault?
 #[tactic(auto, unfolding(crate::specs::Refusals::is_due))]
 fn is_due_at_request(parts: &Parts, fault: RequestFault, x: usize, j: usize) -> bool
-    requires task { x < length parts.now.tasks.items }
-    requires entry { j < length (task_at (parts_seen parts.now) x).requests }
+    requires { HasRequest parts.now x j }
     ensures { result ≡ is_due (parts_seen parts.now) (request_refusal fault x j) }
 {
     let task = task_part(&parts.tasks, x);
@@ -179,11 +177,8 @@ fn first_at_tasks(parts: &Parts, fault: TaskFault) -> Option<ModelRefusal>
 
 /// The first entry of task `x` with the fault.
 fn first_at_entries(parts: &Parts, fault: RequestFault, x: usize) -> Option<ModelRefusal>
-    requires task { x < length parts.now.tasks.items }
-    requires id { x < 2 ^ 32 }
-    requires entries { length (task_at (parts_seen parts.now) x).requests < 2 ^ 32 }
-    ensures { result ≡ find (is_due (parts_seen parts.now))
-        (map (request_refusal fault x) (numbers (length (task_at (parts_seen parts.now) x).requests))) }
+    requires { TaskFitsIds parts.now x }
+    ensures { result ≡ find (is_due (parts_seen parts.now)) (at_entries (parts_seen parts.now) x (request_refusal fault)) }
 {
     for j in 0..task_part(&parts.tasks, x).requests.len() {
         if is_due_at_request(parts, fault, x, j) {

@@ -1,14 +1,13 @@
-ghost use Rattle.std.specs.Prelude.{◌≡◌, ℕ, ◌+◌, ◌<◌, ◌≤◌, length, IfOk, IfErr, IfSome, IfNone, IsTrue, option_map, map};
+ghost use Rattle.std.specs.Prelude.{◌≡◌, ℕ, ◌+◌, ◌<◌, ◌≤◌, length, IfSome, IfNone, option_map, map};
 ghost use Rattle.std.specs.List.{All};
 ghost use Rattle.sporadic_model.specs.SetDef.{task_at, resource_at, is_higher_local, latest_bound};
 ghost use Rattle.sporadic_model.specs.Users.{count_of, length_of, used_by, users_of, ceiling_of};
 ghost use Rattle.sporadic_model.specs.Users.{remote_ceiling_of, task_with_name, resource_with_name};
-ghost use Rattle.sporadic_model.specs.Seen.{parts_seen, task_seen, resource_seen, request_seen};
+ghost use Rattle.sporadic_model.specs.Seen.{parts_seen, task_seen, resource_seen};
 ghost use Rattle.sporadic_model.specs.Refusals.{Judged};
-ghost use Rattle.sporadic_model.specs.Demands.{IsDemand};
-ghost use Rattle.sporadic_model.specs.Accepted.{IsAccepted, TaskNumbers, RequestNumbers, EntryNumbers, SetSizes};
-ghost use Rattle.sporadic_model.specs.Accepted.{AreNamed, AreHomes, AreEntries, IsHighestUser, HasNoUser};
-ghost use Rattle.sporadic_model.specs.Accepted.{IsBoost};
+ghost use Rattle.sporadic_model.specs.Accepted.{IsAccepted, TaskNumbers, RequestNumbers, SetSizes};
+ghost use Rattle.sporadic_model.specs.Accepted.{AreNamed, AreHomes, AreEntries, IsHighestUser, HasNoUser, IsBoost};
+ghost use Rattle.sporadic_model.specs.Given.{HasTaskAndResource, IsTaskOf, IsResourceOf, IsDemandOf};
 
 use crate::boosts::{boost_at, boosts_of_processors};
 use crate::demands::{Demand, demand_at, demands_of};
@@ -69,8 +68,7 @@ impl TaskSet {
     /// The set of accepted parts, with the tables of what its tasks request and use.
     fn with_tables(alloc: Global, parts: Parts) -> Result<TaskSet, ModelRefusal>
         requires { IsAccepted (parts_seen parts) }
-        ensures ok { IfOk result (λ set. set ≡ parts_seen parts) }
-        ensures err { IfErr result (λ refusal. refusal ≡ ModelRefusal.Memory) }
+        ensures { Judged result (parts_seen parts) }
     {
         let demands = demands_of(alloc, &parts)?;
         let used = used_by_tasks(alloc, &parts, &demands)?;
@@ -88,10 +86,7 @@ impl TaskSet {
     /// Task `x`'s part.
     fn task(&self, x: TaskId) -> &TaskPart
         requires { x.0 < length self.now.tasks }
-        ensures seen { task_seen result.now ≡ task_at self.now x.0 }
-        ensures accepted { IsAccepted self.now }
-        ensures numbers { TaskNumbers self.now x.0 }
-        ensures sizes { SetSizes self.now }
+        ensures { IsTaskOf self.now x.0 (task_seen result.now) }
     {
         task_part(&self.parts.tasks, x.0 as usize)
     }
@@ -99,9 +94,7 @@ impl TaskSet {
     /// Resource `q`'s part.
     fn resource(&self, q: ResourceId) -> &ResourcePart
         requires { q.0 < length self.now.resources }
-        ensures seen { resource_seen result.now ≡ resource_at self.now q.0 }
-        ensures homes { AreHomes self.now }
-        ensures sizes { SetSizes self.now }
+        ensures { IsResourceOf self.now q.0 (resource_seen result.now) }
     {
         resource_part(&self.parts.resources, q.0 as usize)
     }
@@ -229,12 +222,8 @@ impl TaskSet {
 
     /// What the task may ask of the resource.
     fn demand(&self, x: TaskId, q: ResourceId) -> Demand
-        requires task { x.0 < length self.now.tasks }
-        requires resource { q.0 < length self.now.resources }
-        ensures count { result.count ≡ count_of self.now x.0 q.0 }
-        ensures length { result.length ≡ length_of self.now x.0 q.0 }
-        ensures numbers { IsDemand self.now x.0 result }
-        ensures task { TaskNumbers self.now x.0 }
+        requires { HasTaskAndResource self.now x.0 q.0 }
+        ensures { IsDemandOf self.now x.0 q.0 result }
     {
         demand_at(&self.demands, x.0 as usize, q.0 as usize)
     }

@@ -3,8 +3,8 @@
 ghost use Rattle.std.specs.Prelude.{◌≡◌, ◌<◌, [], length, map, nat_lt, slice_index_or, IfOk};
 ghost use Rattle.sporadic_model.specs.Seen.{parts_seen};
 ghost use Rattle.sporadic_model.specs.Users.{used_by, users_of};
-ghost use Rattle.sporadic_model.specs.Accepted.{IsAccepted};
-ghost use Rattle.sporadic_model.specs.Demands.{demands_in, demand_in, AreUsed, AreUsers};
+ghost use Rattle.sporadic_model.specs.Demands.{demand_in, AreUsed, AreUsers};
+ghost use Rattle.sporadic_model.specs.Given.{HasEntry, HasDemands};
 
 use crate::demands::{Demand, demand_at};
 use crate::ids::{ResourceId, TaskId};
@@ -13,8 +13,7 @@ use std::alloc::{AllocError, Global};
 
 /// Does task `x` ask for resource `q`?
 fn asks(demands: &[Vec<Demand>], x: usize, q: usize) -> bool
-    requires task { x < length demands.now }
-    requires resource { q < length (slice_index_or (map (λ row. row.items) demands.now) x []) }
+    requires { HasEntry demands.now x q }
     ensures { result ≡ nat_lt 0 (demand_in (map (λ row. row.items) demands.now) x q).count }
 {
     demand_at(demands, x, q).count > 0
@@ -27,8 +26,7 @@ fn used_by_task(
     demands: &[Vec<Demand>],
     x: usize,
 ) -> Result<Vec<ResourceId>, AllocError>
-    requires accepted { IsAccepted (parts_seen parts.now) }
-    requires kept { map (λ row. row.items) demands.now ≡ demands_in (parts_seen parts.now) }
+    requires table { HasDemands (parts_seen parts.now) (map (λ row. row.items) demands.now) }
     requires task { x < length (parts_seen parts.now).tasks }
     ensures { IfOk result (λ v. map (λ q. q.0) v.items ≡ used_by (parts_seen parts.now) x) }
 {
@@ -47,8 +45,7 @@ pub(crate) fn used_by_tasks(
     parts: &Parts,
     demands: &[Vec<Demand>],
 ) -> Result<Vec<Vec<ResourceId>>, AllocError>
-    requires accepted { IsAccepted (parts_seen parts.now) }
-    requires kept { map (λ row. row.items) demands.now ≡ demands_in (parts_seen parts.now) }
+    requires { HasDemands (parts_seen parts.now) (map (λ row. row.items) demands.now) }
     ensures { IfOk result (λ v. AreUsed (parts_seen parts.now) (map (λ row. row.items) v.items)) }
 {
     let mut rows = Vec::with_capacity(alloc, parts.tasks.len())?;
@@ -65,8 +62,7 @@ fn users_of_resource(
     demands: &[Vec<Demand>],
     q: usize,
 ) -> Result<Vec<TaskId>, AllocError>
-    requires accepted { IsAccepted (parts_seen parts.now) }
-    requires kept { map (λ row. row.items) demands.now ≡ demands_in (parts_seen parts.now) }
+    requires table { HasDemands (parts_seen parts.now) (map (λ row. row.items) demands.now) }
     requires resource { q < length (parts_seen parts.now).resources }
     ensures { IfOk result (λ v. map (λ x. x.0) v.items ≡ users_of (parts_seen parts.now) q) }
 {
@@ -85,8 +81,7 @@ pub(crate) fn users_of_resources(
     parts: &Parts,
     demands: &[Vec<Demand>],
 ) -> Result<Vec<Vec<TaskId>>, AllocError>
-    requires accepted { IsAccepted (parts_seen parts.now) }
-    requires kept { map (λ row. row.items) demands.now ≡ demands_in (parts_seen parts.now) }
+    requires { HasDemands (parts_seen parts.now) (map (λ row. row.items) demands.now) }
     ensures { IfOk result (λ v. AreUsers (parts_seen parts.now) (map (λ row. row.items) v.items)) }
 {
     let mut rows = Vec::with_capacity(alloc, parts.resources.len())?;

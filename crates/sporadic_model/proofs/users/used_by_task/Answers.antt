@@ -13,7 +13,7 @@ use Rattle.sporadic_model.proofs.users.used_by_task.Goals as goal
 
 pub overflow_cast-q : goal.overflow_cast-q
 overflow_cast-q c =
-    let sizes : SetSizes (parts_seen c.args.parts.now) = sizes_of_accepted _ c.requires.accepted in
+    let sizes : SetSizes (parts_seen c.args.parts.now) = sizes_of_accepted _ c.requires.table.accepted in
     let resources = length-map c.args.parts.now.resources.items resource_seen in
     omega arith
 
@@ -23,7 +23,7 @@ loop-q-preserved c =
     let resources = length-map c.args.parts.now.resources.items resource_seen in
     let within : c.loop-q.q < length set.resources = omega arith in
     let same : c.asks.result ≡ is_user set c.loop-q.q c.args.x =
-    c.asks.ensures ∙ user_kept set _ c.args.x c.loop-q.q c.requires.kept c.requires.task within in
+    c.asks.ensures ∙ user_kept set _ c.args.x c.loop-q.q c.requires.table.kept c.requires.task within in
     elim c.if-asks.branch [
       | then-asks+in_ok-push w ↦
           listed_more (λ (q : ResourceId). q.0) (λ q. is_user set q c.args.x) c.loop-q.q (length set.resources) c.loop-q.used.items

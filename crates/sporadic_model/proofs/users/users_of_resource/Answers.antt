@@ -13,7 +13,7 @@ use Rattle.sporadic_model.proofs.users.users_of_resource.Goals as goal
 
 pub overflow_cast-x : goal.overflow_cast-x
 overflow_cast-x c =
-    let sizes : SetSizes (parts_seen c.args.parts.now) = sizes_of_accepted _ c.requires.accepted in
+    let sizes : SetSizes (parts_seen c.args.parts.now) = sizes_of_accepted _ c.requires.table.accepted in
     let tasks = length-map c.args.parts.now.tasks.items task_seen in
     omega arith
 
@@ -23,7 +23,7 @@ loop-x-preserved c =
     let tasks = length-map c.args.parts.now.tasks.items task_seen in
     let within : c.loop-x.x < length set.tasks = omega arith in
     let same : c.asks.result ≡ is_user set c.args.q c.loop-x.x =
-    c.asks.ensures ∙ user_kept set _ c.loop-x.x c.args.q c.requires.kept within c.requires.resource in
+    c.asks.ensures ∙ user_kept set _ c.loop-x.x c.args.q c.requires.table.kept within c.requires.resource in
     elim c.if-asks.branch [
       | then-asks+in_ok-push w ↦
           listed_more (λ (x : TaskId). x.0) (is_user set c.args.q) c.loop-x.x (length set.tasks) c.loop-x.users.items
