@@ -17,6 +17,12 @@ pub record AreTwoTasks (set : SetDef) (i x : ℕ) : Type 0 where
   pub task : i < length set.tasks
   pub other : x < length set.tasks
 
+-- Are they, where each task has a bound, at most its latest one?
+pub record AreTwoTasksAt (set : SetDef) (bounds : List ℕ) (i x : ℕ) : Type 0 where
+  pub task : i < length set.tasks
+  pub other : x < length set.tasks
+  pub within : AreWithinDeadlines set bounds
+
 -- Is i a task of the set, and x one that uses its resource q?
 pub record AreTaskAndUser (set : SetDef) (i x q : ℕ) : Type 0 where
   pub task : i < length set.tasks

@@ -1,9 +1,8 @@
 ghost use Rattle.std.specs.Prelude.{◌≡◌, map, length, slice_index, IfOk};
-ghost use Rattle.blocking_columns.specs.ColumnDef.{column_seen, AreKnown};
+ghost use Rattle.blocking_columns.specs.ColumnDef.{column_seen};
 ghost use Rattle.blocking_columns.specs.Columns.{columns_where, columns_of};
 ghost use Rattle.blocking_columns.specs.Given.{AreInOrderAt};
-ghost use Rattle.blocking_columns.specs.Stretches.{slot, AreInOrder, BeginsAt, IsNextRequest};
-ghost use Rattle.blocking_columns.specs.Stretches.{StandInOrder, IsTaskStretch, IsRequestStretch};
+ghost use Rattle.blocking_columns.specs.Stretches.{slot, StandInOrder, BeginsAt, IsNextRequest, IsTaskStretch, IsRequestStretch};
 ghost use Rattle.blocking_columns.specs.TaskPlaces.{ArePlaces};
 
 use crate::columns::Fragment;
@@ -29,8 +28,7 @@ pub fn passing_stand_in_order<T: ColumnTest>(
     columns: &[Fragment],
 )
     requires columns { map column_seen columns.now ≡ columns_where (T.passes test.now set.now i.0) set.now }
-    ensures known { AreKnown (length set.now.tasks) (length set.now.resources) columns.now }
-    ensures order { AreInOrder columns.now }
+    ensures { StandInOrder set.now columns.now }
 {
     // a set has at most 32 resources, so the slots of a task end before those of the next one
     let _resources = set.resources();
@@ -39,8 +37,7 @@ pub fn passing_stand_in_order<T: ColumnTest>(
 /// The columns of a task are of tasks and resources of the set, and stand in order. This says so, and does nothing.
 pub fn columns_stand_in_order(set: &TaskSet, protocol: Protocol, i: TaskId, columns: &[Fragment])
     requires columns { map column_seen columns.now ≡ columns_of protocol set.now i.0 }
-    ensures known { AreKnown (length set.now.tasks) (length set.now.resources) columns.now }
-    ensures order { AreInOrder columns.now }
+    ensures { StandInOrder set.now columns.now }
 {
     // a set has at most 32 resources, so the slots of a task end before those of the next one
     let _resources = set.resources();

@@ -1,5 +1,5 @@
 ghost use Rattle.std.specs.Prelude.{◌≡◌, ◌<◌, ◌≤◌, length, slice_index};
-ghost use Rattle.program_sources.specs.Bounds.{AreWithinDeadlines};
+ghost use Rattle.blocking_columns.specs.Given.{AreTwoTasksAt};
 ghost use Rattle.blocking_columns.specs.Windows.{jobs_in as jobs_in_window, requests_in, all_requests, requests_at};
 
 use crate::places::home;
@@ -8,9 +8,7 @@ use sporadic_model::{ResourceId, TaskId, TaskSet, jobs_in};
 /// How many jobs of task `x` can run within the bound of a job of task `i`: the bounds of both and `x`'s jitter together over `x`'s
 /// period, rounded up.
 pub fn jobs(set: &TaskSet, i: TaskId, x: TaskId, bounds: &[u64]) -> u64
-    requires task { i.0 < length set.now.tasks }
-    requires other { x.0 < length set.now.tasks }
-    requires within { AreWithinDeadlines set.now bounds.now }
+    requires { AreTwoTasksAt set.now bounds.now i.0 x.0 }
     ensures value { result ≡ jobs_in_window set.now (slice_index bounds.now) i.0 x.0 }
     ensures most { result ≤ 2000000000 }
 {
@@ -56,10 +54,8 @@ pub fn requests_at(set: &TaskSet, i: TaskId, k: u32) -> u64
 
 /// How many requests of resource `q` the jobs of task `x` can make that run within the bound of a job of task `i`.
 pub fn cnt(set: &TaskSet, i: TaskId, x: TaskId, q: ResourceId, bounds: &[u64]) -> u64
-    requires task { i.0 < length set.now.tasks }
-    requires other { x.0 < length set.now.tasks }
+    requires tasks { AreTwoTasksAt set.now bounds.now i.0 x.0 }
     requires resource { q.0 < length set.now.resources }
-    requires within { AreWithinDeadlines set.now bounds.now }
     ensures value { result ≡ requests_in set.now (slice_index bounds.now) i.0 x.0 q.0 }
     ensures most { result ≤ 2000000000000 }
 {
