@@ -5,12 +5,10 @@ use Rattle.std.specs.Prelude.{if◌then◌else◌, take, is_some}
 use Rattle.std.specs.List.{list_all}
 use Rattle.std.specs.Option.{option_or, option_map_or}
 use Rattle.std.specs.Int.{is_in_range}
-use Rattle.number_laws.specs.Tests.{all_below}
 use Rattle.sporadic_model.specs.SetDef.{SetDef, task_at}
-use Rattle.sporadic_model.specs.Users.{count_of}
 use Rattle.sporadic_model.specs.declared.limits.TheConstants.{MOST_TICKS}
-use Rattle.schedule_model.specs.JobDef.{SegmentDef, JobDef, JobsDef, job_of, total_ticks, local_ticks, number_of_requests}
-use Rattle.schedule_model.specs.LawfulJobs.{is_length_kept}
+use Rattle.schedule_model.specs.JobDef.{SegmentDef, JobDef, JobsDef, job_of, total_ticks, local_ticks}
+use Rattle.schedule_model.specs.LawfulJobs.{are_counts_kept, is_length_kept}
 use Rattle.schedule_model.specs.declared.limits.TheConstants.{MOST_JOBS, MOST_SEGMENTS}
 use Rattle.schedule_model.specs.declared.refusal.JobRefusal.{JobRefusal}
 use Rattle.schedule_model.specs.declared.refusal.JobRefusal.TheVariants as refusal
@@ -42,7 +40,7 @@ unfoldable pub is_within_budget : SetDef → JobDef → Bool
 is_within_budget set job =
     nat_le (total_ticks job.script) (task_at set job.task).cost
     && (nat_le (local_ticks job.script) (task_at set job.task).local
-    && (all_below (length set.resources) (λ q. nat_le (number_of_requests job.script q) (count_of set job.task q))
+    && (are_counts_kept set job.task job.script
     && list_all (is_length_kept set job.task) job.script))
 
 -- When did the last listed job of task x arrive? None if the task has no listed job.

@@ -1,7 +1,8 @@
 -- Which jobs, and which lists of jobs, are lawful?
-use Rattle.std.specs.Prelude.{◌≡◌, ℕ, ◌+◌, ◌-◌, ◌<◌, ◌≤◌, ◌==◌, ◌&&◌, not, Bool, true, nat_lt, nat_le, List, length, take, is_some}
+use Rattle.std.specs.Prelude.{◌≡◌, ℕ, ◌+◌, ◌-◌, ◌<◌, ◌≤◌, ◌==◌, ◌&&◌, not, Bool, true, nat_lt, nat_le, List, length, take, is_some, IsTrue}
 use Rattle.std.specs.List.{list_all}
 use Rattle.std.specs.Option.{option_map_or}
+use Rattle.number_laws.specs.Tests.{all_below}
 use Rattle.sporadic_model.specs.SetDef.{SetDef, task_at}
 use Rattle.sporadic_model.specs.Users.{count_of, length_of}
 use Rattle.schedule_model.specs.JobDef.{SegmentDef, JobDef, JobsDef, job_of, total_ticks, local_ticks, number_of_requests}
@@ -22,6 +23,15 @@ is_resource_in n s = option_map_or (λ r. nat_lt r.0 n) s.request true
 -- Is the segment's request, if there is one, no longer than a job of task x may request its resource?
 abbrev pub is_length_kept : SetDef → ℕ → SegmentDef → Bool
 is_length_kept set x s = option_map_or (λ r. nat_le r.1 (length_of set x r.0)) s.request true
+
+-- Are the script's requests of each resource at most as many as a job of task x may make?
+abbrev pub are_counts_kept : SetDef → ℕ → List SegmentDef → Bool
+are_counts_kept set x script = all_below (length set.resources) (λ q. nat_le (number_of_requests script q) (count_of set x q))
+
+-- Is x a task of the set, and does the script request resources of the set only?
+pub record IsScriptOf (set : SetDef) (x : ℕ) (script : List SegmentDef) : Type 0 where
+  pub task : x < length set.tasks
+  pub resources : IsTrue (list_all (is_resource_in (length set.resources)) script)
 
 -- A lawful job. It is of a task of the set, and requests resources of the set. It is released no earlier than it arrives, and by at most
 -- its task's jitter later. Its script has the form of one. It stays within its task's budget.

@@ -1,7 +1,6 @@
-ghost use Rattle.std.specs.Prelude.{◌≡◌, ◌<◌, ◌+◌, false, IsTrue, nat_lt, length};
-ghost use Rattle.std.specs.List.{list_all};
+ghost use Rattle.std.specs.Prelude.{◌≡◌, ◌<◌, ◌+◌, false, nat_lt, length};
 ghost use Rattle.std.specs.Option.{option_map_or};
-ghost use Rattle.schedule_model.specs.LawfulJobs.{is_resource_in};
+ghost use Rattle.schedule_model.specs.LawfulJobs.{IsScriptOf};
 ghost use Rattle.schedule_model.specs.JobLists.{is_too_close, is_too_many, is_late, first_refusal};
 ghost use Rattle.schedule_model.specs.Seen.{job_seen};
 
@@ -63,8 +62,7 @@ fn leaves_its_jitter(set: &TaskSet, job: &Job) -> bool
 
 /// The first refusal that is due for the job behind the listed ones.
 pub(crate) fn refusal_of(set: &TaskSet, jobs: &KeptJobs, job: &Job) -> Option<JobRefusal>
-    requires task { job.now.task.0 < length set.now.tasks }
-    requires resources { IsTrue (list_all (is_resource_in (length set.now.resources)) (job_seen job.now).script) }
+    requires { IsScriptOf set.now job.now.task.0 (job_seen job.now).script }
     ensures { result ≡ first_refusal (record { set = set.now; jobs = jobs.now }) (job_seen job.now) }
 {
     if !is_listed_script(&job.script) {

@@ -1,9 +1,9 @@
-ghost use Rattle.std.specs.Prelude.{◌≡◌, ◌+◌, ◌<◌, ◌≤◌, ◌++◌, ◌∷◌, [], true, map, length, OnOk, OnErr};
+ghost use Rattle.std.specs.Prelude.{◌≡◌, ◌+◌, ◌<◌, ◌≤◌, ◌++◌, ◌∷◌, [], true, map, length};
 ghost use Rattle.std.specs.List.{list_all};
 ghost use Rattle.schedule_model.specs.JobDef.{job_of};
 ghost use Rattle.schedule_model.specs.JobLists.{last_arrival, segment_count, is_listed_segment};
 ghost use Rattle.schedule_model.specs.LawfulJobs.{is_resource_in};
-ghost use Rattle.schedule_model.specs.Kept.{kept_jobs, start_of, FitsBehind};
+ghost use Rattle.schedule_model.specs.Kept.{kept_jobs, start_of, FitsBehind, AllOrNone};
 ghost use Rattle.schedule_model.specs.Listed.{listed_seen};
 ghost use Rattle.schedule_model.specs.Seen.{job_seen};
 
@@ -94,8 +94,7 @@ impl KeptJobs {
     /// Puts the job at the end, whole or not at all.
     pub(crate) fn push(&mut self, job: &Job) -> Result<(), AllocError>
         requires { FitsBehind self.old (job_seen job.now) }
-        ensures ok { OnOk result (self.new ≡ self.old ++ job_seen job.now ∷ []) }
-        ensures err { OnErr result (self.new ≡ self.old) }
+        ensures { AllOrNone result self.old self.new (job_seen job.now ∷ []) }
     {
         self.jobs.reserve(1)?;
         self.segments.append(&job.script)?;

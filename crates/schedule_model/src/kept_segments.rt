@@ -1,9 +1,8 @@
-ghost use Rattle.std.specs.Prelude.{◌≡◌, ◌+◌, ◌<◌, ◌≤◌, ◌++◌, [], true, map, length, slice_index_or, vec_len, vec_capacity, OnOk, OnErr};
-ghost use Rattle.std.specs.List.{list_all};
+ghost use Rattle.std.specs.Prelude.{◌≡◌, ◌<◌, ◌++◌, [], true, map, length, slice_index_or};
 ghost use Rattle.schedule_model.specs.JobDef.{request_ticks, no_segment};
 ghost use Rattle.schedule_model.specs.JobLists.{is_listed_segment};
 ghost use Rattle.schedule_model.specs.LawfulJobs.{is_resource_in};
-ghost use Rattle.schedule_model.specs.Kept.{requested, kept_segment};
+ghost use Rattle.schedule_model.specs.Kept.{requested, kept_segment, FitSmallForm, CanTake, AllOrNone};
 ghost use Rattle.schedule_model.specs.Seen.{segment_seen};
 
 use crate::job::Segment;
@@ -60,10 +59,8 @@ impl KeptSegments {
 
     /// Puts the segments of the script at the end, all or none.
     pub(crate) fn append(&mut self, script: &[Segment]) -> Result<(), AllocError>
-        requires listed { list_all is_listed_segment (map segment_seen script.now) ≡ true }
-        requires resources { list_all (is_resource_in MOST_RESOURCES) (map segment_seen script.now) ≡ true }
-        ensures ok { OnOk result (self.new ≡ self.old ++ map segment_seen script.now) }
-        ensures err { OnErr result (self.new ≡ self.old) }
+        requires { FitSmallForm (map segment_seen script.now) }
+        ensures { AllOrNone result self.old self.new (map segment_seen script.now) }
     {
         self.locals.reserve(script.len())?;
         self.ticks.reserve(script.len())?;
@@ -120,8 +117,7 @@ fn resource_of(segment: &Segment) -> u8
 }
 
 fn push_locals(locals: &mut Vec<u32>, script: &[Segment])
-    requires room { vec_len locals.old + length script.now ≤ vec_capacity locals.old }
-    requires listed { list_all is_listed_segment (map segment_seen script.now) ≡ true }
+    requires { CanTake is_listed_segment locals.old script.now }
     ensures { locals.new.items ≡ locals.old.items ++ map (λ s. s.local) (map segment_seen script.now) }
 {
     for segment in script {
@@ -130,8 +126,7 @@ fn push_locals(locals: &mut Vec<u32>, script: &[Segment])
 }
 
 fn push_ticks(ticks: &mut Vec<u32>, script: &[Segment])
-    requires room { vec_len ticks.old + length script.now ≤ vec_capacity ticks.old }
-    requires listed { list_all is_listed_segment (map segment_seen script.now) ≡ true }
+    requires { CanTake is_listed_segment ticks.old script.now }
     ensures { ticks.new.items ≡ ticks.old.items ++ map request_ticks (map segment_seen script.now) }
 {
     for segment in script {
@@ -140,8 +135,7 @@ fn push_ticks(ticks: &mut Vec<u32>, script: &[Segment])
 }
 
 fn push_resources(resources: &mut Vec<u8>, script: &[Segment])
-    requires room { vec_len resources.old + length script.now ≤ vec_capacity resources.old }
-    requires within { list_all (is_resource_in MOST_RESOURCES) (map segment_seen script.now) ≡ true }
+    requires { CanTake (is_resource_in MOST_RESOURCES) resources.old script.now }
     ensures { resources.new.items ≡ resources.old.items ++ map requested (map segment_seen script.now) }
 {
     for segment in script {

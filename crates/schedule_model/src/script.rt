@@ -1,10 +1,8 @@
-ghost use Rattle.std.specs.Prelude.{◌≡◌, ℕ, ◌+◌, ◌<◌, ◌≤◌, IsTrue, nat_le, map, length, is_some};
+ghost use Rattle.std.specs.Prelude.{◌≡◌, ◌<◌, IsTrue, nat_le, map, length, is_some};
 ghost use Rattle.std.specs.Int.{is_in_range};
 ghost use Rattle.std.specs.List.{list_all};
-ghost use Rattle.number_laws.specs.Tests.{all_below};
-ghost use Rattle.sporadic_model.specs.Users.{count_of};
 ghost use Rattle.schedule_model.specs.JobDef.{total_ticks, local_ticks, number_of_requests, request_ticks, asks_for};
-ghost use Rattle.schedule_model.specs.LawfulJobs.{is_length_kept, is_resource_in};
+ghost use Rattle.schedule_model.specs.LawfulJobs.{are_counts_kept, is_length_kept, is_resource_in, IsScriptOf};
 ghost use Rattle.schedule_model.specs.JobLists.{is_listed_segment, is_listed_script, is_within_budget};
 ghost use Rattle.schedule_model.specs.Seen.{segment_seen, job_seen};
 
@@ -109,8 +107,7 @@ fn number_of_requests(script: &[Segment], q: ResourceId) -> usize
 /// Does the script request each resource at most as often as a job of the task may?
 fn keeps_counts(set: &TaskSet, x: TaskId, script: &[Segment]) -> bool
     requires { x.0 < length set.now.tasks }
-    ensures { result ≡ all_below (length set.now.resources)
-        (λ q. nat_le (number_of_requests (map segment_seen script.now) q) (count_of set.now x.0 q)) }
+    ensures { result ≡ are_counts_kept set.now x.0 (map segment_seen script.now) }
 {
     for q in 0..set.resources() {
         let count = number_of_requests(script, ResourceId(q)) as u64;
@@ -135,8 +132,7 @@ fn keeps_length(set: &TaskSet, x: TaskId, segment: &Segment) -> bool
 
 /// Is each request of the script no longer than a job of the task may request its resource?
 fn keeps_lengths(set: &TaskSet, x: TaskId, script: &[Segment]) -> bool
-    requires task { x.0 < length set.now.tasks }
-    requires resources { IsTrue (list_all (is_resource_in (length set.now.resources)) (map segment_seen script.now)) }
+    requires { IsScriptOf set.now x.0 (map segment_seen script.now) }
     ensures { result ≡ list_all (is_length_kept set.now x.0) (map segment_seen script.now) }
 {
     for segment in script {
@@ -150,8 +146,7 @@ fn keeps_lengths(set: &TaskSet, x: TaskId, script: &[Segment]) -> bool
 /// Does the job stay within what its task may execute and request?
 #[tactic(auto, unfolding(crate::specs::JobLists::is_within_budget))]
 pub(crate) fn stays_within_budget(set: &TaskSet, job: &Job) -> bool
-    requires task { job.now.task.0 < length set.now.tasks }
-    requires resources { IsTrue (list_all (is_resource_in (length set.now.resources)) (job_seen job.now).script) }
+    requires { IsScriptOf set.now job.now.task.0 (job_seen job.now).script }
     ensures { result ≡ is_within_budget set.now (job_seen job.now) }
 {
     if !takes_at_most(&job.script, set.cost(job.task)) {

@@ -31,16 +31,16 @@ invariant_of-self c =
     let more : AreLawfulJobs (with_job (jobs_view old) job) = lawful_more (jobs_view old) job c.self.invariant.lawful task resources none in
     let within : IsJobList (with_job (jobs_view old) job) = listed_more (jobs_view old) job c.self.invariant.listed none in
     record {
-      lawful = subst (λ (js : List JobDef). AreLawfulJobs (record { set = old.set.now; jobs = js })) (sym c.in-Ok.ensures.ok) more;
-      listed = subst (λ (js : List JobDef). IsJobList (record { set = old.set.now; jobs = js })) (sym c.in-Ok.ensures.ok) within;
+      lawful = subst (λ (js : List JobDef). AreLawfulJobs (record { set = old.set.now; jobs = js })) (sym c.in-Ok.ensures) more;
+      listed = subst (λ (js : List JobDef). IsJobList (record { set = old.set.now; jobs = js })) (sym c.in-Ok.ensures) within;
     }
 
 pub invariant_of-self-2 : goal.invariant_of-self-2
 invariant_of-self-2 c =
     let old = c.self.inside in
     record {
-      lawful = subst (λ (js : List JobDef). AreLawfulJobs (record { set = old.set.now; jobs = js })) (sym c.in-Err.ensures.err)
+      lawful = subst (λ (js : List JobDef). AreLawfulJobs (record { set = old.set.now; jobs = js })) (sym c.in-Err.ensures)
           c.self.invariant.lawful;
-      listed = subst (λ (js : List JobDef). IsJobList (record { set = old.set.now; jobs = js })) (sym c.in-Err.ensures.err)
+      listed = subst (λ (js : List JobDef). IsJobList (record { set = old.set.now; jobs = js })) (sym c.in-Err.ensures)
           c.self.invariant.listed;
     }

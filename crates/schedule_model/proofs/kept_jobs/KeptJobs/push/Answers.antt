@@ -21,7 +21,7 @@ invariant_of-self-2 c =
       end = c.len.result;
     } in
     let segments : c.append.new.self ≡ inside.segments ++ more =
-    c.in_ok-append.ensures.ok ∙ ap (λ (ss : List Segment). inside.segments ++ map segment_seen ss) c.deref.ensures.value in
+    c.in_ok-append.ensures ∙ ap (λ (ss : List Segment). inside.segments ++ map segment_seen ss) c.deref.ensures.value in
     let end : c.len.result ≡ length inside.segments + length more =
     c.len.ensures ∙ ap length segments ∙ length-append inside.segments more in
     let jobs : c.push_reserved.new.self.items ≡ inside.jobs.items ++ kept ∷ [] =
@@ -41,8 +41,8 @@ invariant_of-self-2 c =
       segments = omega (arith, end, c.len.ensures, kept_view-count inside c.self.invariant, ap segment_count c.self.view_is, c.requires.room);
     }
 
-pub returns-clause-ok : goal.returns-clause-ok
-returns-clause-ok c =
+pub returns : goal.returns
+returns c =
     let inside = c.self.inside in
     let more : List SegmentDef = (job_seen c.args.job.now).script in
     let kept : KeptJob = record {
@@ -52,7 +52,7 @@ returns-clause-ok c =
       end = c.len.result;
     } in
     let segments : c.append.new.self ≡ inside.segments ++ more =
-    c.in_ok-append.ensures.ok ∙ ap (λ (ss : List Segment). inside.segments ++ map segment_seen ss) c.deref.ensures.value in
+    c.in_ok-append.ensures ∙ ap (λ (ss : List Segment). inside.segments ++ map segment_seen ss) c.deref.ensures.value in
     let end : c.len.result ≡ length inside.segments + length more =
     c.len.ensures ∙ ap length segments ∙ length-append inside.segments more in
     let jobs : c.push_reserved.new.self.items ≡ inside.jobs.items ++ kept ∷ [] =

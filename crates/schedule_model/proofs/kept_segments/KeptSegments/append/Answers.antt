@@ -5,8 +5,8 @@ use Rattle.schedule_model.specs.Seen.{segment_seen}
 use Rattle.schedule_model.proofs.KeptSegmentLaws.{kept_segments-append}
 use Rattle.schedule_model.proofs.kept_segments.KeptSegments.append.Goals as goal
 
-pub returns-clause-ok : goal.returns-clause-ok
-returns-clause-ok c =
+pub returns : goal.returns
+returns c =
     let inside = c.self.inside in
     let more : List SegmentDef = map segment_seen c.args.script.now in
     let locals : c.push_locals.new.locals.items ≡ inside.locals.items ++ map (λ (s : SegmentDef). s.local) more =
