@@ -1,8 +1,10 @@
 -- How many ticks does a job spend in which kind of phase, and how many requests has it begun?
-use Rattle.std.specs.Prelude.{◌≡◌, refl, ℕ, suc, ◌+◌, ◌-◌, ◌==◌, ◌&&◌, Bool, false, nat_lt, if◌then◌else◌, List, []}
-use Rattle.std.specs.Prelude.{◌∷◌, Some, None, is_some, count_by}
+use Rattle.std.specs.Prelude.{◌≡◌, refl, ℕ, suc, ◌+◌, ◌-◌, ◌<◌, ◌==◌, ◌&&◌, Bool, true, false, nat_lt, if◌then◌else◌}
+use Rattle.std.specs.Prelude.{List, [], ◌∷◌, length, Some, None, is_some, count_by}
 use Rattle.number_laws.specs.Sums.{flag, only_if}
 use Rattle.number_laws.specs.Tests.{count_below}
+use Rattle.sporadic_model.specs.SetDef.{SetDef}
+use Rattle.sporadic_model.specs.Users.{is_user}
 use Rattle.schedule_model.specs.JobDef.{SegmentDef, job_of, request_ticks, segment_ticks}
 use Rattle.schedule_model.specs.RowDef.{Trace, runs_in}
 use Rattle.schedule_model.specs.Phase.{Phase, is_local, asking, phase_of, executed}
@@ -21,6 +23,11 @@ executed_in p w t j = count_below t (λ u. runs_in (w.row u) j && p (phase_of w 
 abbrev pub is_request : ℕ → ℕ → Phase → Bool
 is_request m q (Asking n r) = (n == m) && (r == q)
 is_request m q _ = false
+
+-- Is q a resource of the set, and task x a user of it?
+pub record HasUser (set : SetDef) (q x : ℕ) : Type 0 where
+  pub within : q < length set.resources
+  pub user : is_user set q x ≡ true
 
 -- How many requests has a script?
 abbrev pub requests_in : List SegmentDef → ℕ

@@ -2,14 +2,14 @@ ghost use Rattle.std.specs.Prelude.{◌≡◌, ℕ, ◌*◌, ◌<◌, ◌≤◌,
 ghost use Rattle.number_laws.specs.Sums.{sum_below};
 ghost use Rattle.number_laws.specs.Tests.{count_below};
 ghost use Rattle.sporadic_model.specs.SetDef.{SetDef};
-ghost use Rattle.sporadic_model.specs.Users.{count_of, length_of, is_user};
+ghost use Rattle.sporadic_model.specs.Users.{count_of, length_of};
 ghost use Rattle.schedule_model.specs.JobDef.{JobDef, job_of, asks_for, total_ticks, local_ticks, number_of_requests, no_segment};
 ghost use Rattle.schedule_model.specs.LawfulJobs.{IsLawfulJob};
 ghost use Rattle.schedule_model.specs.RowDef.{Trace};
 ghost use Rattle.schedule_model.specs.Phase.{Phase, is_local, is_asking, executed, phase_of};
 ghost use Rattle.schedule_model.specs.Phase.Phase.{Asking, Finished};
 ghost use Rattle.schedule_laws.specs.Agreement.{RunsActiveBefore};
-ghost use Rattle.schedule_laws.specs.Counting.{ticks_where, executed_in, is_request, requests_in, requests_begun};
+ghost use Rattle.schedule_laws.specs.Counting.{ticks_where, executed_in, is_request, requests_in, requests_begun, HasUser};
 
 /// A job runs in a kind of phase at most as often as its script has ticks of that kind, and exactly as often once it is finished. So it
 /// runs Local for at most its local ticks, and in all for no more than its script's ticks. In requests of a resource it runs for at most
@@ -42,12 +42,9 @@ pub fn requests_begun_are_counted()
 /// one resource or of all, than its task may make.
 pub fn requests_are_within_the_budget()
     ensures resource { (set : SetDef) (w : Trace) (t j m q : ℕ) → IsLawfulJob set (job_of w.jobs j) → phase_of w t j ≡ Asking m q
-        → q < length set.resources }
-    ensures user { (set : SetDef) (w : Trace) (t j m q : ℕ) → IsLawfulJob set (job_of w.jobs j) → phase_of w t j ≡ Asking m q
-        → is_user set q (job_of w.jobs j).task ≡ true }
-    ensures number { (w : Trace) (t j m q : ℕ) → phase_of w t j ≡ Asking m q → m < length (job_of w.jobs j).script }
+        → HasUser set q (job_of w.jobs j).task }
     ensures segment { (w : Trace) (t j m q : ℕ) → phase_of w t j ≡ Asking m q
-        → asks_for q (slice_index_or (job_of w.jobs j).script m no_segment) ≡ true }
+        → (m < length (job_of w.jobs j).script) × (asks_for q (slice_index_or (job_of w.jobs j).script m no_segment) ≡ true) }
     ensures own { (set : SetDef) (job : JobDef) (q : ℕ) → IsLawfulJob set job
         → count_below (length job.script) (λ m. asks_for q (slice_index_or job.script m no_segment)) ≤ count_of set job.task q }
     ensures all { (set : SetDef) (job : JobDef) → IsLawfulJob set job

@@ -15,32 +15,27 @@ ghost use Rattle.schedule_model.specs.Chosen.{IsSized, IsSharedChoice, IsDpcpCho
 ghost use Rattle.schedule_model.specs.Fitting.{fits_row};
 ghost use Rattle.schedule_model.specs.TakenRows.{FitsJobs, CanBeTaken, CanBeTakenBefore};
 ghost use Rattle.schedule_model.specs.BlockedTicks.{is_shared_interference, is_dpcp_interference, is_interferer};
-ghost use Rattle.schedule_model.specs.ProtocolLaws.{IsOneOfThree, IsSoundRow};
-ghost use Rattle.schedule_laws.specs.Agreement.{AgreeBefore, RunsActiveBefore};
+ghost use Rattle.schedule_laws.specs.Agreement.{RunsActiveBefore};
+ghost use Rattle.schedule_laws.specs.ProtocolFacts.{HasItsLaws, ChoosesOneRow, HasHigherCause};
 
 use schedule_model::BlockingProtocol;
 
 /// The laws of `BlockingProtocol` if requests run on their own task's processor, whatever the order of grants and runs: so for MPCP and
 /// FMLP+.
 pub fn shared_memory_keeps_its_laws()
-    ensures one_of_three { (w : Trace) (t j : ℕ) → IsOneOfThree is_shared_interference w t j }
-    ensures sound_row { (o : Ranks) (w : Trace) (t : ℕ) → KeepsRow (shared_rule o) w t → IsSoundRow is_shared_interference w t }
-    ensures chosen_keeps { (o : Ranks) (w : Trace) (t : ℕ) → IsSharedChoice o w t → KeepsRow (shared_rule o) w t }
+    ensures { (o : Ranks) → HasItsLaws (shared_rule o) (IsSharedChoice o) is_shared_interference }
 {}
 
 /// The laws of `BlockingProtocol` for DPCP.
 pub fn dpcp_keeps_its_laws()
-    ensures one_of_three { (w : Trace) (t j : ℕ) → IsOneOfThree is_dpcp_interference w t j }
-    ensures sound_row { (w : Trace) (t : ℕ) → KeepsRow dpcp_rule w t → IsSoundRow is_dpcp_interference w t }
-    ensures chosen_keeps { (w : Trace) (t : ℕ) → IsDpcpChoice w t → KeepsRow dpcp_rule w t }
+    ensures { HasItsLaws dpcp_rule IsDpcpChoice is_dpcp_interference }
 {}
 
 /// After the same rows each protocol has at most one chosen row.
 pub fn chosen_rows_are_unique()
-    ensures mpcp { (v w : Trace) (t : ℕ) → AgreeBefore v w t → IsSharedChoice mpcp v t → IsSharedChoice mpcp w t → v.row t ≡ w.row t }
-    ensures fmlp_plus { (v w : Trace) (t : ℕ) → AgreeBefore v w t → IsSharedChoice fmlp_plus v t → IsSharedChoice fmlp_plus w t
-        → v.row t ≡ w.row t }
-    ensures dpcp { (v w : Trace) (t : ℕ) → AgreeBefore v w t → IsDpcpChoice v t → IsDpcpChoice w t → v.row t ≡ w.row t }
+    ensures mpcp { ChoosesOneRow (IsSharedChoice mpcp) }
+    ensures fmlp_plus { ChoosesOneRow (IsSharedChoice fmlp_plus) }
+    ensures dpcp { ChoosesOneRow IsDpcpChoice }
 {}
 
 /// In rows that keep the rules of any protocol each running job is active.
@@ -61,16 +56,10 @@ pub fn jobs_end_in_time<P: BlockingProtocol>()
 /// A tick is interference for a job exactly if some job makes it so. Only one does. It is of a higher task of the job's processor, and
 /// under DPCP it is Local.
 pub fn interference_has_one_cause()
-    ensures shared { (w : Trace) (t j : ℕ)
-        → (is_shared_interference w t j ≡ true) ↔ ((y : ℕ) × (is_interferer is_shared_interference w t j y ≡ true)) }
-    ensures dpcp { (w : Trace) (t j : ℕ)
-        → (is_dpcp_interference w t j ≡ true) ↔ ((y : ℕ) × (is_interferer is_dpcp_interference w t j y ≡ true)) }
+    ensures shared { HasHigherCause is_shared_interference }
+    ensures dpcp { HasHigherCause is_dpcp_interference }
     ensures one { (interferes : Trace → ℕ → ℕ → Bool) (w : Trace) (t j y z : ℕ) → is_interferer interferes w t j y ≡ true
         → is_interferer interferes w t j z ≡ true → y ≡ z }
-    ensures shared_higher { (w : Trace) (t j y : ℕ) → is_interferer is_shared_interference w t j y ≡ true
-        → is_higher_local w.set (task_of w j) (task_of w y) ≡ true }
-    ensures dpcp_higher { (w : Trace) (t j y : ℕ) → is_interferer is_dpcp_interference w t j y ≡ true
-        → is_higher_local w.set (task_of w j) (task_of w y) ≡ true }
     ensures dpcp_local { (w : Trace) (t j y : ℕ) → is_interferer is_dpcp_interference w t j y ≡ true
         → is_local (phase_of w t y) ≡ true }
 {}

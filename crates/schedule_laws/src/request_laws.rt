@@ -1,15 +1,15 @@
-ghost use Rattle.std.specs.Prelude.{◌≡◌, ℕ, ◌+◌, ◌<◌, ◌≤◌, true, false, Some};
+ghost use Rattle.std.specs.Prelude.{◌≡◌, ℕ, ◌+◌, ◌≤◌, true, false};
 ghost use Rattle.schedule_model.specs.JobDef.{job_of};
 ghost use Rattle.schedule_model.specs.LawfulJobs.{is_script};
-ghost use Rattle.schedule_model.specs.RowDef.{Trace, holder_in};
+ghost use Rattle.schedule_model.specs.RowDef.{Trace};
 ghost use Rattle.schedule_model.specs.Phase.{is_same_request, phase_of};
 ghost use Rattle.schedule_model.specs.Phase.Phase.{Asking};
 ghost use Rattle.schedule_model.specs.Activity.{issue_tick_of, is_active};
 ghost use Rattle.schedule_model.specs.SharedRules.{Ranks};
 ghost use Rattle.schedule_model.specs.Protocols.{shared_rule, dpcp_rule};
-ghost use Rattle.schedule_model.specs.Keeping.{KeepsBefore};
 ghost use Rattle.schedule_laws.specs.Agreement.{RunsActiveBefore};
 ghost use Rattle.schedule_laws.specs.LocalRuns.{LocalRun};
+ghost use Rattle.schedule_laws.specs.ProtocolFacts.{HoldersStay};
 
 /// The issue tick of a request is no later than each tick at which the request is open. The request is open from then on, and its issue
 /// tick stays while it is open. If the request is new, it is the present tick.
@@ -35,9 +35,6 @@ pub fn requests_follow_local_ticks()
 
 /// In rows that keep a protocol's rules a holder stays the holder while its request is open.
 pub fn holders_stay()
-    ensures shared { (o : Ranks) (w : Trace) (n u t q j m r : ℕ) → KeepsBefore (shared_rule o) w n → u ≤ t → t < n
-        → phase_of w u j ≡ Asking m r → phase_of w t j ≡ Asking m q → holder_in (w.row u) q ≡ Some j
-        → holder_in (w.row t) q ≡ Some j }
-    ensures distributed { (w : Trace) (n u t q j m r : ℕ) → KeepsBefore dpcp_rule w n → u ≤ t → t < n → phase_of w u j ≡ Asking m r
-        → phase_of w t j ≡ Asking m q → holder_in (w.row u) q ≡ Some j → holder_in (w.row t) q ≡ Some j }
+    ensures shared { (o : Ranks) → HoldersStay (shared_rule o) }
+    ensures distributed { HoldersStay dpcp_rule }
 {}
