@@ -1,6 +1,5 @@
 -- What jobs claim of a row, and which row gives it to them.
-use Rattle.std.specs.Prelude.{◌≡◌, ℕ, ◌<◌, ◌&&◌, if◌then◌else◌, List, length, Option, None, IfSome, option_map}
-use Rattle.sporadic_model.specs.declared.ids.ResourceId.{ResourceId}
+use Rattle.std.specs.Prelude.{ℕ, ◌&&◌, if◌then◌else◌, List, length, Option, None}
 use Rattle.phase_machine.specs.MachineDef.{MachineDef}
 use Rattle.phase_machine.specs.Now.{phase_now, holder_now, requester_now, waiting_now}
 use Rattle.shared_choosing.specs.Scene.{stays, resource_in}
@@ -12,11 +11,6 @@ use Rattle.dpcp_rules.specs.RowTests.{is_due}
 -- Which resource is granted to job j? The one that it requests, if it waits and is due.
 abbrev pub grant_claim : MachineDef → List ℕ → List ℕ → ℕ → Option ℕ
 grant_claim m first bars j = if waiting_now m j && is_due m first bars j then resource_in (phase_now m j) else None
-
--- Is this what is claimed, a resource of the set or nothing?
-pub record NamesResource (m : MachineDef) (claim : Option ℕ) (named : Option ResourceId) : Type 0 where
-  pub value : option_map (λ (q : ResourceId). q.0) named ≡ claim
-  pub within : IfSome named (λ (q : ResourceId). q.0 < length m.list.set.resources)
 
 -- On which processor does job j run as a holder, given the holders? And on which as a Local job?
 abbrev pub holder_claim : MachineDef → (ℕ → Option ℕ) → ℕ → Option ℕ

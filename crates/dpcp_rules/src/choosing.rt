@@ -4,7 +4,8 @@ ghost use Rattle.schedule_model.specs.Chosen.{IsSized};
 ghost use Rattle.schedule_model.specs.Seen.{row_seen, place_seen};
 ghost use Rattle.shared_choosing.specs.Scene.{place_in, running_in};
 ghost use Rattle.shared_choosing.specs.Filling.{filled};
-ghost use Rattle.dpcp_rules.specs.Choosing.{grant_claim, NamesResource, AreHolders, IsRunning};
+ghost use Rattle.shared_choosing.specs.Given.{NamesResource};
+ghost use Rattle.dpcp_rules.specs.Choosing.{grant_claim, AreHolders, IsRunning};
 ghost use Rattle.dpcp_rules.specs.Given.{IsJobServed, ArePlacesServed};
 ghost use Rattle.dpcp_rules.specs.Verdicts.{IsChosen};
 
@@ -13,7 +14,7 @@ use crate::lookup::AtHomes;
 use crate::tables::{Tables, tables_of};
 use phase_machine::Machine;
 use schedule_model::{JobId, Row};
-use shared_choosing::choosing::{keep_all, requested};
+use shared_choosing::choosing::{keep_all, requested_resource};
 use shared_choosing::claims::{HolderClaim, LocalClaim, fill, fill_twice};
 use shared_choosing::row_choice::{RowChoice, choose_row};
 use shared_choosing::visiting::{Visitor, visit_each};
@@ -25,7 +26,7 @@ fn grant_claim(machine: &Machine, tables: &Tables, j: JobId) -> Option<ResourceI
     ensures { NamesResource machine.now (grant_claim machine.now tables.now.first.keys tables.now.bars.keys j.0) result }
 {
     if machine.waiting(j) && is_due(machine, tables, j) {
-        return requested(machine, j);
+        return requested_resource(machine, j);
     }
     None
 }

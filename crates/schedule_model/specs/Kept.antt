@@ -30,6 +30,12 @@ kept_segments _ _ _ = []
 abbrev pub between : ℕ → ℕ → List SegmentDef → List SegmentDef
 between from end segments = take (end - from) (drop from segments)
 
+-- Are there segments from the one place up to the other, and is the other one within the limit of a list?
+pub record HasBetween (from end : ℕ) (segments : List SegmentDef) : Type 0 where
+  pub order : from ≤ end
+  pub within : end ≤ length segments
+  pub most : end ≤ MOST_SEGMENTS
+
 -- The job of a record whose segments begin at `from`.
 abbrev pub kept_job : List SegmentDef → ℕ → KeptJob → JobDef
 kept_job segments from job = record {

@@ -1,11 +1,10 @@
-ghost use Rattle.std.specs.Prelude.{◌≡◌, ◌<◌, ◌≤◌, length, slice_index_or};
+ghost use Rattle.std.specs.Prelude.{◌≡◌, ◌<◌, length, slice_index_or};
 ghost use Rattle.schedule_model.specs.JobDef.{no_segment};
-ghost use Rattle.schedule_model.specs.Kept.{between};
+ghost use Rattle.schedule_model.specs.Kept.{between, HasBetween};
 ghost use Rattle.schedule_model.specs.Seen.{segment_seen};
 
 use crate::job::Segment;
 use crate::kept_segments::KeptSegments;
-use crate::limits::MOST_SEGMENTS;
 use sporadic_model::TaskId;
 use std::marker::Model;
 
@@ -46,9 +45,7 @@ impl<'a> Model for ListedScript<'a> {
 impl<'a> ListedScript<'a> {
     /// The segments from one place up to another.
     pub(crate) fn new(segments: &'a KeptSegments, from: u32, end: u32) -> ListedScript<'a>
-        requires order { from ≤ end }
-        requires within { end ≤ length segments.now }
-        requires most { end ≤ MOST_SEGMENTS }
+        requires { HasBetween from end segments.now }
         ensures { result ≡ between from end segments.now }
     {
         ListedScript {

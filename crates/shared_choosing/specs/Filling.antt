@@ -22,6 +22,10 @@ pub record Filled (m : MachineDef) (claim start : ℕ → Option ℕ) (x : ℕ) 
   pub from : (k j : ℕ) → places k ≡ Some j → (start k ≡ Some j) ⊎ Takes m claim x k j
   pub free : (k : ℕ) → places k ≡ None → (i : ℕ) → active_now m i ≡ true → claim i ≡ Some k → task_in m.list.jobs i < x → ⊥
 
+-- Are these the places after all active jobs have come, given those at the start?
+abbrev pub FilledByAll : MachineDef → (MachineDef → ℕ → Option ℕ) → (ℕ → Option ℕ) → (ℕ → Option ℕ) → Type 0
+FilledByAll m claim start places = Filled m (claim m) start (length m.list.set.tasks) places
+
 -- Is this what runs if the jobs with the first claim come before those with the second?
 pub record FilledTwice (m : MachineDef) (first second : ℕ → Option ℕ) (running : ℕ → Option ℕ) : Type 0 where
   pub before : ℕ → Option ℕ

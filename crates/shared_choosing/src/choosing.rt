@@ -1,5 +1,4 @@
-ghost use Rattle.std.specs.Prelude.{◌≡◌, ℕ, ◌<◌, ◌≤◌, length, map, None, IfSome};
-ghost use Rattle.std.specs.Prelude.{option_map};
+ghost use Rattle.std.specs.Prelude.{◌≡◌, ℕ, ◌<◌, length, map};
 ghost use Rattle.schedule_model.specs.RowDef.{RowDef};
 ghost use Rattle.schedule_model.specs.Chosen.{IsSized, IsSharedChoice};
 ghost use Rattle.schedule_model.specs.Seen.{row_seen, place_seen};
@@ -9,8 +8,9 @@ ghost use Rattle.phase_machine.specs.Shows.{Shows};
 ghost use Rattle.phase_machine.specs.Given.{NamesJob, IsRequestOf, IsRequestBeside};
 ghost use Rattle.shared_choosing.specs.Scene.{scene_in, scene_now, gives_way, asked, stays, entered};
 ghost use Rattle.shared_choosing.specs.Scene.{place_in, running_in, NamesBelow, resource_in};
-ghost use Rattle.shared_choosing.specs.Given.{scene_by, scene_on, AreHolders, AreColumns, AreRowPlaces, AreRivals};
-ghost use Rattle.shared_choosing.specs.Given.{offered, IsOffered, HasAsked, TellsOutrun, NamesFaster, HasEntered};
+ghost use Rattle.shared_choosing.specs.Given.{scene_by, AreGranted, ArePlaced, AreHolders, AreRowPlaces, AreRivals, HasColumn};
+ghost use Rattle.shared_choosing.specs.Given.{CanEnter, IsNamedAt, AreCleared, AreKept, NamesResource, offered, IsOffered, HasAsked};
+ghost use Rattle.shared_choosing.specs.Given.{TellsOutrun, NamesFaster, HasEntered};
 ghost use Rattle.shared_choosing.specs.Choosing.{Granted, Placed};
 
 use crate::row_choice::{RowChoice, choose_row};
@@ -24,10 +24,7 @@ use sporadic_model::ResourceId;
 /// Names a job, or none, at a place of a row.
 pub fn put(places: &mut [Option<JobId>], i: usize, job: Option<JobId>)
     requires { i < length places.old }
-    ensures len { length places.new ≡ length places.old }
-    ensures here { place_in (map place_seen places.new) i ≡ place_seen job }
-    ensures others { (k : ℕ) → (k ≡ i → ⊥) → place_in (map place_seen places.new) k ≡ place_in (map place_seen places.old) k }
-    ensures named { (n : ℕ) → NamesBelow n (map place_seen places.old) → IfSome job (λ j. j.0 < n) → NamesBelow n (map place_seen places.new) }
+    ensures { IsNamedAt place_in i job places.old places.new }
 {
     places[i] = job;
 }
@@ -36,8 +33,7 @@ pub fn put(places: &mut [Option<JobId>], i: usize, job: Option<JobId>)
 pub fn job_at(machine: &Machine, places: &[Option<JobId>], i: usize) -> Option<JobId>
     requires within { i < length places.now }
     requires named { NamesBelow (length machine.now.list.jobs) (map place_seen places.now) }
-    ensures value { place_seen result ≡ place_in (map place_seen places.now) i }
-    ensures listed { IfSome result (λ j. j.0 < length machine.now.list.jobs) }
+    ensures { NamesJob machine.now.list (place_in (map place_seen places.now) i) result }
 {
     places[i]
 }
@@ -61,11 +57,7 @@ pub fn kept(machine: &Machine, q: ResourceId) -> Option<JobId>
 /// Names the holders that are kept, and no others.
 pub fn keep_all(machine: &Machine, holders: &mut [Option<JobId>])
     requires { length holders.old ≡ length machine.now.list.set.resources }
-    ensures len { length holders.new ≡ length holders.old }
-    ensures each { (q : ℕ) → q < length holders.old → place_in (map place_seen holders.new) q
-        ≡ stays (requester_now machine.now q) (holder_now machine.now q) }
-    ensures kept { (q : ℕ) → place_in (map place_seen holders.new) q ≡ stays (requester_now machine.now q) (holder_now machine.now q) }
-    ensures named { NamesBelow (length machine.now.list.jobs) (map place_seen holders.new) }
+    ensures { AreKept machine.now holders.old holders.new }
 {
     for q in 0..resources_of(machine) {
         put(holders, q as usize, kept(machine, ResourceId(q)));
@@ -73,10 +65,9 @@ pub fn keep_all(machine: &Machine, holders: &mut [Option<JobId>])
 }
 
 /// The resource that the job requests, if it requests one.
-pub fn requested(machine: &Machine, j: JobId) -> Option<ResourceId>
+pub fn requested_resource(machine: &Machine, j: JobId) -> Option<ResourceId>
     requires { j.0 < length machine.now.list.jobs }
-    ensures value { option_map (λ q. q.0) result ≡ resource_in (phase_now machine.now j.0) }
-    ensures within { IfSome result (λ q. q.0 < length machine.now.list.set.resources) }
+    ensures { NamesResource machine.now (resource_in (phase_now machine.now j.0)) result }
 {
     match machine.phase(j) {
         Phase::Asking(_, q) => Some(q),
@@ -131,8 +122,7 @@ fn offer<O: Order>(
 )
     requires request { IsRequestOf machine.now.list q.0 j.0 }
     requires holders { AreHolders machine.now.list (map place_seen holders.old) }
-    ensures holders { AreHolders machine.now.list (map place_seen holders.new) }
-    ensures offered { IsOffered (scene_by (O.grant order.now) (O.run order.now) machine.now) q.0 j.0 holders.old holders.new }
+    ensures { IsOffered machine.now.list (scene_by (O.grant order.now) (O.run order.now) machine.now) q.0 j.0 holders.old holders.new }
 {
     let holder = job_at(machine, holders, q.0 as usize);
     put(holders, q.0 as usize, offered(order, machine, q, j, holder));
@@ -142,10 +132,9 @@ fn offer<O: Order>(
 fn ask<O: Order>(order: &O, machine: &Machine, j: JobId, holders: &mut [Option<JobId>])
     requires listed { j.0 < length machine.now.list.jobs }
     requires holders { AreHolders machine.now.list (map place_seen holders.old) }
-    ensures holders { AreHolders machine.now.list (map place_seen holders.new) }
-    ensures asked { HasAsked (scene_by (O.grant order.now) (O.run order.now) machine.now) j.0 holders.old holders.new }
+    ensures { HasAsked machine.now.list (scene_by (O.grant order.now) (O.run order.now) machine.now) j.0 holders.old holders.new }
 {
-    match requested(machine, j) {
+    match requested_resource(machine, j) {
         Some(q) => offer(order, machine, q, j, holders),
         None => {}
     }
@@ -174,8 +163,7 @@ impl<'a, O: Order> Visitor for Asking<'a, O> {
 pub fn grant_all<O: Order>(order: &O, machine: &Machine, holders: &mut [Option<JobId>])
     requires { length holders.old ≡ length machine.now.list.set.resources }
     ensures len { length holders.new ≡ length holders.old }
-    ensures granted { Granted (scene_now (O.grant order.now machine.now) (O.run order.now machine.now) machine.now)
-        (length machine.now.list.set.tasks) (place_in (map place_seen holders.new)) }
+    ensures granted { AreGranted (O.grant order.now) (O.run order.now) machine.now holders.new }
 {
     keep_all(machine, holders);
     visit_each(&Asking { order }, machine, holders);
@@ -183,23 +171,17 @@ pub fn grant_all<O: Order>(order: &O, machine: &Machine, holders: &mut [Option<J
 
 /// Names a job, or none, in the column of processor `k`, counted from 1.
 pub fn put_on(running: &mut [Option<JobId>], k: u32, job: Option<JobId>)
-    requires least { 1 ≤ k }
-    requires most { k ≤ length running.old }
-    ensures len { length running.new ≡ length running.old }
-    ensures here { running_in (map place_seen running.new) k ≡ place_seen job }
-    ensures others { (r : ℕ) → (r ≡ k → ⊥) → running_in (map place_seen running.new) r ≡ running_in (map place_seen running.old) r }
-    ensures named { (n : ℕ) → NamesBelow n (map place_seen running.old) → IfSome job (λ j. j.0 < n) → NamesBelow n (map place_seen running.new) }
+    requires { HasColumn running.old k }
+    ensures { IsNamedAt running_in k job running.old running.new }
 {
     put(running, k as usize - 1, job);
 }
 
 /// The job that runs on processor `k`. The columns name only listed jobs.
 pub fn job_on(machine: &Machine, running: &[Option<JobId>], k: u32) -> Option<JobId>
-    requires least { 1 ≤ k }
-    requires most { k ≤ length running.now }
+    requires column { HasColumn running.now k }
     requires named { NamesBelow (length machine.now.list.jobs) (map place_seen running.now) }
-    ensures value { place_seen result ≡ running_in (map place_seen running.now) k }
-    ensures listed { IfSome result (λ j. j.0 < length machine.now.list.jobs) }
+    ensures { NamesJob machine.now.list (running_in (map place_seen running.now) k) result }
 {
     job_at(machine, running, k as usize - 1)
 }
@@ -234,8 +216,7 @@ fn faster<O: Order>(
     runner: Option<JobId>,
 ) -> Option<JobId>
     requires { AreRivals machine.now.list holders.now j.0 runner }
-    ensures value { NamesFaster (O.grant order.now) (O.run order.now) machine.now holders.now j.0 runner result }
-    ensures listed { IfSome result (λ i. i.0 < length machine.now.list.jobs) }
+    ensures { NamesFaster (O.grant order.now) (O.run order.now) machine.now holders.now j.0 runner result }
 {
     if may_run(machine, holders, j) && is_outrun(order, machine, holders, j, runner) {
         return Some(j);
@@ -253,11 +234,8 @@ fn enter<O: Order, C: Columns>(
     running: &mut [Option<JobId>],
 )
     requires suits { C.suits columns.now machine.now.list.set }
-    requires listed { j.0 < length machine.now.list.jobs }
-    requires places { AreRowPlaces machine.now.list holders.now (map place_seen running.old) }
-    ensures columns { AreColumns machine.now.list (map place_seen running.new) }
-    ensures entered { HasEntered (scene_on (C.column columns.now) (O.grant order.now) (O.run order.now) machine.now)
-        holders.now j.0 running.old running.new }
+    requires job { CanEnter machine.now.list holders.now j.0 (map place_seen running.old) }
+    ensures { HasEntered (C.column columns.now) (O.grant order.now) (O.run order.now) machine.now holders.now j.0 running.old running.new }
 {
     let k = columns.column_of(machine, j);
     let runner = job_on(machine, running, k);
@@ -287,8 +265,7 @@ impl<'a, O: Order, C: Columns> Visitor for Entering<'a, O, C> {
 
 /// Names no job at any place.
 pub fn clear(places: &mut [Option<JobId>])
-    ensures len { length places.new ≡ length places.old }
-    ensures empty { (i : ℕ) → i < length places.old → place_in (map place_seen places.new) i ≡ None }
+    ensures { AreCleared places.old places.new }
 {
     for i in 0..places.len() {
         put(places, i, None);
@@ -308,8 +285,7 @@ pub fn run_all<O: Order, C: Columns>(
     requires holders { length holders.now ≡ length machine.now.list.set.resources }
     requires len { length running.old ≡ machine.now.list.set.processors }
     ensures len { length running.new ≡ length running.old }
-    ensures placed { Placed (scene_in (C.column columns.now machine.now) (O.grant order.now machine.now) (O.run order.now machine.now) machine.now)
-        (place_in (map place_seen holders.now)) (length machine.now.list.set.tasks) (running_in (map place_seen running.new)) }
+    ensures placed { ArePlaced (C.column columns.now) (O.grant order.now) (O.run order.now) machine.now holders.now running.new }
 {
     clear(running);
     visit_each(
@@ -357,10 +333,8 @@ pub fn choose_ordered<O: Order, C: Columns>(
     requires suits { C.suits columns.now machine.now.list.set }
     requires sized { IsSized machine.now.list.set (row_seen row.old) }
     ensures sized { IsSized machine.now.list.set (row_seen row.new) }
-    ensures granted { Granted (scene_now (O.grant order.now machine.now) (O.run order.now machine.now) machine.now)
-        (length machine.now.list.set.tasks) (place_in (row_seen row.new).holders) }
-    ensures placed { Placed (scene_in (C.column columns.now machine.now) (O.grant order.now machine.now) (O.run order.now machine.now) machine.now)
-        (place_in (row_seen row.new).holders) (length machine.now.list.set.tasks) (running_in (row_seen row.new).running) }
+    ensures granted { AreGranted (O.grant order.now) (O.run order.now) machine.now row.new.holders.items }
+    ensures placed { ArePlaced (C.column columns.now) (O.grant order.now) (O.run order.now) machine.now row.new.holders.items row.new.running.items }
 {
     choose_row(&OrderedChoice { order, columns }, machine, row);
 }

@@ -2,7 +2,8 @@ ghost use Rattle.std.specs.Prelude.{◌≡◌, ℕ, ◌<◌, ◌≤◌, length, 
 ghost use Rattle.schedule_model.specs.Seen.{place_seen};
 ghost use Rattle.phase_machine.specs.MachineDef.{MachineDef};
 ghost use Rattle.shared_choosing.specs.Scene.{place_in, running_in};
-ghost use Rattle.shared_choosing.specs.Filling.{filled, Filled, FilledTwice, holder_claim, local_claim};
+ghost use Rattle.shared_choosing.specs.Filling.{filled, FilledByAll, FilledTwice, holder_claim, local_claim};
+ghost use Rattle.shared_choosing.specs.Given.{HasColumn, IsFilledAt};
 
 use crate::choosing::{clear, put};
 use crate::visiting::{Visitor, visit_each};
@@ -14,9 +15,7 @@ use schedule_model::JobId;
 /// Names the job at a place, if none is named there.
 pub fn fill(places: &mut [Option<JobId>], i: usize, j: JobId)
     requires { i < length places.old }
-    ensures len { length places.new ≡ length places.old }
-    ensures filled { (k : ℕ) → place_in (map place_seen places.new) k
-        ≡ filled j.0 (Some i) k (place_in (map place_seen places.old) k) }
+    ensures { IsFilledAt place_in i j.0 places.old places.new }
 {
     if named_at(places, i).is_none() {
         put(places, i, Some(j));
@@ -25,10 +24,8 @@ pub fn fill(places: &mut [Option<JobId>], i: usize, j: JobId)
 
 /// Names the job in the column of processor `k`, counted from 1, if none is named there.
 pub fn fill_on(running: &mut [Option<JobId>], k: u32, j: JobId)
-    requires least { 1 ≤ k }
-    requires most { k ≤ length running.old }
-    ensures len { length running.new ≡ length running.old }
-    ensures filled { (r : ℕ) → running_in (map place_seen running.new) r ≡ filled j.0 (Some k) r (running_in (map place_seen running.old) r) }
+    requires { HasColumn running.old k }
+    ensures { IsFilledAt running_in k j.0 running.old running.new }
 {
     fill(running, k as usize - 1, j);
 }
@@ -76,8 +73,7 @@ pub fn fill_each<C: Claim>(claim: &C, machine: &Machine, running: &mut [Option<J
     requires needs { C.needs claim.now machine.now }
     requires len { length running.old ≡ machine.now.list.set.processors }
     ensures len { length running.new ≡ length running.old }
-    ensures filled { Filled machine.now (C.claim claim.now machine.now) (running_in (map place_seen running.old))
-        (length machine.now.list.set.tasks) (running_in (map place_seen running.new)) }
+    ensures filled { FilledByAll machine.now (C.claim claim.now) (running_in (map place_seen running.old)) (running_in (map place_seen running.new)) }
 {
     visit_each(&Claiming { claim }, machine, running);
 }

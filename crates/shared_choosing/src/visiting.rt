@@ -2,8 +2,7 @@ ghost use Rattle.std.specs.Prelude.{◌≡◌, ℕ, ◌<◌, List, length, map, 
 ghost use Rattle.schedule_model.specs.Seen.{place_seen};
 ghost use Rattle.phase_machine.specs.MachineDef.{MachineDef, IsMachine};
 ghost use Rattle.phase_machine.specs.Now.{current_now};
-ghost use Rattle.shared_choosing.specs.Walks.{walked};
-ghost use Rattle.shared_choosing.specs.Given.{HasCome};
+ghost use Rattle.shared_choosing.specs.Given.{HasCome, HaveCome};
 
 use phase_machine::Machine;
 use phase_machine::lookup::tasks_of;
@@ -52,9 +51,7 @@ fn visit_current<V: Visitor>(
 pub fn visit_each<V: Visitor>(visitor: &V, machine: &Machine, places: &mut [Option<JobId>])
     requires needs { V.needs visitor.now machine.now (map place_seen places.old) }
     ensures needs { V.needs visitor.now machine.now (map place_seen places.new) }
-    ensures each { (k : ℕ) → V.view (map place_seen places.new) k
-        ≡ walked (V.step visitor.now machine.now) (current_now machine.now) (length machine.now.list.set.tasks) k
-        (V.view (map place_seen places.old) k) }
+    ensures each { HaveCome V.view (V.step visitor.now machine.now) machine.now places.old places.new }
     ensures machine { IsMachine machine.now }
 {
     for x in 0..tasks_of(machine) {

@@ -13,38 +13,20 @@ index-kept-requires c = omega (arith, kept_view-length c.self.inside, ap length 
 pub start_of-requires : goal.start_of-requires
 start_of-requires c = omega (arith, kept_view-length c.self.inside, ap length c.self.view_is, ap length c.deref.ensures.value)
 
-pub new-requires-clause-order : goal.new-requires-clause-order
-new-requires-clause-order c =
+pub new-requires : goal.new-requires
+new-requires c =
     let inside = c.self.inside in
     let j = c.args.j in
     let within : j < length (kept_view inside) = omega (arith, ap length c.self.view_is) in
     let start : c.start_of.result ≡ start_of 0 inside.jobs.items j =
     c.start_of.ensures ∙ ap (λ (js : List KeptJob). start_of 0 js j) c.deref.ensures.value in
-    omega (
-      arith,
-      (kept_view-at inside j c.index-kept.result.now c.self.invariant within).0,
-      start,
-      ap (λ (k : KeptJob). k.end) c.index-kept.ensures,
-    )
-
-pub new-requires-clause-within : goal.new-requires-clause-within
-new-requires-clause-within c =
-    let within : c.args.j < length (kept_view c.self.inside) = omega (arith, ap length c.self.view_is) in
-    omega (
-      arith,
-      (kept_view-at c.self.inside c.args.j c.index-kept.result.now c.self.invariant within).1,
-      ap (λ (k : KeptJob). k.end) c.index-kept.ensures,
-    )
-
-pub new-requires-clause-most : goal.new-requires-clause-most
-new-requires-clause-most c =
-    let within : c.args.j < length (kept_view c.self.inside) = omega (arith, ap length c.self.view_is) in
-    omega (
-      arith,
-      (kept_view-at c.self.inside c.args.j c.index-kept.result.now c.self.invariant within).1,
-      c.self.invariant.segments,
-      ap (λ (k : KeptJob). k.end) c.index-kept.ensures,
-    )
+    let bounds = kept_view-at inside j c.index-kept.result.now c.self.invariant within in
+    let end = ap (λ (k : KeptJob). k.end) c.index-kept.ensures in
+    record {
+      order = omega (arith, bounds.0, start, end);
+      within = omega (arith, bounds.1, end);
+      most = omega (arith, bounds.1, c.self.invariant.segments, end);
+    }
 
 pub returns : goal.returns
 returns c =
