@@ -1,6 +1,6 @@
-ghost use Rattle.std.specs.Prelude.{◌≡◌, ◌<◌, nat_lt, pos, ◌≤ℤ◌, length, map, All, IfSome};
-ghost use Rattle.program_sources.specs.Bounds.{IsInRange};
+ghost use Rattle.std.specs.Prelude.{◌≡◌, nat_lt, pos, ◌≤ℤ◌, map, All, IfSome};
 ghost use Rattle.program_sources.specs.Recurrence.{source_at};
+ghost use Rattle.response_fixpoint.specs.Given.{IsTaskServedAt};
 ghost use Rattle.response_fixpoint.specs.Solutions.{IsAhead};
 ghost use Rattle.refusal_laws.specs.Seen.{step_seen};
 ghost use Rattle.refusal_cert.specs.Answers.{GivesPointRun, WritesPoint, WritesStep};
@@ -72,9 +72,7 @@ pub fn run_task<P: ProgramSource>(
     ahead: Option<Result<Solution, SolveStop>>,
     steps: &mut Vec<RefusalStep>,
 ) -> Result<TaskRun, SolveStop>
-    requires serves { P.serves protocol.now set.now }
-    requires range { IsInRange set.now bounds.now }
-    requires task { i.0 < length set.now.tasks }
+    requires served { IsTaskServedAt (P.serves protocol.now) set.now bounds.now i.0 }
     requires program { program.now ≡ (P.source protocol.now set.now).program i.0 bounds.now }
     requires ahead { IfSome ahead (λ o. IsAhead program.now left o) }
     ensures { GivesPointRun result (source_at (P.source protocol.now) set.now) bounds.now i.0 left
