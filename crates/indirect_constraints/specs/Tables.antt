@@ -84,7 +84,7 @@ pub record AreTotalsAndNumbers (set : SetDef) (totals numbers : List ℕ) : Type
   pub on_processors : length totals ≡ set.processors + 1
   pub of_tasks : length numbers ≡ length set.tasks
 
--- Has each, so that there is room for requests that lower tasks hold? To each total and each number at most so many were added before.
+-- Have the totals of processors and the numbers of tasks room for more requests that lower tasks hold, after at most `added` to each?
 pub record HaveRoomAfter (set : SetDef) (added : ℕ) (totals numbers : List ℕ) : Type 0 where
   pub on_processors : AreAtMost (set.processors + 1) (4096000000000000 + added) totals
   pub of_tasks : AreAtMost (length set.tasks) (64000000000000 + added) numbers
