@@ -1,5 +1,5 @@
 -- What a search answers: the end of the run over unbounded fractions, as it is read from the last table.
-use Rattle.std.specs.Prelude.{◌≡◌, ◌⊎◌, ℕ, ◌+◌, ◌<◌, ◌≤◌, ◌^◌, List, length, slice_index, Some, None, Result, Ok, Err}
+use Rattle.std.specs.Prelude.{◌≡◌, ◌⊎◌, ℕ, ◌+◌, ◌<◌, ◌≤◌, ◌^◌, List, length, slice_index, Some, None, Result, Ok, Err, IfOk}
 use Rattle.std.specs.Prelude.{pos, ◌+ℤ◌, ◌*ℤ◌, ◌≤ℤ◌, ◌<ℤ◌}
 use Rattle.std.specs.declared.option.Option.{Option}
 use Rattle.fraction128.specs.Fraction.{Fraction, IsFloor}
@@ -121,3 +121,8 @@ Searches (Ok found) p units = (IsReadAt p found) × (found.used ≤ units)
 Searches (Err Memory) p units = Unit {0}
 Searches (Err Units) p units = NeedsMoreThan p units
 Searches (Err Lost) p units = (k : ℕ) × (t : Table) × (k < units) × (IsEndAfter p k t) × IsTooGreat p t
+
+-- What is answered at the end of a run that took so many units: it is what a search with as many, or with more, answers.
+pub record AnswersAtEnd (result : Result Found SearchStop) (p : ProgramDef) (used : ℕ) : Type 0 where
+  pub searches : (units : ℕ) → used ≤ units → Searches result p units
+  pub units : IfOk result (λ found. found.used ≡ used)

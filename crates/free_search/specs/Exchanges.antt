@@ -1,5 +1,6 @@
 -- What an exchange makes of the rows.
-use Rattle.std.specs.Prelude.{◌≡◌, ◌≢◌, ℕ, ◌<◌, ◌≤◌, List, length, slice_index, slice_set}
+use Rattle.std.specs.Prelude.{◌≡◌, ◌≢◌, ℕ, ◌<◌, ◌≤◌, List, length, slice_index, slice_set, Result, IfOk, OnOk}
+use Rattle.std.specs.declared.alloc.AllocError.{AllocError}
 use Rattle.whole_rows.specs.Rows.{RowDef, PivotDef, IsPivotOf}
 use Rattle.free_search.specs.Tables.{row_at}
 use Rattle.free_search.specs.Rows.{IsDividedRow, IsLeftRow}
@@ -15,6 +16,18 @@ pub record OnlyRowChanges (before : List RowDef) (r : ℕ) (after : List RowDef)
 pub record DividesRow (before : List RowDef) (k r : ℕ) (after : List RowDef) (taken : PivotDef) : Type 0 where
   pub divided : IsDividedRow (row_at before r) k (row_at after r)
   pub pivot : IsPivotOf taken (row_at after r)
+
+-- Is row r divided so and given as the pivot, unless memory runs out, and is no other row changed?
+pub record DividesOnly (result : Result PivotDef AllocError) (before : List RowDef) (k r : ℕ) (after : List RowDef) : Type 0 where
+  pub only : OnlyRowChanges before r after
+  pub divided : IfOk result (DividesRow before k r after)
+
+-- Is the pivot taken from row i, unless it is row r or memory runs out, and is no other row changed?
+pub record TakesFrom (result : Result (Unit {0}) AllocError) (before : List RowDef) (i k r : ℕ) (pivot : PivotDef) (after : List RowDef)
+    : Type 0 where
+  pub only : OnlyRowChanges before i after
+  pub own : i ≡ r → row_at after i ≡ row_at before i
+  pub left : OnOk result (i ≢ r → IsTaken (row_at before i) k pivot (row_at after i))
 
 -- Is each of the first n rows but r changed in this way, and are all others as they were?
 pub record AreTakenTo (n : ℕ) (before after : List RowDef) (k r : ℕ) (pivot : PivotDef) : Type 0 where

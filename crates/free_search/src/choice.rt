@@ -1,10 +1,10 @@
 //! Which variable enters the basis, and which row leaves it.
 
-ghost use Rattle.std.specs.Prelude.{◌≡◌, ℕ, ◌<◌, length, IfOk, IfSome};
+ghost use Rattle.std.specs.Prelude.{◌≡◌, length, Some, IfOk};
 ghost use Rattle.whole_rows.specs.Rows.{num_at};
-ghost use Rattle.free_search.specs.Tables.{HavePlaces, row_at};
+ghost use Rattle.free_search.specs.Tables.{row_at};
 ghost use Rattle.free_search.specs.Choice.{EntersAt, LeavesAmong, Comes, IsLesser, IsEarlier};
-ghost use Rattle.free_search.specs.Given.{IsRowAbove, CanCompareRows};
+ghost use Rattle.free_search.specs.Given.{ArePlaces, HasPlace, CanCompareRows, CanCompareWith};
 
 use crate::row::FreeRow;
 use std::alloc::{AllocError, Global};
@@ -13,8 +13,7 @@ use whole_numbers::Signed;
 
 // The one of two places whose variable is less.
 fn lesser(best: Option<usize>, other: usize, outside: &[usize]) -> usize
-    requires other { other < length outside.now }
-    requires best { IfSome best (λ k. k < length outside.now) }
+    requires { ArePlaces outside.now best other }
     ensures { IsLesser best other outside.now result }
 {
     match best {
@@ -45,8 +44,7 @@ pub(crate) fn entering(nums: &[Signed], outside: &[usize]) -> Option<usize>
 
 // The number of row i at place k.
 fn num_of(rows: &[FreeRow], i: usize, k: usize) -> &Signed
-    requires row { i < length rows.now }
-    requires place { (n : ℕ) × (k < n) × HavePlaces n rows.now }
+    requires { HasPlace rows.now i k }
     ensures { result.now ≡ num_at (row_at rows.now i) k }
 {
     rows[i].num(k)
@@ -62,9 +60,7 @@ fn comes_before(
     i: usize,
     j: usize,
 ) -> Result<bool, AllocError>
-    requires rows { CanCompareRows rows.now basis.now k }
-    requires one { IsRowAbove rows.now k i }
-    requires other { IsRowAbove rows.now k j }
+    requires { CanCompareWith rows.now basis.now k (Some j) i }
     ensures { IfOk result (λ comes. Comes comes rows.now basis.now k i j) }
 {
     let ratio = rows[i]
@@ -91,9 +87,7 @@ fn earlier(
     best: Option<usize>,
     i: usize,
 ) -> Result<usize, AllocError>
-    requires rows { CanCompareRows rows.now basis.now k }
-    requires one { IsRowAbove rows.now k i }
-    requires best { IfSome best (IsRowAbove rows.now k) }
+    requires { CanCompareWith rows.now basis.now k best i }
     ensures { IfOk result (IsEarlier rows.now basis.now k best i) }
 {
     match best {

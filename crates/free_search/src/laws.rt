@@ -20,11 +20,9 @@ pub fn what_is_found_is_best()
         → IsEndAfter p k t → IsFloor (value_of p t) (pos n) → IsGreatestReached p n }
     ensures one { (p : ProgramDef) (k j : ℕ) (t u : Table) (m n : ℕ) → IsEndAfter p k t → IsEndAfter p j u
         → IsFloor (value_of p t) (pos m) → IsFloor (value_of p u) (pos n) → m ≡ n }
-    ensures point { (p : ProgramDef) (k : ℕ) (t : Table) (den : ℕ) (num : List ℕ) (n : ℕ)
-        → IsEndAfter p k t → IsPointOf p t den num → IsFloor (value_of p t) (pos n)
-        → IsScaledPoint p den (slice_index num) × (n * den ≤ worth p (slice_index num)) }
-    ensures covers { (p : ProgramDef) (k : ℕ) (t : Table) (d : DualDef)
-        → IsEndAfter p k t → IsRoundedDual p t d → IsFeasibleDual p d }
+    ensures point { (p : ProgramDef) (k : ℕ) (t : Table) (den : ℕ) (num : List ℕ) (n : ℕ) → IsEndAfter p k t → IsPointOf p t den num
+        → IsFloor (value_of p t) (pos n) → IsScaledPoint p den (slice_index num) × (n * den ≤ worth p (slice_index num)) }
+    ensures covers { (p : ProgramDef) (k : ℕ) (t : Table) (d : DualDef) → IsEndAfter p k t → IsRoundedDual p t d → IsFeasibleDual p d }
 {}
 
 /// A program's run ends in one way, whatever fractions stand in its tables. So one dual is written. If one is written, then no end has a

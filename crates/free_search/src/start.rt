@@ -1,11 +1,11 @@
 //! The first table.
 
-ghost use Rattle.std.specs.Prelude.{◌≡◌, ℕ, ◌+◌, ◌<◌, ◌^◌, pos, length, slice_index_or, IfOk};
+ghost use Rattle.std.specs.Prelude.{◌+◌, ◌<◌, ◌^◌, IfOk};
 ghost use Rattle.program_form.specs.Program.{height};
-ghost use Rattle.program_form.specs.SparseRows.{AreCoefficients};
 ghost use Rattle.whole_runs.specs.Starts.{IsFirstRow, IsCostRow};
 ghost use Rattle.whole_runs.specs.Writing.{AreWritten};
 ghost use Rattle.free_search.specs.Begun.{AreZeros, AreCounted, AreRowsOf, IsFirstTable};
+ghost use Rattle.free_search.specs.Given.{CanWriteAll};
 
 use crate::row::FreeRow;
 use crate::tableau::Tableau;
@@ -26,8 +26,7 @@ fn zeros(alloc: Global, count: usize) -> Result<Vec<Signed>, AllocError>
 
 // Writes the coefficients at their columns.
 fn write_all(alloc: Global, nums: &mut [Signed], coefficients: &[Coefficient])
-    requires listed { AreCoefficients (length nums.old) coefficients.now }
-    requires zero { (v : ℕ) → slice_index_or nums.old v (pos 0) ≡ pos 0 }
+    requires { CanWriteAll nums.old coefficients.now }
     ensures { AreWritten nums.old coefficients.now nums.new }
 {
     for coefficient in coefficients {

@@ -1,8 +1,8 @@
 //! A step of the run, and its end.
 
-ghost use Rattle.std.specs.Prelude.{◌≡◌, ℕ, suc, ◌+◌, ◌≤◌, IfOk, OnOk, None};
-ghost use Rattle.free_search.specs.Choice.{EntersAt, IsLeastPlace};
-ghost use Rattle.free_search.specs.Ends.{Searches};
+ghost use Rattle.std.specs.Prelude.{ℕ, suc, OnOk};
+ghost use Rattle.free_search.specs.Given.{CanStep, HasEnded};
+ghost use Rattle.free_search.specs.Ends.{AnswersAtEnd};
 ghost use Rattle.free_search.specs.Tables.{IsAfter};
 
 use crate::choice::leaving;
@@ -19,8 +19,7 @@ pub(crate) fn step(
     tableau: &mut Tableau,
     k: usize,
 ) -> Result<(), AllocError>
-    requires after { (n : ℕ) × IsAfter program.now n tableau.old }
-    requires enters { IsLeastPlace tableau.old.objective.nums tableau.old.outside.items k }
+    requires { CanStep program.now tableau.old k }
     ensures { OnOk result ((n : ℕ) → IsAfter program.now n tableau.old → IsAfter program.now (suc n) tableau.new) }
 {
     // a proof knows that it is a program once it is read
@@ -39,10 +38,8 @@ pub(crate) fn answer_at_end(
     tableau: &Tableau,
     used: u64,
 ) -> Result<Found, SearchStop>
-    requires after { (n : ℕ) × (used ≡ n + 1) × IsAfter program.now n tableau.now }
-    requires last { EntersAt None tableau.now.objective.nums tableau.now.outside.items }
-    ensures searches { (units : ℕ) → used ≤ units → Searches result program.now units }
-    ensures used { IfOk result (λ f. f.used ≡ used) }
+    requires { HasEnded program.now tableau.now used }
+    ensures { AnswersAtEnd result program.now used }
 {
     finish(alloc, program, tableau, used)
 }

@@ -1,11 +1,11 @@
 //! The table of a run, and its exchanges.
 
-ghost use Rattle.std.specs.Prelude.{◌≡◌, ◌≢◌, ℕ, ◌<◌, length, IfOk, OnOk};
+ghost use Rattle.std.specs.Prelude.{ℕ, ◌<◌, length, IfOk, OnOk};
 ghost use Rattle.whole_rows.specs.Rows.{AreBelow};
-ghost use Rattle.free_search.specs.Tables.{HavePlaces, row_at};
+ghost use Rattle.free_search.specs.Tables.{HavePlaces};
 ghost use Rattle.free_search.specs.RowSteps.{ChangesRow, CanTake, IsTaken};
-ghost use Rattle.free_search.specs.Given.{IsRowAbove, CanExchange};
-ghost use Rattle.free_search.specs.Exchanges.{OnlyRowChanges, DividesRow, IsExchanged, AreTakenTo, ExchangesRows};
+ghost use Rattle.free_search.specs.Given.{CanDivideRow, CanTakeFrom, CanExchangeRows, CanExchange};
+ghost use Rattle.free_search.specs.Exchanges.{DividesOnly, TakesFrom, IsExchanged, AreTakenTo, ExchangesRows};
 
 use crate::row::{FreeRow, Pivot};
 use std::alloc::{AllocError, Global};
@@ -38,10 +38,8 @@ fn take_from(alloc: Global, row: &mut FreeRow, k: usize, pivot: &Pivot) -> Resul
 
 // Divides row r by its number at place k, and reads it as the pivot.
 fn divide(alloc: Global, rows: &mut [FreeRow], k: usize, r: usize) -> Result<Pivot, AllocError>
-    requires row { IsRowAbove rows.old k r }
-    requires place { k < length (row_at rows.old r).nums }
-    ensures only { OnlyRowChanges rows.old r rows.new }
-    ensures divided { IfOk result (DividesRow rows.old k r rows.new) }
+    requires { CanDivideRow rows.old k r }
+    ensures { DividesOnly result rows.old k r rows.new }
 {
     rows[r].enter(alloc, k)?;
     Pivot::of(alloc, &rows[r])
@@ -56,11 +54,8 @@ fn take_row(
     r: usize,
     pivot: &Pivot,
 ) -> Result<(), AllocError>
-    requires row { i < length rows.old }
-    requires pivot { CanTake (row_at rows.old i) k pivot.now }
-    ensures only { OnlyRowChanges rows.old i rows.new }
-    ensures own { i ≡ r → row_at rows.new i ≡ row_at rows.old i }
-    ensures left { OnOk result (i ≢ r → IsTaken (row_at rows.old i) k pivot.now (row_at rows.new i)) }
+    requires { CanTakeFrom rows.old i k pivot.now }
+    ensures { TakesFrom result rows.old i k r pivot.now rows.new }
 {
     if i == r {
         return Ok(());
@@ -92,8 +87,7 @@ fn exchange_rows(
     k: usize,
     r: usize,
 ) -> Result<Pivot, AllocError>
-    requires row { IsRowAbove rows.old k r }
-    requires place { (n : ℕ) × (k < n) × HavePlaces n rows.old }
+    requires { CanExchangeRows rows.old k r }
     ensures { IfOk result (λ pivot. ExchangesRows rows.old rows.new k r pivot) }
 {
     let pivot = divide(alloc, rows, k, r)?;

@@ -20,17 +20,14 @@ finish-requires c =
       limits = limits_not_below p n t h.stands h.are h.reached;
     }
 
-pub returns-clause-searches : goal.returns-clause-searches
-returns-clause-searches c = λ units within.
+pub returns : goal.returns
+returns c =
     let p = c.args.program.now in
     let t = c.args.tableau.now in
     let h = c.requires.after.2 in
-    finished c.finish.result p c.requires.after.0 units c.args.used t h c.requires.after.1 within
-    (last_seen p t h.stands h.are c.requires.last) (c.finish.ensures h.stands h.are)
-
-pub returns-clause-used : goal.returns-clause-used
-returns-clause-used c =
-    let p = c.args.program.now in
-    let t = c.args.tableau.now in
-    let h = c.requires.after.2 in
-    finished_used c.finish.result p (table_with p t h.stands) c.args.used (c.finish.ensures h.stands h.are)
+    record {
+      searches = λ units within.
+          finished c.finish.result p c.requires.after.0 units c.args.used t h c.requires.after.1 within
+          (last_seen p t h.stands h.are c.requires.last) (c.finish.ensures h.stands h.are);
+      units = finished_used c.finish.result p (table_with p t h.stands) c.args.used (c.finish.ensures h.stands h.are);
+    }
