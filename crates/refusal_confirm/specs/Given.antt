@@ -1,6 +1,7 @@
 -- What the tests of points are given.
 use Rattle.std.specs.Prelude.{◌≡◌, ℕ, ◌+◌, ◌<◌, ◌≤◌, List, length}
-use Rattle.program_form.specs.Program.{ProgramDef}
+use Rattle.program_form.specs.Certificate.{DualDef}
+use Rattle.program_form.specs.Program.{ProgramDef, height}
 use Rattle.program_sources.specs.Bounds.{IsInRange}
 use Rattle.program_sources.specs.Recurrence.{SourceDef}
 use Rattle.refusal_laws.specs.Steps.{StepDef, HasDenominators, place_of}
@@ -8,6 +9,16 @@ use Rattle.refusal_confirm.specs.Batches.{IsTrial, AreTrials}
 use Rattle.refusal_confirm.specs.Tests.{HasSize}
 use Rattle.refusal_confirm.specs.declared.batches.Trial.{Trial}
 use Rattle.sporadic_model.specs.SetDef.{SetDef}
+
+-- Has the point a number for each column of the program, and is r one of its rows?
+pub record HasSizeForRow (p : ProgramDef) (point : DualDef) (r : ℕ) : Type 0 where
+  pub row : r < height p
+  pub size : HasSize p point
+
+-- Has it these numbers, over a denominator of at least 1?
+pub record IsPointFor (p : ProgramDef) (point : DualDef) : Type 0 where
+  pub denominator : 1 ≤ point.den
+  pub size : HasSize p point
 
 -- Is it a step of task i of the set whose point has a denominator, and are the bounds ones at which a program can be made?
 pub record IsStepOf (set : SetDef) (i : ℕ) (bounds : List ℕ) (s : StepDef) : Type 0 where

@@ -1,5 +1,5 @@
 -- How far a walk over a refusal's steps is.
-use Rattle.std.specs.Prelude.{◌≡◌, ℕ, ◌+◌, ◌<◌, List, Bool, true, false}
+use Rattle.std.specs.Prelude.{◌≡◌, ℕ, ◌+◌, ◌<◌, List, Bool, true, false, length}
 use Rattle.sporadic_model.specs.SetDef.{SetDef}
 use Rattle.program_sources.specs.Bounds.{IsInRange}
 use Rattle.refusal_laws.specs.Steps.{StepDef, step_at, costs_of, vector_before, PassesLatest}
@@ -26,3 +26,13 @@ pub record HasComeTo (set : SetDef) (steps : List StepDef) (k : ℕ) (v : List �
   pub entered : (j : ℕ) → j < k → IsEntered set steps j
   pub range : IsInRange set v
   pub stands : StandsAt over set steps k v
+
+-- Is there a step k to which a walk has come so?
+pub record HasComeToStep (set : SetDef) (steps : List StepDef) (k : ℕ) (v : List ℕ) (over : Bool) : Type 0 where
+  pub within : k < length steps
+  pub come : HasComeTo set steps k v over
+
+-- Have the bounds a place for each task of the set, and is i one of these?
+pub record CanTake (set : SetDef) (v : List ℕ) (i : ℕ) : Type 0 where
+  pub task : i < length set.tasks
+  pub size : length v ≡ length set.tasks

@@ -3,11 +3,11 @@
 ghost use Rattle.std.specs.Prelude.{◌≡◌, ◌+◌, ◌<◌, ◌^◌, length, map, slice_get, Some, IfOk};
 ghost use Rattle.program_sources.specs.Recurrence.{source_at};
 ghost use Rattle.refusal_laws.specs.Seen.{step_seen};
-ghost use Rattle.refusal_confirm.specs.Walks.{HasComeTo};
+ghost use Rattle.refusal_confirm.specs.Walks.{HasComeToStep};
 ghost use Rattle.refusal_confirm.specs.Batches.{IsBatch, SaysOf, AreAllTested, IsFirstFault};
 ghost use Rattle.refusal_confirm.specs.Given.{IsTestable, AreTestable};
 
-use crate::fault::{Fault, Part, named};
+use crate::fault::{Fault, Part, fault_of};
 use crate::points::fault_of_point;
 use crate::walk::{Walk, enter, take};
 use program_sources::ProgramSource;
@@ -49,8 +49,7 @@ pub(crate) fn next_batch(
     steps: &[RefusalStep],
     start: usize,
 ) -> Result<Batch, AllocError>
-    requires within { start < length steps.now }
-    requires come { HasComeTo set.now (map step_seen steps.now) start walk.old.bounds.items walk.old.is_over }
+    requires { HasComeToStep set.now (map step_seen steps.now) start walk.old.bounds.items walk.old.is_over }
     ensures { IfOk result (λ b. IsBatch set.now (map step_seen steps.now) start b.trials.items b.stop
         walk.new.bounds.items walk.new.is_over) }
 {
@@ -150,7 +149,7 @@ pub(crate) fn first_fault(
     for j in 0..tested.len() {
         match tested[j] {
             Ok(None) => {}
-            Ok(Some(part)) => return Err(named(part, (start + j) as u64 + 1)),
+            Ok(Some(part)) => return Err(fault_of(part, (start + j) as u64 + 1)),
             Err(AllocError) => return Err(Fault::Memory),
         }
     }

@@ -6,7 +6,7 @@ ghost use Rattle.refusal_laws.specs.Seen.{step_seen, steps_seen};
 ghost use Rattle.refusal_confirm.specs.Faults.{IsFault, Confirms, Names};
 
 use crate::batches::{first_fault, next_batch, test_batch};
-use crate::fault::{Fault, named};
+use crate::fault::{Fault, fault_of};
 use crate::laws::faults_are_exact;
 use crate::walk::start;
 use program_sources::ProgramSource;
@@ -50,7 +50,7 @@ fn confirm_in_batches<R: Threads + Sync, P: ProgramSource + Sync>(
         }
         done += batch.trials.len();
         if let Some(part) = batch.stop {
-            return Err(named(part, done as u64 + 1));
+            return Err(fault_of(part, done as u64 + 1));
         }
     }
     if walk.is_over {

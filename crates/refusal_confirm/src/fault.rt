@@ -46,7 +46,7 @@ pub enum Part {
 }
 
 /// The fault of this step, counted from 1, if it fails the test.
-pub(crate) fn named(part: Part, step: u64) -> Fault
+pub(crate) fn fault_of(part: Part, step: u64) -> Fault
     ensures { result ≡ fault_of part step }
 {
     match part {

@@ -58,8 +58,7 @@ pub fn fault_of_point<P: ProgramSource>(
     requires place { task.0 ≡ place_of (step_seen step.now) }
     requires range { IsInRange set.now bounds.now }
     requires denominator { 1 ≤ step.now.point.den }
-    ensures { IfOk result (λ part.
-        FindsPart part (source_at (P.source protocol.now) set.now) bounds.now (step_seen step.now)) }
+    ensures { IfOk result (λ part. FindsPart part (source_at (P.source protocol.now) set.now) bounds.now (step_seen step.now)) }
 {
     let program = protocol.sparse_program(alloc, set, task, bounds)?;
     if step.point.num.len() != program.columns() as usize {

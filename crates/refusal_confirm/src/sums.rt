@@ -1,14 +1,15 @@
 //! Sums over the columns of a program. They stop growing once they are above what they are compared with.
 
-ghost use Rattle.std.specs.Prelude.{◌≡◌, ◌*◌, ◌<◌, ◌≤◌, ◌↔◌, IsTrue, min, length, slice_index};
+ghost use Rattle.std.specs.Prelude.{◌≡◌, ◌*◌, ◌≤◌, ◌↔◌, IsTrue, min, length, slice_index};
 ghost use Rattle.number_laws.specs.Sums.{sum_below};
 ghost use Rattle.program_form.specs.Certificate.{dual_seen};
-ghost use Rattle.program_form.specs.Program.{columns, height};
+ghost use Rattle.program_form.specs.Program.{columns};
 ghost use Rattle.program_form.specs.SparseRows.{number_at, AreCoefficients};
 ghost use Rattle.program_form.specs.Points.{worth};
 ghost use Rattle.refusal_laws.specs.Steps.{whole_worth};
-ghost use Rattle.refusal_confirm.specs.Tests.{HasSize, KeepsRow};
+ghost use Rattle.refusal_confirm.specs.Tests.{KeepsRow};
 ghost use Rattle.refusal_confirm.specs.Sums.{IsProduct};
+ghost use Rattle.refusal_confirm.specs.Given.{IsPointFor, HasSizeForRow};
 
 use program_form::{Coefficient, Dual, SparseProgram};
 
@@ -46,8 +47,7 @@ fn worth_sum(program: &SparseProgram, num: &[u64], most: u128) -> u128
 
 /// Does the point keep the row: is the row's sum at most the limit times the denominator?
 pub(crate) fn keeps_row(program: &SparseProgram, point: &Dual, row: u32) -> bool
-    requires row { row < height program.now }
-    requires size { HasSize program.now (dual_seen point.now) }
+    requires { HasSizeForRow program.now (dual_seen point.now) row }
     ensures { IsTrue result ↔ KeepsRow program.now (dual_seen point.now) row }
 {
     let due = product(point.den, program.limit(row));
@@ -56,8 +56,7 @@ pub(crate) fn keeps_row(program: &SparseProgram, point: &Dual, row: u32) -> bool
 
 /// Is the point worth at least this many whole ticks?
 pub(crate) fn is_worth(program: &SparseProgram, point: &Dual, ticks: u64) -> bool
-    requires denominator { 1 ≤ point.now.den }
-    requires size { HasSize program.now (dual_seen point.now) }
+    requires { IsPointFor program.now (dual_seen point.now) }
     ensures { IsTrue result ↔ (ticks ≤ whole_worth program.now (dual_seen point.now)) }
 {
     let due = product(ticks, point.den);

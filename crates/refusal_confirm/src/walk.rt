@@ -3,7 +3,7 @@
 ghost use Rattle.std.specs.Prelude.{◌≡◌, ◌<◌, length, slice_set, IfOk};
 ghost use Rattle.refusal_laws.specs.Seen.{step_seen};
 ghost use Rattle.refusal_confirm.specs.Parts.{Enters, Takes};
-ghost use Rattle.refusal_confirm.specs.Walks.{AreFirstBounds, IsAtStart};
+ghost use Rattle.refusal_confirm.specs.Walks.{AreFirstBounds, IsAtStart, CanTake};
 
 use crate::fault::Part;
 use refusal_laws::RefusalStep;
@@ -67,8 +67,7 @@ fn put(bounds: &mut [u64], i: usize, value: u64)
 
 /// Takes a step of the task to this value.
 pub(crate) fn take(walk: &mut Walk, set: &TaskSet, task: TaskId, value: u64)
-    requires task { task.0 < length set.now.tasks }
-    requires size { length walk.old.bounds.items ≡ length set.now.tasks }
+    requires { CanTake set.now walk.old.bounds.items task.0 }
     ensures { Takes walk.new.is_over walk.new.bounds.items set.now walk.old.bounds.items task.0 value }
 {
     walk.is_over = value > set.latest_bound(task);

@@ -56,7 +56,7 @@ returns-in-Some g c =
     let stops : StopsAt (Some c.in-Some.part) f.set steps start (start + n) v over =
     rw (c.in-Some.is) at batch.stops in
     let count : c.len-done.result ≡ n = omega (arith, c.len-done.ensures, c.in_ok-batch.batch.trials.ok) in
-    rw (c.named.ensures, count) (stop_is_fault c.in-Some.part f steps (start + n) v over passed batch.come stops.0 stops.1)
+    rw (c.fault_of.ensures, count) (stop_is_fault c.in-Some.part f steps (start + n) v over passed batch.come stops.0 stops.1)
 
 pub loop-done-preserved : goal.loop-done-preserved
 loop-done-preserved g c =
