@@ -9,15 +9,13 @@ ghost use Rattle.refusal_cert.specs.Refuting.{refuting, AreWritable};
 
 /// The rounds of refusals end in one way only.
 pub fn the_rounds_of_refusals_have_one_ending()
-    ensures { (f : SourceDef) (allowance : ℕ) (e g : Ending)
-        → EndsIn (refuting f) allowance e → EndsIn (refuting f) allowance g → e ≡ g }
+    ensures { (f : SourceDef) (allowance : ℕ) (e g : Ending) → EndsIn (refuting f) allowance e → EndsIn (refuting f) allowance g → e ≡ g }
 {}
 
 /// They come to a task that isn't shown, or to bounds that fit, if and only if an analysis does and the point of each step of its
 /// rounds can be written.
 pub fn refutations_follow_analyses()
-    ensures refused { (f : SourceDef) (allowance i value : ℕ)
-        → EndsIn (refuting f) allowance (NotShown i value)
+    ensures refused { (f : SourceDef) (allowance i value : ℕ) → EndsIn (refuting f) allowance (NotShown i value)
         ↔ ((EndsIn (rounds_of f) allowance (NotShown i value)) × AreWritable f allowance) }
     ensures schedulable { (f : SourceDef) (allowance : ℕ) (bounds : List ℕ)
         → ((points : List DualDef) × EndsIn (refuting f) allowance (Schedulable bounds points))

@@ -47,7 +47,7 @@ returns-in-Err-take_run g c =
     value_halts f c.args.bounds.now c.args.left c.loop-i.i c.latest_bound.result (map step_seen c.args.steps.now.items)
     (map step_seen c.loop-i.steps.items) (map step_seen c.run_task-ran.new.steps.items) c.loop-i.round c.take_run.new.round
     c.in_ok-planned.planned.program c.in-Ok.run' c.in-Err-take_run.stop (omega arith) c.latest_bound.ensures.value
-    (c.requires.range.to_latest c.loop-i.i (omega arith)) c.loop-i.invariant.found c.in-Ok.ensures c.in-Err-take_run.ensures
+    (c.requires.served.range.to_latest c.loop-i.i (omega arith)) c.loop-i.invariant.found c.in-Ok.ensures c.in-Err-take_run.ensures
 
 pub loop-i-preserved : goal.loop-i-preserved
 loop-i-preserved g c =
