@@ -1,5 +1,5 @@
 -- What the answers of a refutation mean.
-use Rattle.std.specs.Prelude.{◌≡◌, ℕ, ◌<◌, ◌≤◌, List, [], ◌∷◌, ◌++◌, slice_index, Result, Ok, Err, Vec}
+use Rattle.std.specs.Prelude.{◌≡◌, ℕ, ◌<◌, ◌≤◌, List, [], ◌∷◌, ◌++◌, map, slice_index, Result, Ok, Err, Vec}
 use Rattle.std.specs.Global.{Global}
 use Rattle.fraction128.specs.Fraction.{Fraction}
 use Rattle.program_form.specs.Certificate.{DualDef, dual_seen}
@@ -9,7 +9,7 @@ use Rattle.program_sources.specs.Fitting.{AreFitting, tasks_of, latest_of}
 use Rattle.simplex.specs.declared.SolveStop.{SolveStop}
 use Rattle.simplex.specs.declared.SolveStop.TheVariants as solve_stop
 use Rattle.refusal_laws.specs.Steps.{StepDef, Holds}
-use Rattle.refusal_laws.specs.Seen.{steps_seen}
+use Rattle.refusal_laws.specs.Seen.{step_seen, steps_seen}
 use Rattle.refusal_laws.specs.declared.refusal.RefusalStep.{RefusalStep}
 use Rattle.response_fixpoint.specs.Rounds.{Valued, TooWide, OutOfUnits, Ending, Schedulable, NotShown, Wide, Allowance}
 use Rattle.response_fixpoint.specs.Rounds.{Found, Passes, EndsIn}
@@ -69,6 +69,10 @@ FollowsAnalysis (Ok (answer.Refused refusal)) f allowance = (EndsLate f allowanc
 FollowsAnalysis (Ok answer.Schedulable) f allowance = (EndsFitting f allowance) × (EndsLate f allowance → ⊥)
 FollowsAnalysis (Err stop.Memory) f allowance = Unit {0}
 FollowsAnalysis (Err e) f allowance = (EndsLate f allowance → ⊥) × (EndsFitting f allowance → ⊥)
+
+-- What contracts see of steps.
+abbrev pub seen : List RefusalStep → List StepDef
+seen steps = map step_seen steps
 
 -- What writing the best point of a run gives.
 abbrev pub WritesPoint : Result Dual SolveStop → List Fraction → Type 0

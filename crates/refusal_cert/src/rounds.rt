@@ -1,10 +1,8 @@
-ghost use Rattle.std.specs.Prelude.{map};
 ghost use Rattle.program_sources.specs.Recurrence.{source_at};
 ghost use Rattle.response_fixpoint.specs.Given.{IsServedAt};
 ghost use Rattle.response_fixpoint.specs.Places.{AreEach};
 ghost use Rattle.response_fixpoint.specs.Solutions.{IsPlanned};
-ghost use Rattle.refusal_laws.specs.Seen.{step_seen};
-ghost use Rattle.refusal_cert.specs.Answers.{GivesRound};
+ghost use Rattle.refusal_cert.specs.Answers.{GivesRound, seen};
 
 use crate::task_run::run_task;
 use program_sources::ProgramSource;
@@ -27,8 +25,7 @@ pub fn take_round<P: ProgramSource>(
 ) -> Result<Round, RoundStop>
     requires served { IsServedAt (P.serves protocol.now) set.now bounds.now }
     requires plan { AreEach (IsPlanned (source_at (P.source protocol.now) set.now) bounds.now left) 0 plan.items }
-    ensures { GivesRound result (source_at (P.source protocol.now) set.now) bounds.now left
-        (map step_seen steps.old.items) (map step_seen steps.new.items) }
+    ensures { GivesRound result (source_at (P.source protocol.now) set.now) bounds.now left (seen steps.old.items) (seen steps.new.items) }
 {
     let mut round = Round {
         used: 0,

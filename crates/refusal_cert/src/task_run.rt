@@ -1,9 +1,8 @@
-ghost use Rattle.std.specs.Prelude.{◌≡◌, nat_lt, pos, ◌≤ℤ◌, map, All, IfSome};
+ghost use Rattle.std.specs.Prelude.{◌≡◌, nat_lt, pos, ◌≤ℤ◌, All, IfSome};
 ghost use Rattle.program_sources.specs.Recurrence.{source_at};
 ghost use Rattle.response_fixpoint.specs.Given.{IsTaskServedAt};
 ghost use Rattle.response_fixpoint.specs.Solutions.{IsAhead};
-ghost use Rattle.refusal_laws.specs.Seen.{step_seen};
-ghost use Rattle.refusal_cert.specs.Answers.{GivesPointRun, WritesPoint, WritesStep};
+ghost use Rattle.refusal_cert.specs.Answers.{GivesPointRun, WritesPoint, WritesStep, seen};
 
 use fraction128::{Frac, Scaled, ScalingError, scale};
 use program_form::Dual;
@@ -43,7 +42,7 @@ fn write_step(
     best: &[Frac],
 ) -> Result<(), SolveStop>
     requires { All (λ f. pos 0 ≤ℤ f.num) best.now }
-    ensures { WritesStep result (map step_seen steps.old.items) (map step_seen steps.new.items) bound task.0 value best.now }
+    ensures { WritesStep result (seen steps.old.items) (seen steps.new.items) bound task.0 value best.now }
 {
     if !gives_step(bound, value) {
         return Ok(());
@@ -75,8 +74,7 @@ pub fn run_task<P: ProgramSource>(
     requires served { IsTaskServedAt (P.serves protocol.now) set.now bounds.now i.0 }
     requires program { program.now ≡ (P.source protocol.now set.now).program i.0 bounds.now }
     requires ahead { IfSome ahead (λ o. IsAhead program.now left o) }
-    ensures { GivesPointRun result (source_at (P.source protocol.now) set.now) bounds.now i.0 left
-        (map step_seen steps.old.items) (map step_seen steps.new.items) }
+    ensures { GivesPointRun result (source_at (P.source protocol.now) set.now) bounds.now i.0 left (seen steps.old.items) (seen steps.new.items) }
 {
     let ran = response_fixpoint::run_task(alloc, set, protocol, i, bounds, program, left, ahead);
     let run = match ran {
