@@ -27,10 +27,6 @@ struct LowerWaits;
 impl RowKind for LowerWaits {
     ghost row_of = { λ k set i. lower_wait_row set i };
 
-    ghost fits = { λ k set. Unit {0} };
-
-    ghost over = { λ k set i c. Unit {0} };
-
     fn coefficient(&self, set: &TaskSet, i: TaskId, column: Fragment) -> u64 {
         let here = home(set, column.resource) == set.processor(i);
         if i < column.task && !column.class.is_preemption() && here {

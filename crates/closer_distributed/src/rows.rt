@@ -28,10 +28,6 @@ struct HomeTaskRow {
 impl RowKind for HomeTaskRow {
     ghost row_of = { λ k set i. home_task_row set i k.processor };
 
-    ghost fits = { λ k set. Unit {0} };
-
-    ghost over = { λ k set i c. Unit {0} };
-
     fn coefficient(&self, set: &TaskSet, _i: TaskId, column: Fragment) -> u64 {
         let own = set.processor(column.task) == self.processor;
         if own && !column.class.is_preemption() && home(set, column.resource) == self.processor {
@@ -139,10 +135,6 @@ struct LowerPreemption;
 
 impl RowKind for LowerPreemption {
     ghost row_of = { λ k set i. lower_preemption_row set i };
-
-    ghost fits = { λ k set. Unit {0} };
-
-    ghost over = { λ k set i c. Unit {0} };
 
     fn coefficient(&self, set: &TaskSet, i: TaskId, column: Fragment) -> u64 {
         if column.class.is_preemption() && lower_local(set, i, column.task) {

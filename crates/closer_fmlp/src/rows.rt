@@ -174,10 +174,6 @@ struct LocalWaitRow;
 impl RowKind for LocalWaitRow {
     ghost row_of = { λ k. local_wait_row };
 
-    ghost fits = { λ k set. Unit {0} };
-
-    ghost over = { λ k set i c. Unit {0} };
-
     fn coefficient(&self, set: &TaskSet, i: TaskId, column: Fragment) -> u64 {
         if column.class.is_direct() && !is_shared_out(set, i, column.resource) {
             1
@@ -199,10 +195,6 @@ struct LocalRunnerRow;
 
 impl RowKind for LocalRunnerRow {
     ghost row_of = { λ k. local_runner_row };
-
-    ghost fits = { λ k set. Unit {0} };
-
-    ghost over = { λ k set i c. Unit {0} };
 
     fn coefficient(&self, set: &TaskSet, _i: TaskId, column: Fragment) -> u64 {
         if column.class.is_indirect() && !is_shared_out(set, column.task, column.resource) {

@@ -245,10 +245,6 @@ struct LowerWaitRow;
 impl RowKind for LowerWaitRow {
     ghost row_of = { λ k. lower_wait_row };
 
-    ghost fits = { λ k set. Unit {0} };
-
-    ghost over = { λ k set i c. Unit {0} };
-
     fn coefficient(&self, set: &TaskSet, i: TaskId, column: Fragment) -> u64 {
         if column.class.is_direct() && lower_local(set, i, column.task) {
             1

@@ -147,8 +147,6 @@ struct TogetherRow {
 impl RowKind for TogetherRow {
     ghost row_of = { λ k set i. row_together set i k.processor k.without };
 
-    ghost fits = { λ k set. Unit {0} };
-
     ghost over = { λ k set i c. AreTold set i k.processor k.without k.table.items };
 
     fn coefficient(&self, set: &TaskSet, _i: TaskId, column: Fragment) -> u64 {

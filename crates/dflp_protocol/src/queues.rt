@@ -82,8 +82,6 @@ struct Queues;
 impl PerTask for Queues {
     ghost rows_of = { λ k set i x. per set.processors (λ n. home_queue_row set i x (n + 1)) };
 
-    ghost fits = { λ k set i bounds. Unit {0} };
-
     fn add<T: RowTaker>(
         &self,
         alloc: Global,

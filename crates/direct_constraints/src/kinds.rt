@@ -57,8 +57,6 @@ pub(crate) struct Times;
 impl TaskRow for Times {
     ghost row_of = { λ k. time_row };
 
-    ghost fits = { λ k set i bounds. Unit {0} };
-
     ghost alone = { λ k set i x c other. ap (λ b. only_if b (length_of set x c.resource)) other };
 
     fn coefficient(&self, set: &TaskSet, _i: TaskId, x: TaskId, column: Fragment) -> u64 {

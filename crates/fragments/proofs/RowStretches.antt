@@ -1,14 +1,20 @@
 -- Rows over stretches of columns: where a row's columns are, and that the coefficients outside are zero.
 use Rattle.std.proofs.Common.{◌≡◌, ℕ, ◌+◌, ◌<◌, ◌≤◌, ◌==◌, ◌&&◌, false, List, map, length, nat_lt, ◌∙◌, arith, inl, inr}
+use Rattle.std.specs.Prelude.{slice_index}
 use Rattle.std.proofs.Math.ListN.{get_or}
 use Rattle.std.proofs.lemmas.Bool.{cases_Bool, and_parts, eqb-true, ne_eqb, le-ltb}
 use Rattle.std.specs.List.{AllWithin}
 use Rattle.sporadic_model.proofs.Mapped.{list_any-map}
+use Rattle.sporadic_model.specs.SetDef.{SetDef}
 use Rattle.blocking_columns.specs.ColumnDef.{ColumnDef, column_seen, AreKnown}
-use Rattle.fragments.specs.Constraints.{ConstraintDef, holds_some}
+use Rattle.blocking_columns.specs.Given.{AreLaidOut}
 use Rattle.blocking_columns.specs.declared.columns.Fragment.{Fragment}
+use Rattle.blocking_columns.specs.declared.stretches.TaskPlace.{TaskPlace}
 use Rattle.blocking_columns.specs.Stretches.{slot, slot_of, BeginsAt}
-use Rattle.fragments.specs.RowStretch.{IsStretch}
+use Rattle.blocking_columns.proofs.TaskPlaces.{stretch_between}
+use Rattle.fragments.specs.Constraints.{ConstraintDef, holds_some, CountsOnly}
+use Rattle.fragments.specs.RowStretch.{IsStretch, IsRowOver}
+use Rattle.fragments.specs.Given.{AreColumnsOfTask, AreColumnsOfRequests}
 use Rattle.fragments.proofs.Zeros.{none_above}
 
 other_numbers : (a b c d : ℕ) → (a ≡ b → c ≡ d → ⊥) → ((a == b) && (c == d)) ≡ false
@@ -36,9 +42,9 @@ begins_next n m x cs a known few at = record {
 }
 
 -- A row that counts columns of task x alone counts those from the place where they begin up to the place where the next task's begin.
-pub stretch_of_task : (n m x : ℕ) (cs : List Fragment) (row : ConstraintDef) (a b : ℕ) → AreKnown n m cs → m ≤ 4294967296
+stretch_of_task : (n m x : ℕ) (cs : List Fragment) (row : ConstraintDef) (a b : ℕ) → AreKnown n m cs → m ≤ 4294967296
     → BeginsAt (slot x 0) cs a → BeginsAt (slot (x + 1) 0) cs b → a ≤ b
-    → ((c : ColumnDef) → (c.task == x) ≡ false → row.coefficient c ≡ 0) → IsStretch row cs a b
+    → CountsOnly (λ c. c.task == x) row → IsStretch row cs a b
 stretch_of_task n m x cs row a b known few from to order zero = record {
   order = order;
   within = to.within;
@@ -52,9 +58,9 @@ stretch_of_task n m x cs row a b known few from to order zero = record {
 }
 
 -- A row that counts columns of the requests of x for q alone counts those up to the place where the next resource's begin.
-pub stretch_of_requests : (x q : ℕ) (cs : List Fragment) (row : ConstraintDef) (a b : ℕ)
+stretch_of_requests : (x q : ℕ) (cs : List Fragment) (row : ConstraintDef) (a b : ℕ)
     → BeginsAt (slot x q) cs a → BeginsAt (slot x (q + 1)) cs b → a ≤ b
-    → ((c : ColumnDef) → ((c.task == x) && (c.resource == q)) ≡ false → row.coefficient c ≡ 0) → IsStretch row cs a b
+    → CountsOnly (λ c. (c.task == x) && (c.resource == q)) row → IsStretch row cs a b
 stretch_of_requests x q cs row a b from to order zero = record {
   order = order;
   within = to.within;
@@ -69,8 +75,8 @@ stretch_of_requests x q cs row a b from to order zero = record {
 }
 
 -- A row that counts columns of tasks lower than i alone counts those from the place where they begin.
-pub stretch_of_lower : (i : ℕ) (cs : List Fragment) (row : ConstraintDef) (a : ℕ) → BeginsAt (slot (i + 1) 0) cs a
-    → ((c : ColumnDef) → nat_lt i c.task ≡ false → row.coefficient c ≡ 0) → IsStretch row cs a (length cs)
+stretch_of_lower : (i : ℕ) (cs : List Fragment) (row : ConstraintDef) (a : ℕ) → BeginsAt (slot (i + 1) 0) cs a
+    → CountsOnly (λ c. nat_lt i c.task) row → IsStretch row cs a (length cs)
 stretch_of_lower i cs row a from zero = record {
   order = from.within;
   within = omega arith;
@@ -87,7 +93,7 @@ none_held row cs a b h empty =
     list_any-map column_seen (λ c. nat_lt 0 (row.coefficient c)) cs ∙ none_above row cs b a empty h.before h.behind
 
 -- Each column of these stretches is of the task; of the task and the resource; of a lower task.
-pub columns_of_task : (n m x : ℕ) (cs : List Fragment) (a b : ℕ) → AreKnown n m cs → m ≤ 4294967296
+columns_of_task : (n m x : ℕ) (cs : List Fragment) (a b : ℕ) → AreKnown n m cs → m ≤ 4294967296
     → BeginsAt (slot x 0) cs a → BeginsAt (slot (x + 1) 0) cs b → AllWithin (λ c. (column_seen c).task ≡ x) cs a b
 columns_of_task n m x cs a b known few from to k d l h =
     let within : k < length cs = omega (arith, h, to.within) in
@@ -96,7 +102,7 @@ columns_of_task n m x cs a b known few from to k d l h =
     let r : (get_or cs k d).resource.0 < m = (known k d within).1 in
     omega (arith, low, high, r, few)
 
-pub columns_of_requests : (n m x q : ℕ) (cs : List Fragment) (a b : ℕ) → AreKnown n m cs → m ≤ 4294967296 → q < m
+columns_of_requests : (n m x q : ℕ) (cs : List Fragment) (a b : ℕ) → AreKnown n m cs → m ≤ 4294967296 → q < m
     → BeginsAt (slot x q) cs a → BeginsAt (slot x (q + 1)) cs b
     → AllWithin (λ c. ((column_seen c).task ≡ x) × ((column_seen c).resource ≡ q)) cs a b
 columns_of_requests n m x q cs a b known few here from to k d l h =
@@ -106,9 +112,71 @@ columns_of_requests n m x q cs a b known few here from to k d l h =
     let r : (get_or cs k d).resource.0 < m = (known k d within).1 in
     (omega (arith, low, high, r, few, here), omega (arith, low, high, r, few, here))
 
-pub columns_of_lower : (n m i : ℕ) (cs : List Fragment) (a : ℕ) → AreKnown n m cs → m ≤ 4294967296
+columns_of_lower : (n m i : ℕ) (cs : List Fragment) (a : ℕ) → AreKnown n m cs → m ≤ 4294967296
     → BeginsAt (slot (i + 1) 0) cs a → AllWithin (λ c. i < (column_seen c).task) cs a (length cs)
 columns_of_lower n m i cs a known few from k d l h =
     let low : slot (i + 1) 0 ≤ slot_of (get_or cs k d) = from.behind k d l h in
     let r : (get_or cs k d).resource.0 < m = (known k d h).1 in
     omega (arith, low, r, few)
+
+-- So a row that counts columns of task x alone can be given over x's own. The same of those of its requests of q, and of those of lower tasks.
+pub row_over_task : {set : SetDef} {bounds : List ℕ} {i x n : ℕ} {cs : List Fragment} {a b : ℕ} (row : ConstraintDef)
+    → AreColumnsOfTask set bounds i x n cs a b → length set.resources ≤ 4294967296 → CountsOnly (λ c. c.task == x) row
+    → IsRowOver set i row (λ c. c.task ≡ x) cs a b
+row_over_task {set = set} {x = x} {cs = cs} {a = a} {b = b} row at few alone = record {
+  task = at.counted.task;
+  known = at.known;
+  stretch = stretch_of_task (length set.tasks) (length set.resources) x cs row a b at.known few at.stretch.from at.stretch.to at.stretch.order alone;
+  over = columns_of_task (length set.tasks) (length set.resources) x cs a b at.known few at.stretch.from at.stretch.to;
+}
+
+pub row_over_requests : {set : SetDef} {bounds : List ℕ} {i x q n : ℕ} {cs : List Fragment} {a b : ℕ} (row : ConstraintDef)
+    → AreColumnsOfRequests set bounds i x q n cs a b → length set.resources ≤ 4294967296
+    → CountsOnly (λ c. (c.task == x) && (c.resource == q)) row → IsRowOver set i row (λ c. (c.task ≡ x) × (c.resource ≡ q)) cs a b
+row_over_requests {set = set} {x = x} {q = q} {cs = cs} {a = a} {b = b} row at few alone = record {
+  task = at.counted.task;
+  known = at.known;
+  stretch = stretch_of_requests x q cs row a b at.stretch.from at.stretch.to at.stretch.order alone;
+  over = columns_of_requests (length set.tasks) (length set.resources) x q cs a b at.known few at.resource at.stretch.from at.stretch.to;
+}
+
+pub row_over_lower : (set : SetDef) (i : ℕ) (cs : List Fragment) (row : ConstraintDef) (a : ℕ) → i < length set.tasks
+    → AreKnown (length set.tasks) (length set.resources) cs → length set.resources ≤ 4294967296 → BeginsAt (slot (i + 1) 0) cs a
+    → CountsOnly (λ c. nat_lt i c.task) row → IsRowOver set i row (λ c. i < c.task) cs a (length cs)
+row_over_lower set i cs row a task known few from alone = record {
+  task = task;
+  known = known;
+  stretch = stretch_of_lower i cs row a from alone;
+  over = columns_of_lower (length set.tasks) (length set.resources) i cs a known few from;
+}
+
+-- A row that can be given for every column can be given over all of them.
+pub row_over_all : (set : SetDef) (i : ℕ) (cs : List Fragment) (row : ConstraintDef) (gives : ColumnDef → Type 0) → i < length set.tasks
+    → AreKnown (length set.tasks) (length set.resources) cs → ((c : ColumnDef) → gives c) → IsRowOver set i row gives cs 0 (length cs)
+row_over_all set i cs row gives task known each = record {
+  task = task;
+  known = known;
+  stretch = record {
+    order = omega arith;
+    within = omega arith;
+    before = λ k d l h. absurd (omega (arith, h));
+    behind = λ k d l h. absurd (omega (arith, l, h));
+  };
+  over = λ k d l h. each (column_seen (get_or cs k d));
+}
+
+-- The columns of a task where columns are laid out.
+pub columns_between : (set : SetDef) (bounds : List ℕ) (i x : ℕ) (cs : List Fragment) (ps : List TaskPlace) (d e : TaskPlace)
+    → AreLaidOut set bounds i cs ps → x < length set.tasks
+    → AreColumnsOfTask set bounds i x (get_or ps x d).jobs cs (get_or ps x d).from (get_or ps (x + 1) e).from
+columns_between set bounds i x cs ps d e laid below = record {
+  counted = record {
+    task = laid.task;
+    within = laid.within;
+    other = below;
+    jobs = (laid.places.each x d below).jobs;
+    most = (laid.places.each x d below).most;
+  };
+  known = laid.known;
+  stretch = stretch_between set (slice_index bounds) i (length set.tasks) x cs ps d e laid.places below;
+}

@@ -1,8 +1,9 @@
 -- Rows of a blocking program as data. A row has a coefficient for each column, and a limit that the bounds give.
-use Rattle.std.specs.Prelude.{ℕ, Bool, nat_lt, List, [], ◌∷◌, ◌++◌, map, if◌then◌else◌, slice_index}
+use Rattle.std.specs.Prelude.{◌≡◌, ℕ, Bool, false, nat_lt, List, [], ◌∷◌, ◌++◌, map, length, if◌then◌else◌, slice_index}
 use Rattle.std.specs.List.{filter, list_any}
 use Rattle.number_laws.specs.Sums.{collect_below, flag}
 use Rattle.program_form.specs.RowBlock.{RowBlockDef}
+use Rattle.sporadic_model.specs.SetDef.{SetDef}
 use Rattle.blocking_columns.specs.ColumnDef.{ColumnDef}
 
 -- A row: each column's coefficient, and the limit where `bounds x` is task x's bound.
@@ -23,6 +24,14 @@ per_where test n row = collect_below n (λ k. if test k then row k ∷ [] else [
 
 abbrev pub per_pair : ℕ → ℕ → (ℕ → ℕ → ConstraintDef) → List ConstraintDef
 per_pair m n row = collect_below m (λ k. per n (row k))
+
+-- The rows of each task of the set, for the analysed task i.
+abbrev pub of_each_task : SetDef → ℕ → (SetDef → ℕ → ℕ → List ConstraintDef) → List ConstraintDef
+of_each_task set i rows = collect_below (length set.tasks) (rows set i)
+
+-- Does the row count only columns that pass the test?
+abbrev pub CountsOnly : (ColumnDef → Bool) → ConstraintDef → Type 0
+CountsOnly test row = (c : ColumnDef) → test c ≡ false → row.coefficient c ≡ 0
 
 -- The nonzero rows: those in which some column has a coefficient above zero.
 abbrev pub rows_there : List ColumnDef → List ConstraintDef → List ConstraintDef

@@ -20,3 +20,10 @@ pub record IsRowOver (set : SetDef) (i : ℕ) (row : ConstraintDef) (gives : Col
   pub known : AreKnown (length set.tasks) (length set.resources) columns
   pub stretch : IsStretch row columns a b
   pub over : AllWithin (λ c. gives (column_seen c)) columns a b
+
+-- Is i a task of the set, and c a column of a task and a resource of the set for which its row can give the coefficient?
+pub record IsGivenColumn (set : SetDef) (i : ℕ) (gives : ColumnDef → Type 0) (c : Fragment) : Type 0 where
+  pub task : i < length set.tasks
+  pub other : c.task.0 < length set.tasks
+  pub resource : c.resource.0 < length set.resources
+  pub over : gives (column_seen c)

@@ -1,12 +1,12 @@
 ghost use Rattle.std.specs.Prelude.{◌≡◌, ℕ, ◌<◌, ◌≤◌, map, nat_lt, length, OnOk, IfOk, [], ◌∷◌, slice_index};
-ghost use Rattle.std.specs.List.{AllWithin, list_any};
+ghost use Rattle.std.specs.List.{list_any};
 ghost use Rattle.program_form.specs.RowBlock.{block_seen};
 ghost use Rattle.sporadic_model.specs.SetDef.{SetDef};
 ghost use Rattle.program_sources.specs.Bounds.{AreWithinDeadlines};
 ghost use Rattle.blocking_columns.specs.Given.{AreKnownAt};
-ghost use Rattle.blocking_columns.specs.ColumnDef.{ColumnDef, column_seen, AreKnown};
+ghost use Rattle.blocking_columns.specs.ColumnDef.{ColumnDef, column_seen};
 ghost use Rattle.fragments.specs.Constraints.{ConstraintDef, pushed_row};
-ghost use Rattle.fragments.specs.RowStretch.{IsRowOver, IsStretch};
+ghost use Rattle.fragments.specs.RowStretch.{IsRowOver, IsGivenColumn};
 
 use crate::taking::RowTaker;
 use blocking_columns::Fragment;
@@ -19,19 +19,16 @@ pub trait RowKind {
     /// The row, for a set and the analysed task.
     ghost row_of: { Self → SetDef → ℕ → ConstraintDef };
 
-    /// Does the row name only tasks and resources of the set?
-    ghost fits: { Self → SetDef → Type 0 };
+    /// Does the row name only tasks and resources of the set? A kind whose rows name none leaves this out.
+    ghost fits: { Self → SetDef → Type 0 } = { λ k set. Unit {0} };
 
-    /// The columns whose coefficients it can give.
-    ghost over: { Self → SetDef → ℕ → ColumnDef → Type 0 };
+    /// The columns whose coefficients it can give: all, where a kind leaves this out.
+    ghost over: { Self → SetDef → ℕ → ColumnDef → Type 0 } = { λ k set i c. Unit {0} };
 
     /// The column's coefficient.
     fn coefficient(&self, set: &TaskSet, i: TaskId, column: Fragment) -> u64
         requires fits { fits self.now set.now }
-        requires task { i.0 < length set.now.tasks }
-        requires column { column.task.0 < length set.now.tasks }
-        requires resource { column.resource.0 < length set.now.resources }
-        requires over { over self.now set.now i.0 (column_seen column) }
+        requires column { IsGivenColumn set.now i.0 (over self.now set.now i.0) column }
         ensures { result ≡ (row_of self.now set.now i.0).coefficient (column_seen column) };
 }
 
@@ -130,10 +127,7 @@ pub fn add_row_limited<T: RowTaker, K: RowKind>(
     limit: u64,
 ) -> Result<(), AllocError>
     requires fits { K.fits kind.now set.now }
-    requires task { i.0 < length set.now.tasks }
-    requires known { AreKnown (length set.now.tasks) (length set.now.resources) columns.now }
-    requires stretch { IsStretch (K.row_of kind.now set.now i.0) columns.now stretch.0 stretch.1 }
-    requires over { AllWithin (λ c. K.over kind.now set.now i.0 (column_seen c)) columns.now stretch.0 stretch.1 }
+    requires row { IsRowOver set.now i.0 (K.row_of kind.now set.now i.0) (K.over kind.now set.now i.0) columns.now stretch.0 stretch.1 }
     requires limit { limit ≡ (K.row_of kind.now set.now i.0).limit (slice_index bounds.now) }
     ensures { OnOk result (T.takes taker.old (map column_seen columns.now) (K.row_of kind.now set.now i.0 ∷ []) bounds.now taker.new) }
 {
@@ -156,9 +150,8 @@ pub fn add_row_within<T: RowTaker, K: Constraint>(
     stretch: (usize, usize),
 ) -> Result<(), AllocError>
     requires fits { K.fits kind.now set.now }
-    requires at { AreKnownAt set.now bounds.now i.0 columns.now }
-    requires stretch { IsStretch (K.row_of kind.now set.now i.0) columns.now stretch.0 stretch.1 }
-    requires over { AllWithin (λ c. K.over kind.now set.now i.0 (column_seen c)) columns.now stretch.0 stretch.1 }
+    requires within { AreWithinDeadlines set.now bounds.now }
+    requires row { IsRowOver set.now i.0 (K.row_of kind.now set.now i.0) (K.over kind.now set.now i.0) columns.now stretch.0 stretch.1 }
     ensures { OnOk result (T.takes taker.old (map column_seen columns.now) (K.row_of kind.now set.now i.0 ∷ []) bounds.now taker.new) }
 {
     if holds(kind, set, i, columns, stretch) {

@@ -1,12 +1,10 @@
 //! Kinds of rows that have one row for each task, or one for each task and resource, over its own columns alone.
 
-ghost use Rattle.std.specs.Prelude.{◌≡◌, ℕ, ◌<◌, ◌≤◌, ◌==◌, ◌&&◌, false, List, [], ◌∷◌, map, length, OnOk, slice_index};
+ghost use Rattle.std.specs.Prelude.{◌≡◌, ℕ, ◌<◌, ◌==◌, ◌&&◌, List, [], ◌∷◌, map, length, OnOk, slice_index};
 ghost use Rattle.sporadic_model.specs.SetDef.{SetDef};
-ghost use Rattle.program_sources.specs.Bounds.{AreWithinDeadlines};
-ghost use Rattle.blocking_columns.specs.ColumnDef.{ColumnDef, column_seen, AreKnown};
-ghost use Rattle.fragments.specs.Constraints.{ConstraintDef};
-ghost use Rattle.blocking_columns.specs.Stretches.{IsTaskStretch};
-ghost use Rattle.blocking_columns.specs.Windows.{jobs_in};
+ghost use Rattle.blocking_columns.specs.ColumnDef.{column_seen};
+ghost use Rattle.fragments.specs.Constraints.{ConstraintDef, CountsOnly};
+ghost use Rattle.fragments.specs.Given.{IsColumnOfTask, IsColumnOfRequests, AreJobsOf, AreColumnsOfTask};
 
 use crate::constraints::{RowKind, add_row_limited};
 use crate::taking::RowTaker;
@@ -20,29 +18,23 @@ pub trait TaskRow {
     /// The row of a task, for a set and the analysed task.
     ghost row_of: { Self → SetDef → ℕ → ℕ → ConstraintDef };
 
-    /// Do the further numbers that the rows are made of belong to the set and the analysed task at these bounds?
-    ghost fits: { Self → SetDef → ℕ → List ℕ → Type 0 };
+    /// Do the further numbers that the rows are made of belong to the set and the analysed task at these bounds? Where there are none, a
+    /// kind leaves this out.
+    ghost fits: { Self → SetDef → ℕ → List ℕ → Type 0 } = { λ k set i bounds. Unit {0} };
 
     /// The coefficient of a column of task `x` in that task's row.
     fn coefficient(&self, set: &TaskSet, i: TaskId, x: TaskId, column: Fragment) -> u64
-        requires task { i.0 < length set.now.tasks }
-        requires other { x.0 < length set.now.tasks }
-        requires of_task { column.task.0 ≡ x.0 }
-        requires resource { column.resource.0 < length set.now.resources }
+        requires column { IsColumnOfTask set.now i.0 x.0 column }
         ensures { result ≡ (row_of self.now set.now i.0 x.0).coefficient (column_seen column) };
 
     /// The limit of that row's sum at these bounds, where `jobs` jobs of `x` can run within the bound of a job of `i`.
     fn limit(&self, set: &TaskSet, i: TaskId, x: TaskId, jobs: u64, bounds: &[u64]) -> u64
         requires fits { fits self.now set.now i.0 bounds.now }
-        requires task { i.0 < length set.now.tasks }
-        requires other { x.0 < length set.now.tasks }
-        requires jobs { jobs ≡ jobs_in set.now (slice_index bounds.now) i.0 x.0 }
-        requires most { jobs ≤ 2000000000 }
-        requires within { AreWithinDeadlines set.now bounds.now }
+        requires counted { AreJobsOf set.now bounds.now i.0 x.0 jobs }
         ensures { result ≡ (row_of self.now set.now i.0 x.0).limit (slice_index bounds.now) };
 
     /// A column of another task has coefficient zero in it.
-    ghost alone: { (k : Self) (set : SetDef) (i x : ℕ) (c : ColumnDef) → (c.task == x) ≡ false → (row_of k set i x).coefficient c ≡ 0 };
+    ghost alone: { (k : Self) (set : SetDef) (i x : ℕ) → CountsOnly (λ c. c.task == x) (row_of k set i x) };
 }
 
 /// The row of one task.
@@ -79,13 +71,7 @@ pub fn add_row_of_task<T: RowTaker, K: TaskRow>(
     stretch: (usize, usize),
 ) -> Result<(), AllocError>
     requires fits { K.fits kind.now set.now i.0 bounds.now }
-    requires task { i.0 < length set.now.tasks }
-    requires other { x.0 < length set.now.tasks }
-    requires jobs { jobs ≡ jobs_in set.now (slice_index bounds.now) i.0 x.0 }
-    requires most { jobs ≤ 2000000000 }
-    requires within { AreWithinDeadlines set.now bounds.now }
-    requires known { AreKnown (length set.now.tasks) (length set.now.resources) columns.now }
-    requires stretch { IsTaskStretch x.0 columns.now stretch.0 stretch.1 }
+    requires columns { AreColumnsOfTask set.now bounds.now i.0 x.0 jobs columns.now stretch.0 stretch.1 }
     ensures { OnOk result (T.takes taker.old (map column_seen columns.now) (K.row_of kind.now set.now i.0 x.0 ∷ []) bounds.now taker.new) }
 {
     // a set has at most 32 resources, so the slots of a task end before those of the next one
@@ -140,11 +126,7 @@ pub trait RequestRow {
         q: ResourceId,
         column: Fragment,
     ) -> u64
-        requires task { i.0 < length set.now.tasks }
-        requires other { x.0 < length set.now.tasks }
-        requires asked { q.0 < length set.now.resources }
-        requires of_task { column.task.0 ≡ x.0 }
-        requires of_resource { column.resource.0 ≡ q.0 }
+        requires column { IsColumnOfRequests set.now i.0 x.0 q.0 column }
         ensures { result ≡ (row_of self.now set.now i.0 x.0 q.0).coefficient (column_seen column) };
 
     /// The limit of that row's sum at these bounds, where `jobs` jobs of `x` can run within the bound of a job of `i`.
@@ -157,17 +139,12 @@ pub trait RequestRow {
         jobs: u64,
         bounds: &[u64],
     ) -> u64
-        requires task { i.0 < length set.now.tasks }
-        requires other { x.0 < length set.now.tasks }
         requires asked { q.0 < length set.now.resources }
-        requires jobs { jobs ≡ jobs_in set.now (slice_index bounds.now) i.0 x.0 }
-        requires most { jobs ≤ 2000000000 }
-        requires within { AreWithinDeadlines set.now bounds.now }
+        requires counted { AreJobsOf set.now bounds.now i.0 x.0 jobs }
         ensures { result ≡ (row_of self.now set.now i.0 x.0 q.0).limit (slice_index bounds.now) };
 
     /// A column of another task or resource has coefficient zero in it.
-    ghost alone: { (k : Self) (set : SetDef) (i x q : ℕ) (c : ColumnDef) → ((c.task == x) && (c.resource == q)) ≡ false
-        → (row_of k set i x q).coefficient c ≡ 0 };
+    ghost alone: { (k : Self) (set : SetDef) (i x q : ℕ) → CountsOnly (λ c. (c.task == x) && (c.resource == q)) (row_of k set i x q) };
 }
 
 /// The row of one task and resource.
@@ -199,8 +176,6 @@ impl<K: RequestRow> PerRequest for EachRequest<K> {
     ghost row_of = { λ r. K.row_of r.0 };
 
     ghost apart = { λ r set i x q c other. K.alone r.0 set i x q c other };
-
-    ghost fits = { λ r set i bounds. Unit {0} };
 
     fn add<T: RowTaker>(
         &self,

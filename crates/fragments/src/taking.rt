@@ -1,11 +1,10 @@
 //! What takes the rows of a program during a walk over them.
 
-ghost use Rattle.std.specs.Prelude.{◌≡◌, ℕ, ◌<◌, List, [], ◌∷◌, ◌++◌, true, false, map, length, OnOk, slice_index};
-ghost use Rattle.std.specs.List.{AllWithin};
+ghost use Rattle.std.specs.Prelude.{◌≡◌, ℕ, List, [], ◌∷◌, ◌++◌, true, false, map, OnOk, slice_index};
 ghost use Rattle.sporadic_model.specs.SetDef.{SetDef};
-ghost use Rattle.blocking_columns.specs.ColumnDef.{ColumnDef, column_seen, AreKnown};
+ghost use Rattle.blocking_columns.specs.ColumnDef.{ColumnDef, column_seen};
 ghost use Rattle.fragments.specs.Constraints.{ConstraintDef, holds_some};
-ghost use Rattle.fragments.specs.RowStretch.{IsStretch};
+ghost use Rattle.fragments.specs.RowStretch.{IsRowOver};
 
 use crate::constraints::{RowKind, push_kind};
 use blocking_columns::Fragment;
@@ -32,10 +31,7 @@ pub trait RowTaker {
         limit: u64,
     ) -> Result<(), AllocError>
         requires fits { K.fits kind.now set.now }
-        requires task { i.0 < length set.now.tasks }
-        requires known { AreKnown (length set.now.tasks) (length set.now.resources) columns.now }
-        requires stretch { IsStretch (K.row_of kind.now set.now i.0) columns.now stretch.0 stretch.1 }
-        requires over { AllWithin (λ c. K.over kind.now set.now i.0 (column_seen c)) columns.now stretch.0 stretch.1 }
+        requires row { IsRowOver set.now i.0 (K.row_of kind.now set.now i.0) (K.over kind.now set.now i.0) columns.now stretch.0 stretch.1 }
         requires there { holds_some (map column_seen columns.now) (K.row_of kind.now set.now i.0) ≡ true }
         requires limit { limit ≡ (K.row_of kind.now set.now i.0).limit (slice_index bounds.now) }
         ensures { OnOk result (takes self.old (map column_seen columns.now) (K.row_of kind.now set.now i.0 ∷ []) bounds.now self.new) };
@@ -64,8 +60,7 @@ impl RowTaker for RowBlock {
 
     ghost missing = { λ t cs row bounds fails. row_not_there (block_seen t) cs row bounds fails };
 
-    ghost behind = { λ a b c cs xs ys bounds first second.
-        rows_behind (block_seen a) (block_seen b) (block_seen c) cs xs ys bounds first second };
+    ghost behind = { λ a b c. rows_behind (block_seen a) (block_seen b) (block_seen c) };
 
     fn take<K: RowKind>(
         &mut self,
@@ -100,8 +95,7 @@ impl RowTaker for RowLimits {
 
     ghost missing = { λ t cs row bounds fails. limit_not_there t.limits.items cs row bounds fails };
 
-    ghost behind = { λ a b c cs xs ys bounds first second.
-        limits_behind a.limits.items b.limits.items c.limits.items cs xs ys bounds first second };
+    ghost behind = { λ a b c. limits_behind a.limits.items b.limits.items c.limits.items };
 
     fn take<K: RowKind>(
         &mut self,

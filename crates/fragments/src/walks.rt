@@ -1,15 +1,14 @@
 //! Walks over the rows of all tasks or of all requests, each over the stretch of its columns, and over rows by number.
 
-ghost use Rattle.std.specs.Prelude.{◌≡◌, ℕ, ◌<◌, ◌≤◌, ◌+◌, ◌==◌, ◌&&◌, false, List, [], ◌∷◌, map, length, slice_index, IfOk, OnOk, IfSome, IfNone};
+ghost use Rattle.std.specs.Prelude.{◌≡◌, ℕ, ◌<◌, ◌≤◌, ◌+◌, ◌==◌, ◌&&◌, List, [], ◌∷◌, map, length, slice_index, IfOk, OnOk, IfSome, IfNone};
 ghost use Rattle.number_laws.specs.Sums.{collect_below};
 ghost use Rattle.sporadic_model.specs.SetDef.{SetDef};
-ghost use Rattle.program_sources.specs.Bounds.{AreWithinDeadlines};
 ghost use Rattle.blocking_columns.specs.Given.{AreKnownAt, AreInOrderAt, AreLaidOut};
-ghost use Rattle.blocking_columns.specs.ColumnDef.{ColumnDef, column_seen, AreKnown};
-ghost use Rattle.fragments.specs.Constraints.{ConstraintDef, per, per_pair};
-ghost use Rattle.blocking_columns.specs.Stretches.{slot, AreInOrder, BeginsAt, IsTaskStretch, IsRequestStretch, IsNextRequest, ArePast};
+ghost use Rattle.blocking_columns.specs.ColumnDef.{column_seen, AreKnown};
+ghost use Rattle.fragments.specs.Constraints.{ConstraintDef, per, per_pair, of_each_task, CountsOnly};
+ghost use Rattle.fragments.specs.Given.{AreColumnsOfTask, AreColumnsOfRequests, AreInOrderFrom};
+ghost use Rattle.blocking_columns.specs.Stretches.{slot, AreInOrder, BeginsAt, IsNextRequest, ArePast};
 ghost use Rattle.blocking_columns.specs.TaskPlaces.{ArePlaces};
-ghost use Rattle.blocking_columns.specs.Windows.{jobs_in};
 ghost use Rattle.blocking_columns.specs.declared.columns.Fragment.{Fragment};
 
 use crate::taking::RowTaker;
@@ -22,8 +21,9 @@ pub trait PerTask {
     /// The rows of a task, for a set and the analysed task.
     ghost rows_of: { Self → SetDef → ℕ → ℕ → List ConstraintDef };
 
-    /// Do the further numbers that the rows are made of belong to the set and the analysed task at these bounds?
-    ghost fits: { Self → SetDef → ℕ → List ℕ → Type 0 };
+    /// Do the further numbers that the rows are made of belong to the set and the analysed task at these bounds? Where there are none, a
+    /// kind leaves this out.
+    ghost fits: { Self → SetDef → ℕ → List ℕ → Type 0 } = { λ k set i bounds. Unit {0} };
 
     /// Adds the rows of task `x`, whose columns are those of the stretch. `jobs` jobs of `x` can run within the bound of a job of `i`.
     fn add<T: RowTaker>(
@@ -39,13 +39,7 @@ pub trait PerTask {
         stretch: (usize, usize),
     ) -> Result<(), AllocError>
         requires fits { fits self.now set.now i.0 bounds.now }
-        requires task { i.0 < length set.now.tasks }
-        requires other { x.0 < length set.now.tasks }
-        requires jobs { jobs ≡ jobs_in set.now (slice_index bounds.now) i.0 x.0 }
-        requires most { jobs ≤ 2000000000 }
-        requires within { AreWithinDeadlines set.now bounds.now }
-        requires known { AreKnown (length set.now.tasks) (length set.now.resources) columns.now }
-        requires stretch { IsTaskStretch x.0 columns.now stretch.0 stretch.1 }
+        requires columns { AreColumnsOfTask set.now bounds.now i.0 x.0 jobs columns.now stretch.0 stretch.1 }
         ensures { OnOk result (T.takes taker.old (map column_seen columns.now) (rows_of self.now set.now i.0 x.0) bounds.now taker.new) };
 }
 
@@ -62,8 +56,7 @@ pub fn add_per_task<T: RowTaker, R: PerTask>(
 ) -> Result<(), AllocError>
     requires fits { R.fits rows.now set.now i.0 bounds.now }
     requires laid { AreLaidOut set.now bounds.now i.0 columns.now places.now }
-    ensures { OnOk result (T.takes taker.old (map column_seen columns.now)
-        (collect_below (length set.now.tasks) (R.rows_of rows.now set.now i.0)) bounds.now taker.new) }
+    ensures { OnOk result (T.takes taker.old (map column_seen columns.now) (of_each_task set.now i.0 (R.rows_of rows.now)) bounds.now taker.new) }
 {
     for x in 0..set.tasks() {
         let place = places[x as usize];
@@ -97,8 +90,7 @@ pub fn add_per_lower_task<T: RowTaker, R: PerTask>(
     requires fits { R.fits rows.now set.now i.0 bounds.now }
     requires none { (x : ℕ) → x ≤ i.0 → R.rows_of rows.now set.now i.0 x ≡ [] }
     requires laid { AreLaidOut set.now bounds.now i.0 columns.now places.now }
-    ensures { OnOk result (T.takes taker.old (map column_seen columns.now)
-        (collect_below (length set.now.tasks) (R.rows_of rows.now set.now i.0)) bounds.now taker.new) }
+    ensures { OnOk result (T.takes taker.old (map column_seen columns.now) (of_each_task set.now i.0 (R.rows_of rows.now)) bounds.now taker.new) }
 {
     let tasks = set.tasks();
     for x in i.0 + 1..tasks {
@@ -124,8 +116,9 @@ pub trait PerRequest {
     /// The row of a task and a resource, for a set and the analysed task.
     ghost row_of: { Self → SetDef → ℕ → ℕ → ℕ → ConstraintDef };
 
-    /// Do the further numbers that the rows are made of belong to the set and the analysed task at these bounds?
-    ghost fits: { Self → SetDef → ℕ → List ℕ → Type 0 };
+    /// Do the further numbers that the rows are made of belong to the set and the analysed task at these bounds? Where there are none, a
+    /// kind leaves this out.
+    ghost fits: { Self → SetDef → ℕ → List ℕ → Type 0 } = { λ k set i bounds. Unit {0} };
 
     /// Adds the row of task `x` and resource `q`, whose columns are those of the stretch. `jobs` jobs of `x` can run within the bound
     /// of a job of `i`.
@@ -143,20 +136,11 @@ pub trait PerRequest {
         stretch: (usize, usize),
     ) -> Result<(), AllocError>
         requires fits { fits self.now set.now i.0 bounds.now }
-        requires task { i.0 < length set.now.tasks }
-        requires other { x.0 < length set.now.tasks }
-        requires resource { q.0 < length set.now.resources }
-        requires jobs { jobs ≡ jobs_in set.now (slice_index bounds.now) i.0 x.0 }
-        requires most { jobs ≤ 2000000000 }
-        requires within { AreWithinDeadlines set.now bounds.now }
-        requires known { AreKnown (length set.now.tasks) (length set.now.resources) columns.now }
-        requires stretch { IsRequestStretch x.0 q.0 columns.now stretch.0 stretch.1 }
-        ensures { OnOk result (T.takes taker.old (map column_seen columns.now) (row_of self.now set.now i.0 x.0 q.0 ∷ []) bounds.now
-            taker.new) };
+        requires columns { AreColumnsOfRequests set.now bounds.now i.0 x.0 q.0 jobs columns.now stretch.0 stretch.1 }
+        ensures { OnOk result (T.takes taker.old (map column_seen columns.now) (row_of self.now set.now i.0 x.0 q.0 ∷ []) bounds.now taker.new) };
 
     /// In the row each column of another task or resource has coefficient zero.
-    ghost apart: { (k : Self) (set : SetDef) (i x q : ℕ) (c : ColumnDef) → ((c.task == x) && (c.resource == q)) ≡ false
-        → (row_of k set i x q).coefficient c ≡ 0 };
+    ghost apart: { (k : Self) (set : SetDef) (i x q : ℕ) → CountsOnly (λ c. (c.task == x) && (c.resource == q)) (row_of k set i x q) };
 }
 
 // The resource of the column at the place, if there is a column and it is of task `x`.
@@ -189,11 +173,7 @@ fn add_requests_from<T: RowTaker, R: PerRequest>(
     from: usize,
 ) -> Result<usize, AllocError>
     requires fits { R.fits rows.now set.now i.0 bounds.now }
-    requires ordered { AreInOrderAt set.now bounds.now i.0 columns.now }
-    requires other { x.0 < length set.now.tasks }
-    requires jobs { jobs ≡ jobs_in set.now (slice_index bounds.now) i.0 x.0 }
-    requires most { jobs ≤ 2000000000 }
-    requires from { BeginsAt (slot x.0 0) columns.now from }
+    requires ordered { AreInOrderFrom set.now bounds.now i.0 x.0 jobs columns.now from }
     ensures rows { OnOk result (T.takes taker.old (map column_seen columns.now)
         (per (length set.now.resources) (R.row_of rows.now set.now i.0 x.0)) bounds.now taker.new) }
     ensures end { IfOk result (λ n. BeginsAt (slot (x.0 + 1) 0) columns.now n) }
@@ -320,9 +300,7 @@ pub trait PerNumber {
         columns: &[Fragment],
     ) -> Result<(), AllocError>
         requires fits { fits self.now set.now i.0 columns.now number }
-        requires task { i.0 < length set.now.tasks }
-        requires within { AreWithinDeadlines set.now bounds.now }
-        requires known { AreKnown (length set.now.tasks) (length set.now.resources) columns.now }
+        requires at { AreKnownAt set.now bounds.now i.0 columns.now }
         ensures { OnOk result (T.takes taker.old (map column_seen columns.now) (rows_of self.now set.now i.0 number) bounds.now taker.new) };
 }
 

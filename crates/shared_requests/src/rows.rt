@@ -14,10 +14,6 @@ pub struct LocalPreemptionRow;
 impl RowKind for LocalPreemptionRow {
     ghost row_of = { λ k. local_preemption_row };
 
-    ghost fits = { λ k set. Unit {0} };
-
-    ghost over = { λ k set i c. Unit {0} };
-
     fn coefficient(&self, set: &TaskSet, i: TaskId, column: Fragment) -> u64 {
         if column.class.is_preemption() && !is_shared_out(set, i, column.resource) {
             1

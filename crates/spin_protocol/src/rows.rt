@@ -28,10 +28,6 @@ pub(crate) struct LowerRequestRow;
 impl RowKind for LowerRequestRow {
     ghost row_of = { λ k set i. lower_request_row };
 
-    ghost fits = { λ k set. Unit {0} };
-
-    ghost over = { λ k set i c. Unit {0} };
-
     fn coefficient(&self, _set: &TaskSet, _i: TaskId, column: Fragment) -> u64 {
         if column.class.is_preemption() { 1 } else { 0 }
     }
@@ -125,8 +121,6 @@ impl RowKind for SpinningRow {
     ghost row_of = { λ k set i. row_of_kind k.spinning set i k.processor k.resource.0 };
 
     ghost fits = { λ k set. k.resource.0 < length set.resources };
-
-    ghost over = { λ k set i c. Unit {0} };
 
     fn coefficient(&self, set: &TaskSet, _i: TaskId, column: Fragment) -> u64 {
         let from_there = is_from(set, self.processor, self.resource, column);

@@ -1,9 +1,8 @@
-use Rattle.std.proofs.Common.{◌+◌, List, length, map, arith, sym, subst}
-use Rattle.std.specs.Prelude.{slice_index}
+use Rattle.std.proofs.Common.{◌+◌, List, map, arith, sym, subst}
 use Rattle.blocking_columns.specs.ColumnDef.{column_seen}
 use Rattle.fragments.specs.Constraints.{ConstraintDef}
 use Rattle.fragments.proofs.Rows.{no_rows_below}
-use Rattle.blocking_columns.proofs.TaskPlaces.{stretch_between}
+use Rattle.fragments.proofs.RowStretches.{columns_between}
 use Rattle.fragments.proofs.walks.add_per_lower_task.Goals as goal
 
 pub loop-x-init : goal.loop-x-init
@@ -15,7 +14,6 @@ loop-x-init g c =
     subst taken (sym (no_rows_below (c.args.i.0 + 1) rows (λ k l. c.requires.none k (omega (arith, l)))))
     (g.met.T.RowTaker.none taker seen c.args.bounds.now)
 
-pub add-requires-clause-stretch : goal.add-requires-clause-stretch
-add-requires-clause-stretch g c = stretch_between c.args.set.now (slice_index c.args.bounds.now) c.args.i.0 (length c.args.set.now.tasks)
-    c.loop-x.x c.args.columns.now c.args.places.now _ _ c.requires.laid.places
-    (omega (arith, c.loop-x-test.true, c.tasks-tasks.ensures.value))
+pub add-requires-clause-columns : goal.add-requires-clause-columns
+add-requires-clause-columns g c = columns_between c.args.set.now c.args.bounds.now c.args.i.0 c.loop-x.x c.args.columns.now c.args.places.now _ _
+    c.requires.laid (omega (arith, c.loop-x-test.true, c.tasks-tasks.ensures.value))

@@ -9,11 +9,16 @@ use Rattle.fragments.proofs.walks.add_requests_from.Goals as goal
 pub requests_end-end-requires-clause-from : goal.requests_end-end-requires-clause-from
 requests_end-end-requires-clause-from g c = c.in-Some.ensures.some.begins c.loop-q.invariant.0 c.loop-q.invariant.2
 
-pub add-requires-clause-stretch : goal.add-requires-clause-stretch
-add-requires-clause-stretch g c = record {
-  from = c.in-Some.ensures.some.begins c.loop-q.invariant.0 c.loop-q.invariant.2;
-  to = c.requests_end-end.ensures.begins;
-  order = c.requests_end-end.ensures.order;
+pub add-requires-clause-columns : goal.add-requires-clause-columns
+add-requires-clause-columns g c = record {
+  counted = c.requires.ordered.counted;
+  resource = c.in-Some.ensures.some.known;
+  known = c.requires.ordered.known;
+  stretch = record {
+    from = c.in-Some.ensures.some.begins c.loop-q.invariant.0 c.loop-q.invariant.2;
+    to = c.requests_end-end.ensures.begins;
+    order = c.requests_end-end.ensures.order;
+  };
 }
 
 pub loop-q-smaller : goal.loop-q-smaller

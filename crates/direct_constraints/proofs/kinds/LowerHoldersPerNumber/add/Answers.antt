@@ -1,6 +1,6 @@
-use Rattle.std.proofs.Common.{◌∙◌, map, length, sym, arith}
+use Rattle.std.proofs.Common.{◌∙◌, map, sym, arith}
 use Rattle.blocking_columns.specs.ColumnDef.{column_seen}
-use Rattle.fragments.proofs.RowStretches.{stretch_of_lower, columns_of_lower}
+use Rattle.fragments.proofs.RowStretches.{row_over_lower}
 use Rattle.direct_constraints.specs.Rows.{lower_holder_row}
 use Rattle.direct_constraints.proofs.AskedColumns.{no_lower_holders, lower_holders_alone}
 use Rattle.direct_constraints.proofs.kinds.LowerHoldersPerNumber.add.Goals as goal
@@ -12,14 +12,11 @@ returns-then-not-uses g c =
     c.args.bounds.now
     (no_lower_holders set c.args.i.0 c.args.number (sym c.uses.ensures ∙ c.if-not-uses.true) c.args.columns.now c.requires.fits.1)
 
-pub add_row_within-requires-clause-stretch : goal.add_row_within-requires-clause-stretch
-add_row_within-requires-clause-stretch g c =
+pub add_row_within-requires-clause-row : goal.add_row_within-requires-clause-row
+add_row_within-requires-clause-row g c =
     let set = c.args.set.now in
     let i = c.args.i.0 in
     let q = c.args.number in
-    stretch_of_lower i c.args.columns.now (lower_holder_row set i q) c.args.self.now.from c.requires.fits.2 (lower_holders_alone set i q)
-
-pub add_row_within-requires-clause-over : goal.add_row_within-requires-clause-over
-add_row_within-requires-clause-over g c = columns_of_lower (length c.args.set.now.tasks) (length c.args.set.now.resources) c.args.i.0
-    c.args.columns.now c.args.self.now.from c.requires.known
+    row_over_lower set i c.args.columns.now (lower_holder_row set i q) c.args.self.now.from c.requires.at.task c.requires.at.known
     (omega (arith, c.resources-resources.ensures.most, c.resources-resources.ensures.value)) c.requires.fits.2
+    (lower_holders_alone set i q)
