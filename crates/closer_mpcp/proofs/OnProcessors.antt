@@ -10,8 +10,11 @@ use Rattle.number_laws.specs.Sums.{sum_below, only_if}
 use Rattle.number_laws.proofs.SumLaws.{sum_below-agree, sum_below-plus, sum_below-one, sum_below-zero, only_if-true, only_if-false}
 use Rattle.sporadic_model.specs.SetDef.{SetDef, task_at}
 use Rattle.sporadic_model.specs.declared.ids.TaskId.{TaskId}
+use Rattle.indirect_constraints.specs.Rows.{is_beside}
 use Rattle.mpcp_window_laws.specs.MpcpWindows.{may_run_instead}
-use Rattle.closer_mpcp.proofs.ListedSums.{made_by, one_term_more}
+use Rattle.closer_mpcp.specs.Sums.{made_on, made_beside, AreSumsOf}
+use Rattle.closer_mpcp.specs.declared.sums.Sums.{Sums}
+use Rattle.closer_mpcp.proofs.ListedSums.{made_by, one_term_more, sum_of_own}
 
 -- One listed task's holdings are added at its processor.
 pub added : (i : ℕ) (p f : ℕ → ℕ) (ys : List TaskId) (d : TaskId) (j k at n total : ℕ) (holdings : List ℕ) → j < length ys
@@ -47,6 +50,38 @@ added_most at k n most more holdings within each few l = elim (cases_eq k at) [
   | inr other ↦ omega (arith, get_or-set_other holdings at k (slice_index holdings at + n) 0 other, each k l, few)
 ]
 
+-- On x's processor another task makes the one, and x itself the other.
+beside_or_own : (set : SetDef) (x y m : ℕ)
+    → only_if (is_beside set x y) m + only_if (y == x) m ≡ only_if ((task_at set y).processor == (task_at set x).processor) m
+beside_or_own set x y m = elim (cases_eq y x) [
+  | inl same ↦ rw (
+    eq-eqb y x same,
+    eq-eqb (task_at set y).processor (task_at set x).processor (ap (λ t. (task_at set t).processor) same),
+  ) (omega arith)
+  | inr apart ↦ rw (ne_eqb y x apart) (omega arith)
+]
+
+-- All tasks of x's processor make what the others do, and what x does.
+pub all_on : (set : SetDef) (x : ℕ) (f : ℕ → ℕ) → x < length set.tasks → made_beside set f x + f x ≡ made_on set f (task_at set x).processor
+all_on set x f here =
+    let n = length set.tasks in
+    let one : sum_below n (λ y. only_if (y == x) (f y)) ≡ f x =
+    sum_below-one n (λ y. only_if (y == x) (f y)) x here (λ y l other. only_if-false (y == x) (f y) (ne_eqb y x other))
+    ∙ only_if-true (x == x) (f x) (eq-eqb x x refl) in
+    let parts : sum_below n (λ y. only_if (is_beside set x y) (f y) + only_if (y == x) (f y))
+    ≡ sum_below n (λ y. only_if (is_beside set x y) (f y)) + sum_below n (λ y. only_if (y == x) (f y)) =
+    sum_below-plus n (λ y. only_if (is_beside set x y) (f y)) (λ y. only_if (y == x) (f y)) in
+    let all : sum_below n (λ y. only_if (is_beside set x y) (f y) + only_if (y == x) (f y)) ≡ made_on set f (task_at set x).processor =
+    sum_below-agree n (λ y. only_if (is_beside set x y) (f y) + only_if (y == x) (f y))
+    (λ y. only_if ((task_at set y).processor == (task_at set x).processor) (f y)) (λ y l. beside_or_own set x y (f y)) in
+    omega (arith, one, parts, all)
+
+-- Where only tasks higher than i make something, these do.
+pub higher_beside : (set : SetDef) (i x : ℕ) (f : ℕ → ℕ) (s : Sums) → i < length set.tasks → AreSumsOf set i f s
+    → made_beside set (slice_index s.own) x ≡ sum_below i (λ y. only_if (is_beside set x y) (f y))
+higher_beside set i x f s here sums =
+    sum_of_own (length set.tasks) i (is_beside set x) f (slice_index s.own) (omega (arith, here)) sums.each
+
 -- Another task on x's processor than x and i makes the one, and x itself the other.
 split : (set : SetDef) (i x y m : ℕ) → (x ≡ i → ⊥)
     → only_if (may_run_instead set i y x) m + only_if (y == x) m ≡ only_if ((task_at set y).processor == (task_at set x).processor) m
@@ -74,7 +109,7 @@ split set i x y m other = elim (cases_eq x y) [
 ]
 
 -- Of the tasks higher than i one may be x.
-own_term : (i x : ℕ) (f : ℕ → ℕ) → sum_below i (λ y. only_if (y == x) (f y)) ≡ only_if (nat_lt x i) (f x)
+pub own_term : (i x : ℕ) (f : ℕ → ℕ) → sum_below i (λ y. only_if (y == x) (f y)) ≡ only_if (nat_lt x i) (f x)
 own_term i x f = elim (cases_lt x i) [
   | inl higher ↦ sum_below-one i (λ y. only_if (y == x) (f y)) x higher (λ y l other. only_if-false (y == x) (f y) (ne_eqb y x other))
       ∙ (only_if-true (x == x) (f x) (eq-eqb x x refl) ∙ sym (only_if-true (nat_lt x i) (f x) (lt-ltb x i higher)))

@@ -10,7 +10,7 @@ use Rattle.blocking_columns.specs.Windows.{requests_in}
 use Rattle.indirect_constraints.specs.Rows.{is_beside}
 use Rattle.closer_laws.specs.CloserRows.{is_shared_out, is_held_there}
 use Rattle.closer_mpcp_laws.specs.CloserMpcpRows.{goes_first, goes_before, is_away, away_holdings, shared_holdings}
-use Rattle.mpcp_window_laws.specs.WaitRows.{requests_in_waits, held_in_waits}
+use Rattle.mpcp_window_laws.specs.WaitRows.{held_in_waits}
 use Rattle.closer_mpcp.specs.declared.places.Place.{Place}
 use Rattle.closer_mpcp.specs.declared.places.Place.TheVariants as place
 
@@ -36,10 +36,6 @@ has_lower p set i x r = any_below (length set.tasks) (λ y. nat_lt i y && (is_lo
 -- How many requests of r can lower tasks at this place hold while a job of i waits for them? One for each request of i, if there is one.
 abbrev pub lower_held : Place → SetDef → ℕ → ℕ → ℕ → ℕ
 lower_held p set i x r = only_if (has_lower p set i x r) (count_of set i r)
-
--- How many requests of r can y hold on x's processor while i waits for them, if it is another task there and higher than i?
-abbrev pub held_by : SetDef → (ℕ → ℕ) → ℕ → ℕ → ℕ → ℕ → ℕ
-held_by set bounds i x y r = only_if (nat_lt y i && is_beside set x y) (requests_in_waits set bounds i r y r)
 
 -- How many requests of r can be held beside x while i waits for them?
 abbrev pub held_beside : SetDef → (ℕ → ℕ) → ℕ → ℕ → ℕ → ℕ

@@ -7,10 +7,13 @@ use Rattle.blocking_columns.specs.Windows.{requests_during}
 use Rattle.closer_laws.specs.CloserRows.{is_shared_out}
 use Rattle.closer_mpcp_laws.specs.CloserMpcpRows.{goes_first}
 use Rattle.mpcp_window_laws.specs.MpcpWindows.{longest_first, time_first, longest_lower_holding, ticks_instead}
+use Rattle.mpcp_window_laws.specs.WaitRows.{requests_in_waits}
 use Rattle.closer_mpcp.specs.Given.{AreRequestsIn}
 use Rattle.closer_mpcp.specs.Holdings.{held_beside}
+use Rattle.closer_mpcp.specs.Sums.{AreSumsOf, AreSumsOfUsed}
 use Rattle.closer_mpcp.specs.declared.first_ticks.FirstTicks.{FirstTicks}
 use Rattle.closer_mpcp.specs.declared.lower_holders.OtherHolders.{OtherHolders}
+use Rattle.closer_mpcp.specs.declared.sums.Sums.{Sums}
 
 -- Is it said how long x's requests of r last, if they go first while another task of its processor holds q: one, and all that one job makes?
 pub record AreFirstOfResource (set : SetDef) (x q r : ℕ) (first : FirstTicks) : Type 0 where
@@ -64,6 +67,14 @@ pub record AreHoldingsFor (set : SetDef) (bounds : List ℕ) (i q span : ℕ) (h
 -- For how many ticks may all tasks run instead of the holders, in a span of ticks?
 abbrev pub all_ticks_instead : SetDef → (ℕ → ℕ) → ℕ → ℕ → ℕ → ℕ
 all_ticks_instead set bounds i q span = sum_below (length set.tasks) (ticks_instead set bounds i q span)
+
+-- Does the table say how many requests of r higher tasks can make while i waits for it?
+abbrev pub AreInWaits : SetDef → (ℕ → ℕ) → ℕ → ℕ → Sums → Type 0
+AreInWaits set bounds i r s = AreSumsOf set i (λ y. requests_in_waits set bounds i r y r) s
+
+-- Do the tables say it of each resource that i requests, in their order?
+abbrev pub AreInWaitsEach : SetDef → (ℕ → ℕ) → ℕ → List Sums → Type 0
+AreInWaitsEach set bounds i tables = AreSumsOfUsed set i (λ r y. requests_in_waits set bounds i r y r) tables
 
 -- How many requests of r can be held beside x while i waits for them, if r is shared out?
 abbrev pub shared_beside : SetDef → (ℕ → ℕ) → ℕ → ℕ → ℕ → ℕ
