@@ -1,5 +1,5 @@
 -- Holdings summed by processor, and those beside a task.
-use Rattle.std.proofs.Common.{◌≡◌, ℕ, ◌+◌, ◌<◌, ◌≤◌, ◌==◌, ◌&&◌, nat_lt, List, length, drop}
+use Rattle.std.proofs.Common.{◌≡◌, ℕ, ◌+◌, ◌<◌, ◌≤◌, ◌==◌, ◌&&◌, not, true, false, nat_lt, List, length, drop}
 use Rattle.std.proofs.Common.{refl, sym, ap, ◌∙◌, arith, inl, inr}
 use Rattle.std.specs.Prelude.{slice_index, slice_index_or, slice_set}
 use Rattle.std.proofs.Math.Bool.{and-true, and-false}
@@ -10,6 +10,7 @@ use Rattle.number_laws.specs.Sums.{sum_below, only_if}
 use Rattle.number_laws.proofs.SumLaws.{sum_below-agree, sum_below-plus, sum_below-one, sum_below-zero, only_if-true, only_if-false}
 use Rattle.sporadic_model.specs.SetDef.{SetDef, task_at}
 use Rattle.sporadic_model.specs.declared.ids.TaskId.{TaskId}
+use Rattle.blocking_columns.specs.Columns.{have_one_processor}
 use Rattle.indirect_constraints.specs.Rows.{is_beside}
 use Rattle.mpcp_window_laws.specs.MpcpWindows.{may_run_instead}
 use Rattle.closer_mpcp.specs.Sums.{made_on, made_beside, AreSumsOf}
@@ -132,3 +133,17 @@ beside_and_own set i x f other =
 pub none_for_itself : (set : SetDef) (i : ℕ) (f : ℕ → ℕ) → sum_below i (λ y. only_if (may_run_instead set i y i) (f y)) ≡ 0
 none_for_itself set i f = sum_below-zero i (λ y. only_if (may_run_instead set i y i) (f y))
     (λ y l. rw (eq-eqb i i refl) (only_if-false _ (f y) (and-false _)))
+
+-- While i waits on another processor than y's, each other task there may run instead of y.
+pub others_run : (set : SetDef) (i y : ℕ) (f : ℕ → ℕ) → have_one_processor set y i ≡ false
+    → sum_below (length set.tasks) (λ x. only_if (may_run_instead set i y x) (f x)) ≡ made_beside set f y
+others_run set i y f away = sum_below-agree (length set.tasks) (λ x. only_if (may_run_instead set i y x) (f x))
+    (λ x. only_if (is_beside set y x) (f x)) (λ x l. elim (cases_eq x i) [
+      | inl same ↦
+          let apart : (task_at set x).processor == (task_at set y).processor ≡ false = ne_eqb (task_at set x).processor (task_at set y).processor (λ e.
+          let one : have_one_processor set y i ≡ true = eq-eqb (task_at set y).processor (task_at set i).processor
+          (sym e ∙ ap (λ t. (task_at set t).processor) same) in
+          absurd (cc)) in
+          rw (apart, and-false (not (x == y))) refl
+      | inr other ↦ rw (ne_eqb x i other) (ap (λ b. only_if b (f x)) (and-true (is_beside set y x)))
+    ])

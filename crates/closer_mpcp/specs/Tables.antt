@@ -10,7 +10,7 @@ use Rattle.mpcp_window_laws.specs.MpcpWindows.{longest_first, time_first, longes
 use Rattle.mpcp_window_laws.specs.WaitRows.{requests_in_waits}
 use Rattle.closer_mpcp.specs.Given.{AreRequestsIn}
 use Rattle.closer_mpcp.specs.Holdings.{held_beside}
-use Rattle.closer_mpcp.specs.Sums.{AreSumsOf, AreSumsOfUsed}
+use Rattle.closer_mpcp.specs.Sums.{made_on, AreSumsOf, AreSumsOfUsed}
 use Rattle.closer_mpcp.specs.declared.first_ticks.FirstTicks.{FirstTicks}
 use Rattle.closer_mpcp.specs.declared.lower_holders.OtherHolders.{OtherHolders}
 use Rattle.closer_mpcp.specs.declared.sums.Sums.{Sums}
@@ -35,11 +35,16 @@ pub record AreFirst (set : SetDef) (q : ℕ) (first : List FirstTicks) : Type 0 
   pub enough : length set.tasks ≤ length first
   pub each : (x : ℕ) → x < length set.tasks → AreFirstOf set x q (slice_index_or first x (record { longest = 0; all = 0 }))
 
--- Is x a task of the set, and q a resource of which it is said so?
-pub record AreTaskAndFirst (set : SetDef) (x q : ℕ) (ticks : List FirstTicks) : Type 0 where
-  pub task : x < length set.tasks
-  pub resource : q < length set.resources
-  pub first : AreFirst set q ticks
+-- Is it said how long these last on each processor, the longest one of each of its tasks?
+pub record AreLongestOn (set : SetDef) (q : ℕ) (ticks : List ℕ) : Type 0 where
+  pub processors : length ticks ≡ 65
+  pub sum : (k : ℕ) → k < 65 → slice_index ticks k ≡ made_on set (λ x. longest_first set x q) k
+  pub small : (k : ℕ) → k < 65 → slice_index ticks k ≤ 64000000000
+
+-- Is it said of each task and of each processor?
+pub record AreFirstOn (set : SetDef) (q : ℕ) (first : List FirstTicks) (ticks : List ℕ) : Type 0 where
+  pub each : AreFirst set q first
+  pub on : AreLongestOn set q ticks
 
 -- Is this what others may do with q while i waits for it?
 pub record AreHolders (set : SetDef) (i q : ℕ) (holders : OtherHolders) : Type 0 where
