@@ -61,6 +61,11 @@ pub record AreTwoBounds (set : SetDef) (r bounds : List ℕ) : Type 0 where
   pub earlier : AreWithinDeadlines set r
   pub within : AreWithinDeadlines set bounds
 
+-- Is what happens in a span counted with such bounds, where it is at most the longest deadline of any set?
+pub record AreInSpan (set : SetDef) (bounds : List ℕ) (ticks : ℕ) : Type 0 where
+  pub within : AreWithinDeadlines set bounds
+  pub span : ticks ≤ 1000000000
+
 -- Are jobs of x counted with such bounds, in a span that is at most the longest deadline of any set?
 pub record AreJobsIn (set : SetDef) (bounds : List ℕ) (ticks x : ℕ) : Type 0 where
   pub task : x < length set.tasks

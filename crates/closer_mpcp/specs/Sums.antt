@@ -20,6 +20,7 @@ pub record AreSums (set : SetDef) (s : Sums) : Type 0 where
   pub processors : length s.on ≡ 65
   pub sum : (k : ℕ) → k < 65 → slice_index s.on k ≡ made_on set (slice_index s.own) k
   pub small : (k : ℕ) → k < 65 → slice_index s.on k ≤ 128000000000000
+  pub own_small : (y : ℕ) → y < 64 → slice_index s.own y ≤ 128000000000000
 
 -- Is that so, and does each task that is higher than i make as much as f says, and no other task anything?
 pub record AreSumsOf (set : SetDef) (i : ℕ) (f : ℕ → ℕ) (s : Sums) : Type 0 where

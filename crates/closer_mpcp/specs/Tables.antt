@@ -1,7 +1,7 @@
 -- What searches and limits look up. In each, i is the analysed task.
-use Rattle.std.specs.Prelude.{◌≡◌, ℕ, ◌*◌, ◌<◌, ◌≤◌, ◌==◌, List, [], length, slice_index, slice_index_or}
+use Rattle.std.specs.Prelude.{◌≡◌, ℕ, ◌*◌, ◌<◌, ◌≤◌, List, [], length, slice_index, slice_index_or}
 use Rattle.number_laws.specs.Sums.{sum_below, only_if}
-use Rattle.sporadic_model.specs.SetDef.{SetDef, task_at}
+use Rattle.sporadic_model.specs.SetDef.{SetDef}
 use Rattle.sporadic_model.specs.Users.{used_by, count_of, length_of}
 use Rattle.blocking_columns.specs.Windows.{requests_during}
 use Rattle.closer_laws.specs.CloserRows.{is_shared_out}
@@ -52,21 +52,14 @@ pub record AreHolders (set : SetDef) (i q : ℕ) (holders : OtherHolders) : Type
   pub lower : holders.lower ≡ longest_lower_holding set i q
   pub lower_to : holders.lower ≤ 65000000000
 
--- How often may jobs of higher tasks hold q on processor k in a span of ticks?
-abbrev pub holdings_on : SetDef → (ℕ → ℕ) → ℕ → ℕ → ℕ → ℕ → ℕ
-holdings_on set bounds i q span k =
-    sum_below i (λ y. only_if ((task_at set y).processor == k) (requests_during set bounds span y q))
+-- Does the table say how often jobs of higher tasks may hold q in a span of ticks?
+abbrev pub AreHoldings : SetDef → (ℕ → ℕ) → ℕ → ℕ → ℕ → Sums → Type 0
+AreHoldings set bounds i q span s = AreSumsOf set i (λ y. requests_during set bounds span y q) s
 
--- Is it said of each processor?
-pub record AreHoldings (set : SetDef) (bounds : ℕ → ℕ) (i q span : ℕ) (holdings : List ℕ) : Type 0 where
-  pub one_each : length holdings ≡ 65
-  pub each : (k : ℕ) → k < 65 → slice_index holdings k ≡ holdings_on set bounds i q span k
-  pub small : (k : ℕ) → k < 65 → slice_index holdings k ≤ 128000000000000
-
--- Is it said while a request of q by i waits, at these bounds, and is x a task?
-pub record AreHoldingsFor (set : SetDef) (bounds : List ℕ) (i q span : ℕ) (held : List ℕ) (x : ℕ) : Type 0 where
+-- Does it while a request of q by i waits, at these bounds, and is x a task?
+pub record AreHoldingsFor (set : SetDef) (bounds : List ℕ) (i q span : ℕ) (s : Sums) (x : ℕ) : Type 0 where
   pub request : AreRequestsIn set bounds span i q
-  pub holdings : AreHoldings set (slice_index bounds) i q span held
+  pub holdings : AreHoldings set (slice_index bounds) i q span s
   pub runner : x < length set.tasks
 
 -- For how many ticks may all tasks run instead of the holders, in a span of ticks?

@@ -110,6 +110,14 @@ returns g c =
           c.tasks-tasks.ensures.most,
           c.loop-y.invariant.on_most k l,
         );
+        own_small = λ y l. omega (
+          arith,
+          users_few set r users c.users-users.ensures.value,
+          c.loop-y.auto.y-index-end,
+          c.tasks-tasks.ensures.value,
+          c.tasks-tasks.ensures.most,
+          c.loop-y.invariant.own_most y l,
+        );
       };
       each = own;
     }
