@@ -1,5 +1,5 @@
 -- Holdings summed by processor, and those beside a task.
-use Rattle.std.proofs.Common.{◌≡◌, ℕ, ◌+◌, ◌<◌, ◌≤◌, ◌==◌, ◌&&◌, not, true, false, nat_lt, List, length, drop}
+use Rattle.std.proofs.Common.{◌≡◌, ℕ, ◌+◌, ◌<◌, ◌≤◌, ◌==◌, ◌&&◌, Bool, not, true, false, nat_lt, List, length, drop}
 use Rattle.std.proofs.Common.{refl, sym, ap, ◌∙◌, arith, inl, inr}
 use Rattle.std.specs.Prelude.{slice_index, slice_index_or, slice_set}
 use Rattle.std.proofs.Math.Bool.{and-true, and-false}
@@ -12,8 +12,9 @@ use Rattle.sporadic_model.specs.SetDef.{SetDef, task_at}
 use Rattle.sporadic_model.specs.declared.ids.TaskId.{TaskId}
 use Rattle.blocking_columns.specs.Columns.{have_one_processor}
 use Rattle.indirect_constraints.specs.Rows.{is_beside}
+use Rattle.closer_mpcp_laws.specs.CloserMpcpRows.{is_away}
 use Rattle.mpcp_window_laws.specs.MpcpWindows.{may_run_instead}
-use Rattle.closer_mpcp.specs.Sums.{made_on, made_beside, AreSumsOf}
+use Rattle.closer_mpcp.specs.Sums.{made_on, made_beside, made_away, AreSumsOf}
 use Rattle.closer_mpcp.specs.declared.sums.Sums.{Sums}
 use Rattle.closer_mpcp.proofs.ListedSums.{made_by, one_term_more, sum_of_own}
 
@@ -77,7 +78,25 @@ all_on set x f here =
     (λ y. only_if ((task_at set y).processor == (task_at set x).processor) (f y)) (λ y l. beside_or_own set x y (f y)) in
     omega (arith, one, parts, all)
 
+either : (b : Bool) (n : ℕ) → only_if (not b) n + only_if b n ≡ n
+either true n = omega arith
+either false n = omega arith
+
+-- All tasks make what those of other processors do, and those of x's processor.
+pub all_away : (set : SetDef) (x : ℕ) (f : ℕ → ℕ)
+    → made_away set f x + made_on set f (task_at set x).processor ≡ sum_below (length set.tasks) f
+all_away set x f =
+    let n = length set.tasks in
+    let at : ℕ → Bool = λ y. (task_at set y).processor == (task_at set x).processor in
+    sym (sum_below-plus n (λ y. only_if (not (at y)) (f y)) (λ y. only_if (at y) (f y)))
+    ∙ sum_below-agree n (λ y. only_if (not (at y)) (f y) + only_if (at y) (f y)) f (λ y l. either (at y) (f y))
+
 -- Where only tasks higher than i make something, these do.
+pub higher_away : (set : SetDef) (i x : ℕ) (f : ℕ → ℕ) (s : Sums) → i < length set.tasks → AreSumsOf set i f s
+    → made_away set (slice_index s.own) x ≡ sum_below i (λ y. only_if (is_away set x y) (f y))
+higher_away set i x f s here sums =
+    sum_of_own (length set.tasks) i (is_away set x) f (slice_index s.own) (omega (arith, here)) sums.each
+
 pub higher_beside : (set : SetDef) (i x : ℕ) (f : ℕ → ℕ) (s : Sums) → i < length set.tasks → AreSumsOf set i f s
     → made_beside set (slice_index s.own) x ≡ sum_below i (λ y. only_if (is_beside set x y) (f y))
 higher_beside set i x f s here sums =

@@ -49,13 +49,6 @@ pub record IsRequestAt (set : SetDef) (bounds : List ℕ) (x r : ℕ) : Type 0 w
   pub resource : r < length set.resources
   pub within : AreWithinDeadlines set bounds
 
--- Is it such a request, and y a task too?
-pub record AreRequestAndTask (set : SetDef) (bounds : List ℕ) (x r y : ℕ) : Type 0 where
-  pub task : x < length set.tasks
-  pub resource : r < length set.resources
-  pub within : AreWithinDeadlines set bounds
-  pub other : y < length set.tasks
-
 -- Are the bounds such, both the earlier ones in r and those now?
 pub record AreTwoBounds (set : SetDef) (r bounds : List ℕ) : Type 0 where
   pub earlier : AreWithinDeadlines set r

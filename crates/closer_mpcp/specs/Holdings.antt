@@ -6,7 +6,6 @@ use Rattle.sporadic_model.specs.SetDef.{SetDef}
 use Rattle.sporadic_model.specs.Users.{count_of, is_user}
 use Rattle.sporadic_model.specs.declared.ids.ResourceId.{ResourceId}
 use Rattle.blocking_columns.specs.Columns.{have_one_processor}
-use Rattle.blocking_columns.specs.Windows.{requests_in}
 use Rattle.indirect_constraints.specs.Rows.{is_beside}
 use Rattle.closer_laws.specs.CloserRows.{is_shared_out, is_held_there}
 use Rattle.closer_mpcp_laws.specs.CloserMpcpRows.{goes_first, goes_before, is_away, away_holdings, shared_holdings}
@@ -19,12 +18,12 @@ abbrev pub passes : SetDef → ℕ → Option ResourceId → ℕ → Bool
 passes set x None r = goes_before set x r
 passes set x (Some q) r = goes_first set x q.0 r
 
--- Is a higher task y at this place of x?
+-- Is y at this place of x, as far as i's processor isn't asked for?
 abbrev pub is_at : Place → SetDef → ℕ → ℕ → Bool
 is_at place.Beside set x y = is_beside set x y
 is_at place.Away set x y = is_away set x y
 
--- Is a lower one?
+-- Is a lower task y?
 abbrev pub is_lower_at : Place → SetDef → ℕ → ℕ → ℕ → Bool
 is_lower_at place.Beside set i x y = is_beside set x y
 is_lower_at place.Away set i x y = is_away set x y && is_away set i y
@@ -49,10 +48,6 @@ counts set i x q r = is_shared_out set i r && passes set x q r
 -- How many requests that i waits for, and that are shared out, can be held beside x, where x may run its requests of q meanwhile?
 abbrev pub holdings_in_waits : SetDef → (ℕ → ℕ) → ℕ → ℕ → Option ResourceId → ℕ
 holdings_in_waits set bounds i x q = shared_holdings set (held_in_waits set i bounds x) i x (passes set x q)
-
--- How many requests of r by y can run within i's bound, if y is higher than i and on another processor than x?
-abbrev pub requests_away : SetDef → (ℕ → ℕ) → ℕ → ℕ → ℕ → ℕ → ℕ
-requests_away set bounds i x y r = only_if (nat_lt y i && is_away set x y) (requests_in set bounds i y r)
 
 -- How many requests of x can run while i waits for r, and a task of x's processor holds it?
 abbrev pub runs_there : SetDef → (ℕ → ℕ) → ℕ → ℕ → ℕ → ℕ

@@ -1,13 +1,14 @@
 -- What searches and limits look up. In each, i is the analysed task.
-use Rattle.std.specs.Prelude.{◌≡◌, ℕ, ◌*◌, ◌<◌, ◌≤◌, List, [], length, slice_index, slice_index_or}
+use Rattle.std.specs.Prelude.{◌≡◌, ℕ, ◌*◌, ◌<◌, ◌≤◌, Bool, List, [], length, slice_index, slice_index_or}
 use Rattle.number_laws.specs.Sums.{sum_below, only_if}
 use Rattle.sporadic_model.specs.SetDef.{SetDef}
 use Rattle.sporadic_model.specs.Users.{used_by, count_of, length_of}
-use Rattle.blocking_columns.specs.Windows.{requests_during}
+use Rattle.blocking_columns.specs.Windows.{requests_in, requests_during}
 use Rattle.closer_laws.specs.CloserRows.{is_shared_out}
 use Rattle.closer_mpcp_laws.specs.CloserMpcpRows.{goes_first}
 use Rattle.mpcp_window_laws.specs.MpcpWindows.{longest_first, time_first, longest_lower_holding, ticks_instead}
 use Rattle.mpcp_window_laws.specs.WaitRows.{requests_in_waits}
+use Rattle.shared_requests.specs.Held.{AreSharedOut}
 use Rattle.closer_mpcp.specs.Given.{AreRequestsIn}
 use Rattle.closer_mpcp.specs.Holdings.{held_beside}
 use Rattle.closer_mpcp.specs.Sums.{made_on, AreSumsOf, AreSumsOfUsed}
@@ -73,6 +74,19 @@ AreInWaits set bounds i r s = AreSumsOf set i (λ y. requests_in_waits set bound
 -- Do the tables say it of each resource that i requests, in their order?
 abbrev pub AreInWaitsEach : SetDef → (ℕ → ℕ) → ℕ → List Sums → Type 0
 AreInWaitsEach set bounds i tables = AreSumsOfUsed set i (λ r y. requests_in_waits set bounds i r y r) tables
+
+-- Does the table say how many requests of r higher tasks can make within the bound of a job of i?
+abbrev pub AreInBound : SetDef → (ℕ → ℕ) → ℕ → ℕ → Sums → Type 0
+AreInBound set bounds i r s = AreSumsOf set i (λ y. requests_in set bounds i y r) s
+
+-- Do the tables say it of each resource that i requests, in their order?
+abbrev pub AreInBoundEach : SetDef → (ℕ → ℕ) → ℕ → List Sums → Type 0
+AreInBoundEach set bounds i tables = AreSumsOfUsed set i (λ r y. requests_in set bounds i y r) tables
+
+-- Does s say of each resource whether it is shared out, and do the tables say how many requests higher tasks can make so?
+pub record AreAwayTables (set : SetDef) (bounds : List ℕ) (i : ℕ) (s : List Bool) (tables : List Sums) : Type 0 where
+  pub shared : AreSharedOut set i s
+  pub sums : AreInBoundEach set (slice_index bounds) i tables
 
 -- How many requests of r can be held beside x while i waits for them, if r is shared out?
 abbrev pub shared_beside : SetDef → (ℕ → ℕ) → ℕ → ℕ → ℕ → ℕ

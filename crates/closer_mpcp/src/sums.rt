@@ -7,7 +7,7 @@ ghost use Rattle.sporadic_model.specs.SetDef.{SetDef};
 ghost use Rattle.sporadic_model.specs.Users.{is_user};
 ghost use Rattle.closer_mpcp.specs.Amounts.{IsAmount};
 ghost use Rattle.closer_mpcp.specs.Given.{AreTaskAndResource};
-ghost use Rattle.closer_mpcp.specs.Sums.{made_beside, AreSums, AreSumsOf, AreSumsOfUsed};
+ghost use Rattle.closer_mpcp.specs.Sums.{made_beside, made_away, AreSums, AreSumsOf, AreSumsOfUsed};
 
 use sporadic_model::{ResourceId, TaskId, TaskSet};
 use std::alloc::{AllocError, Global};
@@ -37,6 +37,8 @@ pub(crate) struct Sums {
     pub(crate) own: [u64; 64],
     /// How many the tasks of each processor make. Processors are counted from 1.
     pub(crate) on: [u64; 65],
+    /// How many all tasks make.
+    pub(crate) all: u64,
 }
 
 // How many are there of `r` by `y`, if it is higher than `i`?
@@ -59,12 +61,14 @@ pub(crate) fn sums_of<R: Requests>(set: &TaskSet, requests: &R, i: TaskId, r: Re
     let users = set.users(r);
     let mut own = [0u64; 64];
     let mut on = [0u64; 65];
+    let mut all = 0;
     for y in users {
         let made = of_higher(set, requests, i, r, *y);
         own[y.0 as usize] += made;
         on[set.processor(*y) as usize] += made;
+        all += made;
     }
-    Sums { own, on }
+    Sums { own, on, all }
 }
 
 /// The sums of those of each resource that `i` requests, in their order.
@@ -95,4 +99,15 @@ pub(crate) fn beside(set: &TaskSet, sums: &Sums, x: TaskId) -> u64
     // a set has at most 64 tasks and 64 processors
     let _tasks = set.tasks();
     sums.on[set.processor(x) as usize] - sums.own[x.0 as usize]
+}
+
+/// How many do tasks of other processors make?
+pub(crate) fn away(set: &TaskSet, sums: &Sums, x: TaskId) -> u64
+    requires task { x.0 < length set.now.tasks }
+    requires sums { AreSums set.now sums.now }
+    ensures { IsAmount result (made_away set.now (slice_index sums.now.own) x.0) 128000000000000 }
+{
+    // a set has at most 64 processors
+    let _tasks = set.tasks();
+    sums.all - sums.on[set.processor(x) as usize]
 }

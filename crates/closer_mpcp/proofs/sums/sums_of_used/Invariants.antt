@@ -8,5 +8,5 @@ abbrev pub invariant-loop-k : goal.invariant-loop-k
 invariant-loop-k g l = record {
   one_each : length l.each.items ≡ l.k;
   each : (k : ℕ) → k < l.k → AreSumsOf l.set l.i.0 (g.R.Requests.made l.requests l.set (slice_index (used_by l.set l.i.0) k))
-      (slice_index_or l.each.items k (record { own = []; on = [] }));
+      (slice_index_or l.each.items k (record { own = []; on = []; all = 0 }));
 }
