@@ -19,8 +19,6 @@ use Rattle.sporadic_model.specs.declared.ids.ResourceId.{ResourceId}
 use Rattle.blocking_columns.specs.Windows.{jobs_during}
 use Rattle.blocking_columns.proofs.KeptNumbers.{sum_of_kept, sum_where_kept, kept_few}
 use Rattle.mpcp_window_laws.specs.MpcpWindows.{own_ticks}
-use Rattle.mpcp_window_laws.specs.WaitRows.{requests_in_waits}
-use Rattle.mpcp_window_laws.proofs.WaitLimits.{none_by}
 
 -- Terms of tasks from i on are none.
 sum_of_higher : (i n : ℕ) (at : ℕ → Bool) (f : ℕ → ℕ) → i ≤ n
@@ -33,6 +31,19 @@ sum_of_higher i n at f within =
     let first : sum_below i g ≡ sum_below i (λ y. only_if (at y) (f y)) =
     sum_below-agree i g (λ y. only_if (at y) (f y)) (λ y l. rw (lt-ltb y i l) refl) in
     ap (λ m. sum_below m g) whole ∙ (sum_below-split i (n - i) g ∙ omega (arith, rest, first))
+
+-- Two tests are asked one after the other.
+pub both_asked : (a b : Bool) (n : ℕ) → only_if b (only_if a n) ≡ only_if (a && b) n
+both_asked true b n = refl
+both_asked false true n = refl
+both_asked false false n = refl
+
+-- Sums over what each task makes by itself, where it makes something only if it is higher than i.
+pub sum_of_own : (n i : ℕ) (at : ℕ → Bool) (f own : ℕ → ℕ) → i ≤ n → ((y : ℕ) → y < n → own y ≡ only_if (nat_lt y i) (f y))
+    → sum_below n (λ y. only_if (at y) (own y)) ≡ sum_below i (λ y. only_if (at y) (f y))
+sum_of_own n i at f own within each = sum_below-agree n (λ y. only_if (at y) (own y)) (λ y. only_if (nat_lt y i && at y) (f y))
+    (λ y l. ap (only_if (at y)) (each y l) ∙ both_asked (nat_lt y i) (at y) (f y))
+    ∙ sum_of_higher i n at f within
 
 -- What those of the listed tasks make that are higher than i and pass.
 abbrev pub made_by : ℕ → (ℕ → Bool) → (ℕ → ℕ) → List TaskId → ℕ
@@ -71,9 +82,6 @@ none_own set bounds q w y unused =
     let nothing : jobs_during set bounds w y * (0 * length_of set y q) ≡ 0 = omega arith in
     ap (λ n. jobs_during set bounds w y * (n * length_of set y q)) none ∙ nothing
 
-pub none_in_waits : (set : SetDef) (bounds : ℕ → ℕ) (i y r : ℕ) → is_user set r y ≡ false → requests_in_waits set bounds i r y r ≡ 0
-none_in_waits set bounds i y r unused = omega (arith, none_by set bounds (bounds i) y r unused)
-
 pub users_few : (set : SetDef) (r : ℕ) (ys : List TaskId) → map (λ (y : TaskId). y.0) ys ≡ users_of set r → length ys ≤ length set.tasks
 users_few set r ys same = kept_few (λ (y : TaskId). y.0) ys (is_user set r) (length set.tasks) same
 
@@ -92,12 +100,6 @@ used_sum set i test f rs same =
 
 pub used_few : (set : SetDef) (i : ℕ) (rs : List ResourceId) → map (λ (r : ResourceId). r.0) rs ≡ used_by set i → length rs ≤ length set.resources
 used_few set i rs same = kept_few (λ (r : ResourceId). r.0) rs (λ r. is_user set r i) (length set.resources) same
-
--- Whether it is shared out, and what passes, are asked one after the other.
-pub both_asked : (a b : Bool) (n : ℕ) → only_if b (only_if a n) ≡ only_if (a && b) n
-both_asked true b n = refl
-both_asked false true n = refl
-both_asked false false n = refl
 
 -- There are as many as resources that the task uses.
 pub long_as : (set : SetDef) (i : ℕ) (rs : List ResourceId) → map (λ (r : ResourceId). r.0) rs ≡ used_by set i

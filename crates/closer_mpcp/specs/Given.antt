@@ -49,17 +49,15 @@ pub record IsRequestAt (set : SetDef) (bounds : List ℕ) (x r : ℕ) : Type 0 w
   pub resource : r < length set.resources
   pub within : AreWithinDeadlines set bounds
 
--- Is it such a request, and y a task too?
-pub record AreRequestAndTask (set : SetDef) (bounds : List ℕ) (x r y : ℕ) : Type 0 where
-  pub task : x < length set.tasks
-  pub resource : r < length set.resources
-  pub within : AreWithinDeadlines set bounds
-  pub other : y < length set.tasks
-
 -- Are the bounds such, both the earlier ones in r and those now?
 pub record AreTwoBounds (set : SetDef) (r bounds : List ℕ) : Type 0 where
   pub earlier : AreWithinDeadlines set r
   pub within : AreWithinDeadlines set bounds
+
+-- Is what happens in a span counted with such bounds, where it is at most the longest deadline of any set?
+pub record AreInSpan (set : SetDef) (bounds : List ℕ) (ticks : ℕ) : Type 0 where
+  pub within : AreWithinDeadlines set bounds
+  pub span : ticks ≤ 1000000000
 
 -- Are jobs of x counted with such bounds, in a span that is at most the longest deadline of any set?
 pub record AreJobsIn (set : SetDef) (bounds : List ℕ) (ticks x : ℕ) : Type 0 where

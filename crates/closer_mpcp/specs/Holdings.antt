@@ -6,11 +6,10 @@ use Rattle.sporadic_model.specs.SetDef.{SetDef}
 use Rattle.sporadic_model.specs.Users.{count_of, is_user}
 use Rattle.sporadic_model.specs.declared.ids.ResourceId.{ResourceId}
 use Rattle.blocking_columns.specs.Columns.{have_one_processor}
-use Rattle.blocking_columns.specs.Windows.{requests_in}
 use Rattle.indirect_constraints.specs.Rows.{is_beside}
 use Rattle.closer_laws.specs.CloserRows.{is_shared_out, is_held_there}
 use Rattle.closer_mpcp_laws.specs.CloserMpcpRows.{goes_first, goes_before, is_away, away_holdings, shared_holdings}
-use Rattle.mpcp_window_laws.specs.WaitRows.{requests_in_waits, held_in_waits}
+use Rattle.mpcp_window_laws.specs.WaitRows.{held_in_waits}
 use Rattle.closer_mpcp.specs.declared.places.Place.{Place}
 use Rattle.closer_mpcp.specs.declared.places.Place.TheVariants as place
 
@@ -19,12 +18,12 @@ abbrev pub passes : SetDef → ℕ → Option ResourceId → ℕ → Bool
 passes set x None r = goes_before set x r
 passes set x (Some q) r = goes_first set x q.0 r
 
--- Is a higher task y at this place of x?
+-- Is y at this place of x, as far as i's processor isn't asked for?
 abbrev pub is_at : Place → SetDef → ℕ → ℕ → Bool
 is_at place.Beside set x y = is_beside set x y
 is_at place.Away set x y = is_away set x y
 
--- Is a lower one?
+-- Is a lower task y?
 abbrev pub is_lower_at : Place → SetDef → ℕ → ℕ → ℕ → Bool
 is_lower_at place.Beside set i x y = is_beside set x y
 is_lower_at place.Away set i x y = is_away set x y && is_away set i y
@@ -36,10 +35,6 @@ has_lower p set i x r = any_below (length set.tasks) (λ y. nat_lt i y && (is_lo
 -- How many requests of r can lower tasks at this place hold while a job of i waits for them? One for each request of i, if there is one.
 abbrev pub lower_held : Place → SetDef → ℕ → ℕ → ℕ → ℕ
 lower_held p set i x r = only_if (has_lower p set i x r) (count_of set i r)
-
--- How many requests of r can y hold on x's processor while i waits for them, if it is another task there and higher than i?
-abbrev pub held_by : SetDef → (ℕ → ℕ) → ℕ → ℕ → ℕ → ℕ → ℕ
-held_by set bounds i x y r = only_if (nat_lt y i && is_beside set x y) (requests_in_waits set bounds i r y r)
 
 -- How many requests of r can be held beside x while i waits for them?
 abbrev pub held_beside : SetDef → (ℕ → ℕ) → ℕ → ℕ → ℕ → ℕ
@@ -53,10 +48,6 @@ counts set i x q r = is_shared_out set i r && passes set x q r
 -- How many requests that i waits for, and that are shared out, can be held beside x, where x may run its requests of q meanwhile?
 abbrev pub holdings_in_waits : SetDef → (ℕ → ℕ) → ℕ → ℕ → Option ResourceId → ℕ
 holdings_in_waits set bounds i x q = shared_holdings set (held_in_waits set i bounds x) i x (passes set x q)
-
--- How many requests of r by y can run within i's bound, if y is higher than i and on another processor than x?
-abbrev pub requests_away : SetDef → (ℕ → ℕ) → ℕ → ℕ → ℕ → ℕ → ℕ
-requests_away set bounds i x y r = only_if (nat_lt y i && is_away set x y) (requests_in set bounds i y r)
 
 -- How many requests of x can run while i waits for r, and a task of x's processor holds it?
 abbrev pub runs_there : SetDef → (ℕ → ℕ) → ℕ → ℕ → ℕ → ℕ

@@ -2,5 +2,6 @@ pub mod Amounts
 pub mod Given
 pub mod Holdings
 pub mod Rows
+pub mod Sums
 pub mod Tables
 pub mod Windows

@@ -1,16 +1,20 @@
 -- What searches and limits look up. In each, i is the analysed task.
-use Rattle.std.specs.Prelude.{◌≡◌, ℕ, ◌*◌, ◌<◌, ◌≤◌, ◌==◌, List, [], length, slice_index, slice_index_or}
+use Rattle.std.specs.Prelude.{◌≡◌, ℕ, ◌*◌, ◌<◌, ◌≤◌, Bool, List, [], length, slice_index, slice_index_or}
 use Rattle.number_laws.specs.Sums.{sum_below, only_if}
-use Rattle.sporadic_model.specs.SetDef.{SetDef, task_at}
+use Rattle.sporadic_model.specs.SetDef.{SetDef}
 use Rattle.sporadic_model.specs.Users.{used_by, count_of, length_of}
-use Rattle.blocking_columns.specs.Windows.{requests_during}
+use Rattle.blocking_columns.specs.Windows.{requests_in, requests_during}
 use Rattle.closer_laws.specs.CloserRows.{is_shared_out}
 use Rattle.closer_mpcp_laws.specs.CloserMpcpRows.{goes_first}
 use Rattle.mpcp_window_laws.specs.MpcpWindows.{longest_first, time_first, longest_lower_holding, ticks_instead}
+use Rattle.mpcp_window_laws.specs.WaitRows.{requests_in_waits}
+use Rattle.shared_requests.specs.Held.{AreSharedOut}
 use Rattle.closer_mpcp.specs.Given.{AreRequestsIn}
 use Rattle.closer_mpcp.specs.Holdings.{held_beside}
+use Rattle.closer_mpcp.specs.Sums.{made_on, AreSumsOf, AreSumsOfUsed}
 use Rattle.closer_mpcp.specs.declared.first_ticks.FirstTicks.{FirstTicks}
 use Rattle.closer_mpcp.specs.declared.lower_holders.OtherHolders.{OtherHolders}
+use Rattle.closer_mpcp.specs.declared.sums.Sums.{Sums}
 
 -- Is it said how long x's requests of r last, if they go first while another task of its processor holds q: one, and all that one job makes?
 pub record AreFirstOfResource (set : SetDef) (x q r : ℕ) (first : FirstTicks) : Type 0 where
@@ -32,11 +36,16 @@ pub record AreFirst (set : SetDef) (q : ℕ) (first : List FirstTicks) : Type 0 
   pub enough : length set.tasks ≤ length first
   pub each : (x : ℕ) → x < length set.tasks → AreFirstOf set x q (slice_index_or first x (record { longest = 0; all = 0 }))
 
--- Is x a task of the set, and q a resource of which it is said so?
-pub record AreTaskAndFirst (set : SetDef) (x q : ℕ) (ticks : List FirstTicks) : Type 0 where
-  pub task : x < length set.tasks
-  pub resource : q < length set.resources
-  pub first : AreFirst set q ticks
+-- Is it said how long these last on each processor, the longest one of each of its tasks?
+pub record AreLongestOn (set : SetDef) (q : ℕ) (ticks : List ℕ) : Type 0 where
+  pub processors : length ticks ≡ 65
+  pub sum : (k : ℕ) → k < 65 → slice_index ticks k ≡ made_on set (λ x. longest_first set x q) k
+  pub small : (k : ℕ) → k < 65 → slice_index ticks k ≤ 64000000000
+
+-- Is it said of each task and of each processor?
+pub record AreFirstOn (set : SetDef) (q : ℕ) (first : List FirstTicks) (ticks : List ℕ) : Type 0 where
+  pub each : AreFirst set q first
+  pub on : AreLongestOn set q ticks
 
 -- Is this what others may do with q while i waits for it?
 pub record AreHolders (set : SetDef) (i q : ℕ) (holders : OtherHolders) : Type 0 where
@@ -44,26 +53,40 @@ pub record AreHolders (set : SetDef) (i q : ℕ) (holders : OtherHolders) : Type
   pub lower : holders.lower ≡ longest_lower_holding set i q
   pub lower_to : holders.lower ≤ 65000000000
 
--- How often may jobs of higher tasks hold q on processor k in a span of ticks?
-abbrev pub holdings_on : SetDef → (ℕ → ℕ) → ℕ → ℕ → ℕ → ℕ → ℕ
-holdings_on set bounds i q span k =
-    sum_below i (λ y. only_if ((task_at set y).processor == k) (requests_during set bounds span y q))
+-- Does the table say how often jobs of higher tasks may hold q in a span of ticks?
+abbrev pub AreHoldings : SetDef → (ℕ → ℕ) → ℕ → ℕ → ℕ → Sums → Type 0
+AreHoldings set bounds i q span s = AreSumsOf set i (λ y. requests_during set bounds span y q) s
 
--- Is it said of each processor?
-pub record AreHoldings (set : SetDef) (bounds : ℕ → ℕ) (i q span : ℕ) (holdings : List ℕ) : Type 0 where
-  pub one_each : length holdings ≡ 65
-  pub each : (k : ℕ) → k < 65 → slice_index holdings k ≡ holdings_on set bounds i q span k
-  pub small : (k : ℕ) → k < 65 → slice_index holdings k ≤ 128000000000000
-
--- Is it said while a request of q by i waits, at these bounds, and is x a task?
-pub record AreHoldingsFor (set : SetDef) (bounds : List ℕ) (i q span : ℕ) (held : List ℕ) (x : ℕ) : Type 0 where
+-- Does it while a request of q by i waits, at these bounds, and is x a task?
+pub record AreHoldingsFor (set : SetDef) (bounds : List ℕ) (i q span : ℕ) (s : Sums) (x : ℕ) : Type 0 where
   pub request : AreRequestsIn set bounds span i q
-  pub holdings : AreHoldings set (slice_index bounds) i q span held
+  pub holdings : AreHoldings set (slice_index bounds) i q span s
   pub runner : x < length set.tasks
 
 -- For how many ticks may all tasks run instead of the holders, in a span of ticks?
 abbrev pub all_ticks_instead : SetDef → (ℕ → ℕ) → ℕ → ℕ → ℕ → ℕ
 all_ticks_instead set bounds i q span = sum_below (length set.tasks) (ticks_instead set bounds i q span)
+
+-- Does the table say how many requests of r higher tasks can make while i waits for it?
+abbrev pub AreInWaits : SetDef → (ℕ → ℕ) → ℕ → ℕ → Sums → Type 0
+AreInWaits set bounds i r s = AreSumsOf set i (λ y. requests_in_waits set bounds i r y r) s
+
+-- Do the tables say it of each resource that i requests, in their order?
+abbrev pub AreInWaitsEach : SetDef → (ℕ → ℕ) → ℕ → List Sums → Type 0
+AreInWaitsEach set bounds i tables = AreSumsOfUsed set i (λ r y. requests_in_waits set bounds i r y r) tables
+
+-- Does the table say how many requests of r higher tasks can make within the bound of a job of i?
+abbrev pub AreInBound : SetDef → (ℕ → ℕ) → ℕ → ℕ → Sums → Type 0
+AreInBound set bounds i r s = AreSumsOf set i (λ y. requests_in set bounds i y r) s
+
+-- Do the tables say it of each resource that i requests, in their order?
+abbrev pub AreInBoundEach : SetDef → (ℕ → ℕ) → ℕ → List Sums → Type 0
+AreInBoundEach set bounds i tables = AreSumsOfUsed set i (λ r y. requests_in set bounds i y r) tables
+
+-- Does s say of each resource whether it is shared out, and do the tables say how many requests higher tasks can make so?
+pub record AreAwayTables (set : SetDef) (bounds : List ℕ) (i : ℕ) (s : List Bool) (tables : List Sums) : Type 0 where
+  pub shared : AreSharedOut set i s
+  pub sums : AreInBoundEach set (slice_index bounds) i tables
 
 -- How many requests of r can be held beside x while i waits for them, if r is shared out?
 abbrev pub shared_beside : SetDef → (ℕ → ℕ) → ℕ → ℕ → ℕ → ℕ

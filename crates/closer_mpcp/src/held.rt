@@ -1,14 +1,16 @@
 //! What can be held beside each task, computed once for all rows of a program.
 
-ghost use Rattle.std.specs.Prelude.{◌<◌, length, slice_index, IfOk};
+ghost use Rattle.std.specs.Prelude.{slice_index, IfOk};
+ghost use Rattle.shared_requests.specs.Held.{AreSharedOut};
 ghost use Rattle.closer_mpcp.specs.Amounts.{IsAmount};
-ghost use Rattle.closer_mpcp.specs.Given.{AreTaskAndResource, AreWaitsAndRequest, AreSharedWaitsAt};
+ghost use Rattle.closer_mpcp.specs.Given.{AreTwoTasks, AreTwoTasksAndResource, AreSharedWaitsAt};
 ghost use Rattle.closer_mpcp.specs.Holdings.{held_beside};
-ghost use Rattle.closer_mpcp.specs.Tables.{shared_beside, AreHeldBeside, AreHeldBesideEach};
+ghost use Rattle.closer_mpcp.specs.Tables.{AreInWaits, AreInWaitsEach, shared_beside, AreHeldBeside, AreHeldBesideEach};
 
 use crate::holdings::lower_held;
 use crate::places::Place;
-use crate::waits::held_in_waits;
+use crate::sums::{Sums, beside, sums_of_used};
+use crate::waits::InWaits;
 use fragments::share_processor;
 use sporadic_model::{ResourceId, TaskId, TaskSet};
 use std::alloc::{AllocError, Global};
@@ -29,12 +31,13 @@ fn held_beside(
     x: TaskId,
     r: ResourceId,
     bounds: &[u64],
-    windows: &[Option<u64>],
+    sums: &Sums,
 ) -> u64
-    requires { AreWaitsAndRequest set.now bounds.now i.0 windows.now x.0 r.0 }
+    requires request { AreTwoTasksAndResource set.now i.0 x.0 r.0 }
+    requires sums { AreInWaits set.now (slice_index bounds.now) i.0 r.0 sums.now }
     ensures { IsAmount result (held_beside set.now (slice_index bounds.now) i.0 x.0 r.0) 128000000001000 }
 {
-    let higher = held_in_waits(set, i, x, r, bounds, windows);
+    let higher = beside(set, sums, x);
     if share_processor(set, x, i) {
         higher
     } else {
@@ -50,14 +53,15 @@ fn shared_beside(
     r: ResourceId,
     shared: &[bool],
     bounds: &[u64],
-    windows: &[Option<u64>],
+    sums: &Sums,
 ) -> u64
-    requires waits { AreSharedWaitsAt set.now bounds.now i.0 shared.now windows.now }
-    requires held { AreTaskAndResource set.now x.0 r.0 }
+    requires request { AreTwoTasksAndResource set.now i.0 x.0 r.0 }
+    requires shared { AreSharedOut set.now i.0 shared.now }
+    requires sums { AreInWaits set.now (slice_index bounds.now) i.0 r.0 sums.now }
     ensures { IsAmount result (shared_beside set.now (slice_index bounds.now) i.0 x.0 r.0) 128000000001000 }
 {
     if shared[r.0 as usize] {
-        held_beside(set, i, x, r, bounds, windows)
+        held_beside(set, i, x, r, bounds, sums)
     } else {
         0
     }
@@ -70,10 +74,11 @@ fn held_beside_task(
     x: TaskId,
     shared: &[bool],
     bounds: &[u64],
-    windows: &[Option<u64>],
+    sums: &[Sums],
 ) -> [u64; 32]
-    requires waits { AreSharedWaitsAt set.now bounds.now i.0 shared.now windows.now }
-    requires runner { x.0 < length set.now.tasks }
+    requires tasks { AreTwoTasks set.now i.0 x.0 }
+    requires shared { AreSharedOut set.now i.0 shared.now }
+    requires sums { AreInWaitsEach set.now (slice_index bounds.now) i.0 sums.now }
     ensures { AreHeldBeside set.now (slice_index bounds.now) i.0 x.0 result }
 {
     // a set has at most 32 resources
@@ -81,7 +86,7 @@ fn held_beside_task(
     let used = set.used_by(i);
     let mut held = [0u64; 32];
     for k in 0..used.len() {
-        held[k] = shared_beside(set, i, x, used[k], shared, bounds, windows);
+        held[k] = shared_beside(set, i, x, used[k], shared, bounds, &sums[k]);
     }
     held
 }
@@ -98,9 +103,11 @@ pub(crate) fn held_beside_each(
     requires { AreSharedWaitsAt set.now bounds.now i.0 shared.now windows.now }
     ensures { IfOk result (λ v. AreHeldBesideEach set.now (slice_index bounds.now) i.0 v.requests.items) }
 {
+    let in_waits = InWaits { i, bounds, windows };
+    let sums = sums_of_used(alloc, set, &in_waits, i)?;
     let mut requests = Vec::with_capacity(alloc, set.tasks() as usize)?;
     for x in 0..set.tasks() {
-        requests.push(held_beside_task(set, i, TaskId(x), shared, bounds, windows))?;
+        requests.push(held_beside_task(set, i, TaskId(x), shared, bounds, &sums))?;
     }
     Ok(HeldBesideTasks { requests })
 }

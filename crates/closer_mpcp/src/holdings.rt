@@ -1,57 +1,23 @@
 //! How many requests that the analysed task waits for can be held beside another task, and away from it.
 
-ghost use Rattle.std.specs.Prelude.{◌≡◌, ◌<◌, ◌&&◌, nat_lt, length, slice_index, IfSome};
+ghost use Rattle.std.specs.Prelude.{◌≡◌, ◌<◌, ◌&&◌, nat_lt, length, slice_index, IfSome, IfOk};
 ghost use Rattle.number_laws.specs.Sums.{only_if};
-ghost use Rattle.blocking_columns.specs.Windows.{requests_by_higher};
 ghost use Rattle.closer_laws.specs.CloserRows.{is_held_there};
-ghost use Rattle.closer_mpcp_laws.specs.CloserMpcpRows.{is_away, shared_holdings, away_row};
+ghost use Rattle.closer_mpcp_laws.specs.CloserMpcpRows.{shared_holdings, away_row};
 ghost use Rattle.shared_requests.specs.Held.{AreSharedOut};
 ghost use Rattle.closer_mpcp.specs.Amounts.{IsAmount};
-ghost use Rattle.closer_mpcp.specs.Given.{AreTwoTasks, AreTaskAndNamed, AreTwoTasksAndResource, IsTaskAt, IsRequestAt, AreRequestAndTask};
-ghost use Rattle.closer_mpcp.specs.Holdings.{passes, holdings_in_waits, is_lower_at, has_lower, lower_held, requests_away, runs_there, run_of};
-ghost use Rattle.closer_mpcp.specs.Tables.{AreHeldBesideEach};
+ghost use Rattle.closer_mpcp.specs.Given.{AreTwoTasks, AreTaskAndNamed, AreTwoTasksAndResource, IsTaskAt};
+ghost use Rattle.closer_mpcp.specs.Holdings.{passes, holdings_in_waits, is_lower_at, has_lower, lower_held, run_of};
+ghost use Rattle.closer_mpcp.specs.Tables.{AreHeldBesideEach, AreInBound, AreInBoundEach, AreAwayTables};
 
 use crate::ceilings::passes;
 use crate::held::HeldBesideTasks;
 use crate::places::{Place, is_at};
-use fragments::cnt;
+use crate::sums::{Sums, away, sums_of_used};
+use crate::ticks::InSpan;
 use shared_requests::{Holders, has_holder};
 use sporadic_model::{ResourceId, TaskId, TaskSet};
-
-// The requests of `r` by `y` within the bound of a job of `i`, if it is higher than `i` and on another processor than `x`.
-fn requests_away(
-    set: &TaskSet,
-    i: TaskId,
-    x: TaskId,
-    y: TaskId,
-    r: ResourceId,
-    bounds: &[u64],
-) -> u64
-    requires request { IsRequestAt set.now bounds.now i.0 r.0 }
-    requires others { AreTwoTasks set.now x.0 y.0 }
-    ensures { IsAmount result (requests_away set.now (slice_index bounds.now) i.0 x.0 y.0 r.0) 2000000000000 }
-{
-    if y < i && is_at(set, Place::Away, x, y) {
-        cnt(set, i, y, r, bounds)
-    } else {
-        0
-    }
-}
-
-// How many requests of `r` can higher tasks than `i` make there within the bound of a job of `i`?
-fn higher_away(set: &TaskSet, i: TaskId, x: TaskId, r: ResourceId, bounds: &[u64]) -> u64
-    requires { AreRequestAndTask set.now bounds.now i.0 r.0 x.0 }
-    ensures { IsAmount result (requests_by_higher set.now (slice_index bounds.now) i.0 (is_away set.now x.0) r.0) 128000000000000 }
-{
-    // a set has at most 64 tasks, so the sum fits
-    let _tasks = set.tasks();
-    let users = set.users(r);
-    let mut total = 0;
-    for y in users {
-        total += requests_away(set, i, x, *y, r, bounds);
-    }
-    total
-}
+use std::alloc::{AllocError, Global};
 
 // Is `y` a lower task than `i` at this place of `x`?
 fn is_lower_at(set: &TaskSet, place: Place, i: TaskId, x: TaskId, y: TaskId) -> bool
@@ -146,30 +112,41 @@ fn is_held_there(set: &TaskSet, i: TaskId, x: TaskId, r: ResourceId, shared: &[b
     shared[r.0 as usize] && has_holder(set, Holders::There, i, x, r)
 }
 
-// How many requests of `x` can then run while `i` waits for `r`?
-fn runs_there(set: &TaskSet, i: TaskId, x: TaskId, r: ResourceId, bounds: &[u64]) -> u64
-    requires { AreRequestAndTask set.now bounds.now i.0 r.0 x.0 }
-    ensures { IsAmount result (runs_there set.now (slice_index bounds.now) i.0 x.0 r.0) 128000000002000 }
+/// The sums of the requests that higher tasks can make within the bound of a job of `i`, of each resource that `i` requests.
+pub(crate) fn sums_in_bound(
+    alloc: Global,
+    set: &TaskSet,
+    i: TaskId,
+    bounds: &[u64],
+) -> Result<Vec<Sums>, AllocError>
+    requires { IsTaskAt set.now bounds.now i.0 }
+    ensures { IfOk result (λ v. AreInBoundEach set.now (slice_index bounds.now) i.0 v.items) }
 {
-    let higher = higher_away(set, i, x, r, bounds);
-    set.count(i, r) + (higher + lower_held(set, Place::Away, i, x, r))
+    // no bound is above the deadline of its task, which is within the limits of every set
+    let _tasks = set.tasks();
+    let span = bounds[i.0 as usize];
+    sums_of_used(alloc, set, &InSpan { bounds, span }, i)
 }
 
-// Those of `r`, where `i` may wait so.
+// How many requests of `x` can run while `i` waits for `r`, if a task of `x`'s processor may hold it then? Higher tasks on other processors hold
+// as many as they make within the bound of a job of `i`.
 fn run_of(
     set: &TaskSet,
     i: TaskId,
     x: TaskId,
     r: ResourceId,
     shared: &[bool],
+    sums: &Sums,
     bounds: &[u64],
 ) -> u64
-    requires request { AreRequestAndTask set.now bounds.now i.0 r.0 x.0 }
+    requires request { AreTwoTasksAndResource set.now i.0 x.0 r.0 }
     requires shared { AreSharedOut set.now i.0 shared.now }
+    requires sums { AreInBound set.now (slice_index bounds.now) i.0 r.0 sums.now }
     ensures { IsAmount result (run_of set.now (slice_index bounds.now) i.0 x.0 r.0) 128000000002000 }
 {
     if is_held_there(set, i, x, r, shared) {
-        runs_there(set, i, x, r, bounds)
+        let higher = away(set, sums, x);
+        set.count(i, r) + (higher + lower_held(set, Place::Away, i, x, r))
     } else {
         0
     }
@@ -182,19 +159,19 @@ pub(crate) fn run_beside_away_holdings(
     i: TaskId,
     x: TaskId,
     shared: &[bool],
+    sums: &[Sums],
     bounds: &[u64],
 ) -> u64
-    requires task { IsTaskAt set.now bounds.now i.0 }
-    requires runner { x.0 < length set.now.tasks }
-    requires shared { AreSharedOut set.now i.0 shared.now }
+    requires tasks { AreTwoTasks set.now i.0 x.0 }
+    requires tables { AreAwayTables set.now bounds.now i.0 shared.now sums.now }
     ensures { result ≡ (away_row set.now i.0 x.0).limit (slice_index bounds.now) }
 {
     // a set has at most 32 resources, so the sum fits
     let _resources = set.resources();
     let used = set.used_by(i);
     let mut total = 0;
-    for r in used {
-        total += run_of(set, i, x, *r, shared, bounds);
+    for k in 0..used.len() {
+        total += run_of(set, i, x, used[k], shared, &sums[k], bounds);
     }
     total
 }

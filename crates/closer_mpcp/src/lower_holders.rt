@@ -1,11 +1,12 @@
 //! For how long a lower task may hold what the analysed task waits for. That doesn't depend on the bounds.
 
-ghost use Rattle.std.specs.Prelude.{◌≡◌};
+ghost use Rattle.std.specs.Prelude.{◌≡◌, false};
 ghost use Rattle.number_laws.specs.Sums.{only_if};
-ghost use Rattle.mpcp_window_laws.specs.MpcpWindows.{may_run_instead, holding_ticks, may_hold_before, longest_lower_holding};
+ghost use Rattle.blocking_columns.specs.Columns.{have_one_processor};
+ghost use Rattle.mpcp_window_laws.specs.MpcpWindows.{holding_ticks, may_hold_before, longest_lower_holding};
 ghost use Rattle.closer_mpcp.specs.Amounts.{IsAmount};
-ghost use Rattle.closer_mpcp.specs.Given.{AreTwoTasks, AreTaskAndResource, AreTwoTasksAndResource};
-ghost use Rattle.closer_mpcp.specs.Tables.{AreFirst, AreTaskAndFirst, AreHolders};
+ghost use Rattle.closer_mpcp.specs.Given.{AreTaskAndResource, AreTwoTasksAndResource};
+ghost use Rattle.closer_mpcp.specs.Tables.{AreFirst, AreLongestOn, AreFirstOn, AreHolders};
 
 use crate::first_ticks::{FirstTicks, first_of_tasks};
 use fragments::{share_processor, uses};
@@ -20,26 +21,40 @@ pub(crate) struct OtherHolders {
     pub(crate) lower: u64,
 }
 
-// May a request of `x` run in place of `y`'s, for which `i` waits?
-fn may_run_instead(set: &TaskSet, i: TaskId, y: TaskId, x: TaskId) -> bool
-    requires { AreTwoTasks set.now x.0 y.0 }
-    ensures { result ≡ may_run_instead set.now i.0 y.0 x.0 }
+// How long requests that go first last on each processor, the longest one of each of its tasks?
+fn longest_on(set: &TaskSet, q: ResourceId, first: &[FirstTicks]) -> [u64; 65]
+    requires { AreFirst set.now q.0 first.now }
+    ensures { AreLongestOn set.now q.0 result }
 {
-    x != y && share_processor(set, x, y) && x != i
+    // a set has at most 64 processors, which are counted from 1
+    let tasks = set.tasks();
+    let mut on = [0u64; 65];
+    for x in 0..tasks {
+        let longest = first[x as usize].longest;
+        on[set.processor(TaskId(x)) as usize] += longest;
+    }
+    on
 }
 
-// For how many ticks may `y` hold `q` while `i` waits?
-fn holding_ticks(set: &TaskSet, i: TaskId, q: ResourceId, first: &[FirstTicks], y: TaskId) -> u64
-    requires { AreTaskAndFirst set.now y.0 q.0 first.now }
+// For how many ticks may `y` hold `q` while `i` waits on another processor? Its own request runs, and one that goes first of each other task
+// there.
+fn holding_ticks(
+    set: &TaskSet,
+    i: TaskId,
+    q: ResourceId,
+    first: &[FirstTicks],
+    on: &[u64],
+    y: TaskId,
+) -> u64
+    requires held { AreTaskAndResource set.now y.0 q.0 }
+    requires away { have_one_processor set.now y.0 i.0 ≡ false }
+    requires first { AreFirstOn set.now q.0 first.now on.now }
     ensures { IsAmount result (holding_ticks set.now i.0 q.0 y.0) 65000000000 }
 {
-    let mut total = set.length(y, q);
-    for x in 0..set.tasks() {
-        if may_run_instead(set, i, y, TaskId(x)) {
-            total += first[x as usize].longest;
-        }
-    }
-    total
+    // a set has at most 64 processors
+    let _tasks = set.tasks();
+    let others = on[set.processor(y) as usize] - first[y.0 as usize].longest;
+    set.length(y, q) + others
 }
 
 // May the lower task `y` hold `q` when `i` issues its request?
@@ -51,27 +66,41 @@ fn may_hold_before(set: &TaskSet, i: TaskId, q: ResourceId, y: TaskId) -> bool
 }
 
 // For how many ticks may it hold `q` then?
-fn lower_holding(set: &TaskSet, i: TaskId, q: ResourceId, first: &[FirstTicks], y: TaskId) -> u64
+fn lower_holding(
+    set: &TaskSet,
+    i: TaskId,
+    q: ResourceId,
+    first: &[FirstTicks],
+    on: &[u64],
+    y: TaskId,
+) -> u64
     requires held { AreTwoTasksAndResource set.now i.0 y.0 q.0 }
-    requires first { AreFirst set.now q.0 first.now }
+    requires first { AreFirstOn set.now q.0 first.now on.now }
     ensures { IsAmount result (only_if (may_hold_before set.now i.0 q.0 y.0) (holding_ticks set.now i.0 q.0 y.0)) 65000000000 }
 {
     if may_hold_before(set, i, q, y) {
-        holding_ticks(set, i, q, first, y)
+        holding_ticks(set, i, q, first, on, y)
     } else {
         0
     }
 }
 
 // For how many ticks may the longest such holding last?
-fn longest_lower_holding(set: &TaskSet, i: TaskId, q: ResourceId, first: &[FirstTicks]) -> u64
-    requires { AreTaskAndFirst set.now i.0 q.0 first.now }
+fn longest_lower_holding(
+    set: &TaskSet,
+    i: TaskId,
+    q: ResourceId,
+    first: &[FirstTicks],
+    on: &[u64],
+) -> u64
+    requires request { AreTaskAndResource set.now i.0 q.0 }
+    requires first { AreFirstOn set.now q.0 first.now on.now }
     ensures { IsAmount result (longest_lower_holding set.now i.0 q.0) 65000000000 }
 {
     let users = set.users(q);
     let mut longest = 0;
     for y in users {
-        longest = lower_holding(set, i, q, first, *y).max(longest);
+        longest = lower_holding(set, i, q, first, on, *y).max(longest);
     }
     longest
 }
@@ -82,6 +111,7 @@ pub(crate) fn other_holders(set: &TaskSet, i: TaskId, q: ResourceId) -> OtherHol
     ensures { AreHolders set.now i.0 q.0 result }
 {
     let first = first_of_tasks(set, q);
-    let lower = longest_lower_holding(set, i, q, &first);
+    let on = longest_on(set, q, &first);
+    let lower = longest_lower_holding(set, i, q, &first, &on);
     OtherHolders { first, lower }
 }

@@ -16,7 +16,7 @@ pub(crate) enum Place {
     Away,
 }
 
-/// Is a higher task `y` at this place of `x`?
+/// Is `y` at this place of `x`, as far as the analysed task's processor isn't asked for?
 pub(crate) fn is_at(set: &TaskSet, place: Place, x: TaskId, y: TaskId) -> bool
     requires { AreTwoTasks set.now x.0 y.0 }
     ensures { result ≡ is_at place set.now x.0 y.0 }

@@ -12,13 +12,13 @@ ghost use Rattle.closer_laws.specs.CloserRows.{is_shared_out, requests_where};
 ghost use Rattle.closer_mpcp_laws.specs.CloserMpcpRows.{shared_holding_row, resource_holding_row, away_row};
 ghost use Rattle.closer_mpcp_laws.specs.CloserMpcpRows.{shared_interval_row, lower_wait_row};
 ghost use Rattle.mpcp_window_laws.specs.WaitRows.{held_in_waits};
-ghost use Rattle.shared_requests.specs.Held.{AreSharedOut};
 ghost use Rattle.closer_mpcp.specs.Given.{AreLaidOutWithWindows};
 ghost use Rattle.closer_mpcp.specs.Rows.{holding_rows, interval_rows, single_rows, rows_below_waits, closer_rows};
-ghost use Rattle.closer_mpcp.specs.Tables.{AreHeldBesideEach};
+ghost use Rattle.closer_mpcp.specs.Tables.{AreHeldBesideEach, AreAwayTables};
 
 use crate::held::{HeldBesideTasks, held_beside_each};
-use crate::holdings::{run_beside_away_holdings, shared_holdings};
+use crate::holdings::{run_beside_away_holdings, shared_holdings, sums_in_bound};
+use crate::sums::Sums;
 use crate::wait_rows::add_wait_rows;
 use crate::windows::wait_windows;
 use fragments::{
@@ -166,12 +166,14 @@ impl<'a> PerRequest for ResourceHoldingRows<'a> {
 struct AwayRow<'a> {
     /// By resource, whether it is shared out from the analysed task's processor.
     shared: &'a [bool],
+    /// How many requests higher tasks make, of each resource that the analysed task requests.
+    sums: &'a [Sums],
 }
 
 impl<'a> TaskRow for AwayRow<'a> {
     ghost row_of = { λ k. away_row };
 
-    ghost fits = { λ k set i bounds. AreSharedOut set i k.shared.now };
+    ghost fits = { λ k set i bounds. AreAwayTables set bounds i k.shared.now k.sums.now };
 
     ghost alone = { λ k set i x c other. ap (λ b. flag (b && not (is_class Preemption c.class))) other };
 
@@ -180,7 +182,7 @@ impl<'a> TaskRow for AwayRow<'a> {
     }
 
     fn limit(&self, set: &TaskSet, i: TaskId, x: TaskId, _jobs: u64, bounds: &[u64]) -> u64 {
-        run_beside_away_holdings(set, i, x, self.shared, bounds)
+        run_beside_away_holdings(set, i, x, self.shared, self.sums, bounds)
     }
 }
 
@@ -360,7 +362,11 @@ fn add_further_rows<T: RowTaker>(
     let intervals = 1 + requests_shared_out(set, i, &shared);
     let held = held_beside_each(alloc, set, i, &shared, bounds, windows)?;
     add_holding_rows(alloc, taker, set, i, bounds, columns, places, &held)?;
-    let of_away = EachTask(AwayRow { shared: &shared });
+    let sums = sums_in_bound(alloc, set, i, bounds)?;
+    let of_away = EachTask(AwayRow {
+        shared: &shared,
+        sums: &sums,
+    });
     add_per_task(alloc, taker, &of_away, set, i, bounds, columns, places)?;
     add_interval_rows(alloc, taker, set, i, bounds, columns, places, intervals)?;
     add_single_rows(alloc, taker, set, i, bounds, columns, intervals)?;

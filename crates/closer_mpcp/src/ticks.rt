@@ -5,11 +5,12 @@ ghost use Rattle.number_laws.specs.Sums.{only_if, sum_below};
 ghost use Rattle.blocking_columns.specs.Windows.{jobs_during, requests_during};
 ghost use Rattle.mpcp_window_laws.specs.MpcpWindows.{own_ticks, holdings_beside, ticks_instead, ticks_held};
 ghost use Rattle.closer_mpcp.specs.Amounts.{IsAmount};
-ghost use Rattle.closer_mpcp.specs.Given.{AreJobsIn, AreRequestsIn};
-ghost use Rattle.closer_mpcp.specs.Tables.{AreFirst, AreHoldings, AreHoldingsFor, AreHolders, all_ticks_instead};
+ghost use Rattle.closer_mpcp.specs.Given.{AreInSpan, AreJobsIn, AreRequestsIn};
+ghost use Rattle.closer_mpcp.specs.Tables.{AreFirst, AreHoldingsFor, AreHolders, all_ticks_instead};
 
 use crate::first_ticks::FirstTicks;
 use crate::lower_holders::OtherHolders;
+use crate::sums::{Requests, Sums, beside, sums_of};
 use sporadic_model::{ResourceId, TaskId, TaskSet, jobs_in};
 
 /// How many jobs of `x` can run in a span of ticks?
@@ -32,6 +33,27 @@ fn ticks_of_jobs(set: &TaskSet, bounds: &[u64], span: u64, x: TaskId, time: u64)
     u128::from(jobs_during(set, bounds, span, x)) * u128::from(time)
 }
 
+/// The requests that each task can make in a span of ticks.
+#[derive(Drop)]
+pub(crate) struct InSpan<'a> {
+    pub(crate) bounds: &'a [u64],
+    pub(crate) span: u64,
+}
+
+impl<'a> Requests for InSpan<'a> {
+    ghost use Rattle.mpcp_window_laws.proofs.WaitLimits.{none_by};
+
+    ghost made = { λ k set r y. requests_during set (slice_index k.bounds.now) k.span y r };
+
+    ghost fits = { λ k set. AreInSpan set k.bounds.now k.span };
+
+    fn number(&self, set: &TaskSet, r: ResourceId, y: TaskId) -> u64 {
+        set.count(y, r) * jobs_during(set, self.bounds, self.span, y)
+    }
+
+    ghost none = { λ k set r y unused. none_by set (slice_index k.bounds.now) k.span y r unused };
+}
+
 // For how many ticks may requests of `q` by `x` run, if it is higher than `i`?
 fn own_ticks_of(
     set: &TaskSet,
@@ -39,62 +61,37 @@ fn own_ticks_of(
     q: ResourceId,
     bounds: &[u64],
     span: u64,
+    holdings: &Sums,
     x: TaskId,
 ) -> u128
-    requires { AreRequestsIn set.now bounds.now span x.0 q.0 }
-    ensures { IsAmount result (only_if (nat_lt x.0 i.0) (own_ticks set.now (slice_index bounds.now) q.0 span x.0)) 64000000000000000000000 }
+    requires { AreHoldingsFor set.now bounds.now i.0 q.0 span holdings.now x.0 }
+    ensures { IsAmount result (only_if (nat_lt x.0 i.0) (own_ticks set.now (slice_index bounds.now) q.0 span x.0)) 128000000000000000000000 }
 {
-    if x < i {
-        let time = set.count(x, q) * set.length(x, q);
-        ticks_of_jobs(set, bounds, span, x, time)
-    } else {
-        0
-    }
+    // a set has at most 64 tasks
+    let _tasks = set.tasks();
+    u128::from(holdings.own[x.0 as usize]) * u128::from(set.length(x, q))
 }
 
 // For how many ticks may requests of `q` by tasks higher than `i` run?
-fn own_ticks(set: &TaskSet, i: TaskId, q: ResourceId, bounds: &[u64], span: u64) -> u128
-    requires { AreRequestsIn set.now bounds.now span i.0 q.0 }
-    ensures { IsAmount result (sum_below i.0 (own_ticks set.now (slice_index bounds.now) q.0 span)) 4096000000000000000000000 }
+fn own_ticks(
+    set: &TaskSet,
+    i: TaskId,
+    q: ResourceId,
+    bounds: &[u64],
+    span: u64,
+    holdings: &Sums,
+) -> u128
+    requires { AreHoldingsFor set.now bounds.now i.0 q.0 span holdings.now i.0 }
+    ensures { IsAmount result (sum_below i.0 (own_ticks set.now (slice_index bounds.now) q.0 span)) 8192000000000000000000000 }
 {
     // a set has at most 64 tasks, so the sum fits
     let _tasks = set.tasks();
     let users = set.users(q);
     let mut total = 0u128;
     for x in users {
-        total += own_ticks_of(set, i, q, bounds, span, *x);
+        total += own_ticks_of(set, i, q, bounds, span, holdings, *x);
     }
     total
-}
-
-// How often may jobs of `y` hold `q` in the span, if it is higher than `i`?
-fn holdings_by(set: &TaskSet, i: TaskId, q: ResourceId, bounds: &[u64], span: u64, y: TaskId) -> u64
-    requires { AreRequestsIn set.now bounds.now span y.0 q.0 }
-    ensures { IsAmount result (only_if (nat_lt y.0 i.0) (requests_during set.now (slice_index bounds.now) span y.0 q.0)) 2000000000000 }
-{
-    let count = set.count(y, q);
-    // most tasks don't request it
-    if y < i && count > 0 {
-        count * jobs_during(set, bounds, span, y)
-    } else {
-        0
-    }
-}
-
-// How often may jobs of higher tasks hold it so, on each processor?
-fn holdings_on(set: &TaskSet, i: TaskId, q: ResourceId, bounds: &[u64], span: u64) -> [u64; 65]
-    requires { AreRequestsIn set.now bounds.now span i.0 q.0 }
-    ensures { AreHoldings set.now (slice_index bounds.now) i.0 q.0 span result }
-{
-    // a set has at most 64 tasks, so each sum fits, and at most 64 processors, which are counted from 1
-    let _tasks = set.tasks();
-    let users = set.users(q);
-    let mut holdings = [0u64; 65];
-    for y in users {
-        let by_user = holdings_by(set, i, q, bounds, span, *y);
-        holdings[set.processor(*y) as usize] += by_user;
-    }
-    holdings
 }
 
 // How often may jobs of higher tasks hold it so that `x` may run instead? These are on its processor, and aren't its own.
@@ -104,18 +101,13 @@ fn holdings_beside(
     q: ResourceId,
     bounds: &[u64],
     span: u64,
-    holdings: &[u64],
+    holdings: &Sums,
     x: TaskId,
 ) -> u64
     requires { AreHoldingsFor set.now bounds.now i.0 q.0 span holdings.now x.0 }
     ensures { IsAmount result (holdings_beside set.now (slice_index bounds.now) i.0 q.0 span x.0) 128000000000000 }
 {
-    if x == i {
-        return 0;
-    }
-    // a set has at most 64 processors
-    let _tasks = set.tasks();
-    holdings[set.processor(x) as usize] - holdings_by(set, i, q, bounds, span, x)
+    if x == i { 0 } else { beside(set, holdings, x) }
 }
 
 // For how many ticks may `x` run instead? It runs one request in each of these holdings, and no more than its jobs make.
@@ -126,7 +118,7 @@ fn ticks_by(
     bounds: &[u64],
     first: &[FirstTicks],
     span: u64,
-    holdings: &[u64],
+    holdings: &Sums,
     x: TaskId,
 ) -> u128
     requires holdings { AreHoldingsFor set.now bounds.now i.0 q.0 span holdings.now x.0 }
@@ -155,15 +147,15 @@ fn ticks_instead(
     bounds: &[u64],
     first: &[FirstTicks],
     span: u64,
+    holdings: &Sums,
 ) -> u128
-    requires request { AreRequestsIn set.now bounds.now span i.0 q.0 }
+    requires holdings { AreHoldingsFor set.now bounds.now i.0 q.0 span holdings.now i.0 }
     requires first { AreFirst set.now q.0 first.now }
     ensures { IsAmount result (all_ticks_instead set.now (slice_index bounds.now) i.0 q.0 span) 4096000000000000000000000 }
 {
-    let holdings = holdings_on(set, i, q, bounds, span);
     let mut total = 0u128;
     for x in 0..set.tasks() {
-        total += ticks_by(set, i, q, bounds, first, span, &holdings, TaskId(x));
+        total += ticks_by(set, i, q, bounds, first, span, holdings, TaskId(x));
     }
     total
 }
@@ -183,7 +175,8 @@ pub(crate) fn ticks_held(
 {
     // a set has at most 64 tasks, so the sum fits
     let _tasks = set.tasks();
-    let own = own_ticks(set, i, q, bounds, span);
-    let instead = ticks_instead(set, i, q, bounds, &holders.first, span);
+    let holdings = sums_of(set, &InSpan { bounds, span }, i, q);
+    let own = own_ticks(set, i, q, bounds, span, &holdings);
+    let instead = ticks_instead(set, i, q, bounds, &holders.first, span, &holdings);
     u128::from(holders.lower) + (own + instead)
 }

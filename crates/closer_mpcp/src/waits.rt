@@ -1,12 +1,11 @@
-//! How many requests of other tasks can run, and how many can be held, while the analysed task waits for a resource.
+//! How many requests of other tasks can run, and so how many can be held, while the analysed task waits for a resource.
 
 ghost use Rattle.std.specs.Prelude.{slice_index};
-ghost use Rattle.mpcp_window_laws.specs.WaitRows.{requests_in_windows, requests_in_waits, held_in_waits};
+ghost use Rattle.mpcp_window_laws.specs.WaitRows.{requests_in_windows, requests_in_waits};
 ghost use Rattle.closer_mpcp.specs.Amounts.{IsAmount};
-ghost use Rattle.closer_mpcp.specs.Given.{AreTwoTasksAndResource, AreWaitsAt, AreWaitsAndRequest};
-ghost use Rattle.closer_mpcp.specs.Holdings.{held_by};
+ghost use Rattle.closer_mpcp.specs.Given.{AreWaitsAt, AreWaitsAndRequest};
 
-use crate::places::{Place, is_at};
+use crate::sums::Requests;
 use crate::ticks::jobs_during;
 use fragments::cnt;
 use sporadic_model::{ResourceId, TaskId, TaskSet};
@@ -50,46 +49,25 @@ pub(crate) fn requests_in_waits(
     cnt(set, i, x, q, bounds).min(requests_in_windows(set, i, x, q, bounds, windows))
 }
 
-// How many requests of `r` can `y` hold on `x`'s processor while a job of `i` waits for them, if it is another task there and higher than
-// `i`?
-fn held_by(
-    set: &TaskSet,
-    i: TaskId,
-    x: TaskId,
-    y: TaskId,
-    r: ResourceId,
-    bounds: &[u64],
-    windows: &[Option<u64>],
-) -> u64
-    requires waits { AreWaitsAt set.now bounds.now i.0 windows.now }
-    requires held { AreTwoTasksAndResource set.now x.0 y.0 r.0 }
-    ensures { IsAmount result (held_by set.now (slice_index bounds.now) i.0 x.0 y.0 r.0) 2000000000000 }
-{
-    if y < i && is_at(set, Place::Beside, x, y) {
-        requests_in_waits(set, i, y, r, bounds, windows)
-    } else {
-        0
-    }
+/// The requests of each resource that each task can make while a job of `i` waits for it.
+#[derive(Drop)]
+pub(crate) struct InWaits<'a> {
+    pub(crate) i: TaskId,
+    pub(crate) bounds: &'a [u64],
+    pub(crate) windows: &'a [Option<u64>],
 }
 
-/// How many can all higher tasks hold there so?
-pub(crate) fn held_in_waits(
-    set: &TaskSet,
-    i: TaskId,
-    x: TaskId,
-    r: ResourceId,
-    bounds: &[u64],
-    windows: &[Option<u64>],
-) -> u64
-    requires { AreWaitsAndRequest set.now bounds.now i.0 windows.now x.0 r.0 }
-    ensures { IsAmount result (held_in_waits set.now i.0 (slice_index bounds.now) x.0 r.0) 128000000000000 }
-{
-    // a set has at most 64 tasks, so the sum fits
-    let _tasks = set.tasks();
-    let users = set.users(r);
-    let mut total = 0;
-    for y in users {
-        total += held_by(set, i, x, *y, r, bounds, windows);
+impl<'a> Requests for InWaits<'a> {
+    ghost use Rattle.std.proofs.Common.{arith};
+    ghost use Rattle.mpcp_window_laws.proofs.WaitLimits.{none_by};
+
+    ghost made = { λ k set r y. requests_in_waits set (slice_index k.bounds.now) k.i.0 r y r };
+
+    ghost fits = { λ k set. AreWaitsAt set k.bounds.now k.i.0 k.windows.now };
+
+    fn number(&self, set: &TaskSet, r: ResourceId, y: TaskId) -> u64 {
+        requests_in_waits(set, self.i, y, r, self.bounds, self.windows)
     }
-    total
+
+    ghost none = { λ k set r y unused. omega (arith, none_by set (slice_index k.bounds.now) (slice_index k.bounds.now k.i.0) y r unused) };
 }

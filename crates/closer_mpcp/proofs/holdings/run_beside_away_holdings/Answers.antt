@@ -16,10 +16,10 @@ overflow_add-total c =
     omega (
       arith,
       few,
-      c.loop-r-test.true,
+      c.loop-k-test.true,
       c.resources-resources.ensures.value,
       c.resources-resources.ensures.most,
-      c.loop-r.invariant.most,
+      c.loop-k.invariant.most,
       c.run_of-total.ensures.most,
     )
 
@@ -29,9 +29,9 @@ returns c =
     let i = c.args.i.0 in
     let x = c.args.x.0 in
     let used = c.used_by-used.result.now in
-    let whole : c.loop-r.total + sum_by (λ (r : ResourceId). only_if (is_held_there set i x r.0) (runs_there set (slice_index c.args.bounds.now) i x r.0)) []
+    let whole : c.loop-k.total + sum_by (λ (r : ResourceId). only_if (is_held_there set i x r.0) (runs_there set (slice_index c.args.bounds.now) i x r.0)) []
     ≡ sum_by (λ (r : ResourceId). only_if (is_held_there set i x r.0) (runs_there set (slice_index c.args.bounds.now) i x r.0)) used =
-    rw (drop_all c.loop-r.r-index used (omega (arith, c.loop-r-test.false))) at c.loop-r.invariant.value in
+    rw (drop_all c.loop-k.k used (omega (arith, c.loop-k-test.false))) at c.loop-k.invariant.value in
     omega (
       arith,
       whole,

@@ -7,10 +7,10 @@ use Rattle.closer_laws.specs.CloserRows.{is_held_there}
 use Rattle.closer_mpcp.specs.Holdings.{runs_there}
 use Rattle.closer_mpcp.proofs.holdings.run_beside_away_holdings.Given as goal
 
-abbrev pub invariant-loop-r : goal.invariant-loop-r
-invariant-loop-r l = record {
-  value : l.total + sum_by (λ (r : ResourceId). only_if (is_held_there l.set l.i.0 l.x.0 r.0) (runs_there l.set (slice_index l.bounds) l.i.0 l.x.0 r.0))
-      (drop l.r-index l.used)
-      ≡ sum_by (λ (r : ResourceId). only_if (is_held_there l.set l.i.0 l.x.0 r.0) (runs_there l.set (slice_index l.bounds) l.i.0 l.x.0 r.0)) l.used;
-  most : l.total ≤ l.r-index * 128000000002000;
+abbrev pub invariant-loop-k : goal.invariant-loop-k
+invariant-loop-k l = record {
+  value : l.total + sum_by (λ (r : ResourceId). only_if (is_held_there l.set l.fn.i.0 l.x.0 r.0) (runs_there l.set (slice_index l.fn.bounds) l.fn.i.0 l.x.0 r.0))
+      (drop l.k l.used)
+      ≡ sum_by (λ (r : ResourceId). only_if (is_held_there l.set l.fn.i.0 l.x.0 r.0) (runs_there l.set (slice_index l.fn.bounds) l.fn.i.0 l.x.0 r.0)) l.used;
+  most : l.total ≤ l.k * 128000000002000;
 }

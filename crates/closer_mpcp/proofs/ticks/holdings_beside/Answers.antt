@@ -1,9 +1,13 @@
-use Rattle.std.proofs.Common.{◌≡◌, ◌+◌, ◌<◌, ℕ, true, sym, ◌∙◌, subst, arith}
+use Rattle.std.proofs.Common.{◌≡◌, ◌+◌, ◌==◌, ℕ, true, length, sym, ◌∙◌, subst, arith}
 use Rattle.std.specs.Prelude.{slice_index}
 use Rattle.std.proofs.lemmas.Bool.{eq-eqb, eqb-true}
+use Rattle.number_laws.specs.Sums.{sum_below, only_if}
+use Rattle.sporadic_model.specs.SetDef.{task_at}
 use Rattle.blocking_columns.specs.Windows.{requests_during}
 use Rattle.mpcp_window_laws.specs.MpcpWindows.{holdings_beside}
-use Rattle.closer_mpcp.proofs.OnProcessors.{beside_and_own, none_for_itself}
+use Rattle.closer_mpcp.specs.Sums.{made_beside}
+use Rattle.closer_mpcp.proofs.ListedSums.{sum_of_own}
+use Rattle.closer_mpcp.proofs.OnProcessors.{all_on, beside_and_own, none_for_itself}
 use Rattle.closer_mpcp.proofs.ticks.holdings_beside.Goals as goal
 
 pub returns-then-eq : goal.returns-then-eq
@@ -18,31 +22,21 @@ returns-then-eq c =
       most = omega arith;
     }
 
-pub bounds-holdings-processor : goal.bounds-holdings-processor
-bounds-holdings-processor c =
-    omega (arith, c.processor.ensures.most, c.tasks-tasks.ensures.sizes.processors_to, c.requires.holdings.one_each)
-
--- What higher tasks make on x's processor, its own and the others'.
-parts : (c : goal.After-holdings_by) → holdings_beside c.args.set.now (slice_index c.args.bounds.now) c.args.i.0 c.args.q.0 c.args.span c.args.x.0
-    + c.holdings_by.result ≡ slice_index c.args.holdings.now c.processor.result
-parts c =
+pub returns-else-eq : goal.returns-else-eq
+returns-else-eq c =
     let set = c.args.set.now in
+    let i = c.args.i.0 in
+    let x = c.args.x.0 in
+    let own : ℕ → ℕ = slice_index c.args.holdings.now.own in
     let f : ℕ → ℕ = λ y. requests_during set (slice_index c.args.bounds.now) c.args.span y c.args.q.0 in
-    let other : c.args.x.0 ≡ c.args.i.0 → ⊥ = λ e.
-    let no : c.eq.result ≡ true = c.eq.ensures ∙ eq-eqb c.args.x.0 c.args.i.0 e in
+    let other : x ≡ i → ⊥ = λ e.
+    let no : c.eq.result ≡ true = c.eq.ensures ∙ eq-eqb x i e in
     absurd (cc) in
-    let most : c.processor.result < 65 = omega (arith, c.processor.ensures.most, c.tasks-tasks.ensures.sizes.processors_to) in
-    let all = c.requires.holdings.each c.processor.result most in
-    rw (c.holdings_by.ensures.value, c.processor.ensures.value) (beside_and_own set c.args.i.0 c.args.x.0 f other ∙ sym (rw c.processor.ensures.value at all))
-
-pub overflow_sub-result : goal.overflow_sub-result
-overflow_sub-result c = omega (arith, parts c)
-
-pub returns : goal.returns
-returns c =
-    let most : c.processor.result < 65 = omega (arith, c.processor.ensures.most, c.tasks-tasks.ensures.sizes.processors_to) in
-    let all = c.requires.holdings.small c.processor.result most in
+    let all : made_beside set own x + own x ≡ sum_below i (λ y. only_if ((task_at set y).processor == (task_at set x).processor) (f y)) =
+    all_on set x own c.requires.runner
+    ∙ sum_of_own (length set.tasks) i (λ y. (task_at set y).processor == (task_at set x).processor) f own
+    (omega (arith, c.requires.request.task)) c.requires.holdings.each in
     record {
-      value = omega (arith, parts c);
-      most = omega (arith, all);
+      value = omega (arith, c.beside.ensures.value, all, beside_and_own set i x f other, c.requires.holdings.each x c.requires.runner);
+      most = c.beside.ensures.most;
     }

@@ -10,5 +10,5 @@ abbrev pub invariant-loop-x : goal.invariant-loop-x
 invariant-loop-x l = record {
   value : l.total + sum_by (λ (x : TaskId). only_if (nat_lt x.0 l.i.0) (own_ticks l.set (slice_index l.bounds) l.q.0 l.span x.0)) (drop l.x-index l.users)
       ≡ sum_by (λ (x : TaskId). only_if (nat_lt x.0 l.i.0) (own_ticks l.set (slice_index l.bounds) l.q.0 l.span x.0)) l.users;
-  most : l.total ≤ l.x-index * 64000000000000000000000;
+  most : l.total ≤ l.x-index * 128000000000000000000000;
 }
