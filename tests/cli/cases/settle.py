@@ -52,7 +52,8 @@ HALVES_BOUNDS = {
 
 def whole_costs(deadline=10**6):
     """A set whose first task waits for eight others. Each requests a resource of its own twice, and has the cost for less than both requests. So at
-    each best point the two are its cost over its length. No two lengths share a divisor, so the least common denominator has 65 bits."""
+    each best point the two are its cost over its length. The lengths are different primes, and none divides its cost. So the least common
+    denominator has 65 bits."""
     lengths = (257, 263, 269, 271, 277, 281, 283, 293)
     others = (task(f"t{k}", k, 10**6, length + 100 + k, (f"q{k}", length, 2)) for k, length in enumerate(lengths, 2))
     own = [(f"q{k}", 1, 2) for k in range(2, 10)]
