@@ -5,7 +5,7 @@ use crate::simplex_tests::{CHAINED, Case, FOUR_PRIMES, SEVEN_ROWS, program_of};
 use program_form::{Program, SparseProgram};
 use std::alloc::{AllocError, Global};
 use std::process::Abort;
-use whole_rows::{Entry, Large, Pivot, RowMarks, WholeRow, push_num};
+use whole_rows::{Entry, Pivot, RowMarks, RowStop, WholeRow, push_num};
 use whole_runs::{Ended, Halt, run_whole};
 
 const MOST: u64 = i64::MAX as u64;
@@ -99,10 +99,10 @@ fn reads(rt: &impl Abort, row: &WholeRow, nums: &[i64], limit: i64, den: i64) {
     }
 }
 
-fn enter(rt: &impl Abort, row: &mut WholeRow, k: usize) {
+fn enter(rt: &impl Abort, alloc: Global, row: &mut WholeRow, k: usize) -> Result<(), AllocError> {
     assert!(rt; k < row.places());
     assert!(rt; row.num(k) > 0);
-    row.enter(k);
+    row.enter(alloc, k)
 }
 
 // Subtracts a divided row times its own cell at place k.
@@ -112,11 +112,11 @@ fn take(
     row: &mut WholeRow,
     k: usize,
     divided: &WholeRow,
-) -> Result<Result<(), Large>, AllocError> {
+) -> Result<Result<(), RowStop>, AllocError> {
     let mut pivot = Pivot::none(alloc);
     pivot.read(divided)?;
     assert!(rt; row.places() == divided.places() && k < row.places());
-    Ok(row.take(k, &pivot))
+    Ok(row.take(alloc, k, &pivot))
 }
 
 // What is left fits.
@@ -148,7 +148,7 @@ fn is_taken_away(
 fn a_row_is_divided_and_taken_away(rt: HostRuntime) -> Result<(), AllocError> {
     let alloc = rt.alloc();
     let mut divided = row_of(&rt, alloc, &[2, 0, 3], 5, 5)?;
-    enter(&rt, &mut divided, 2);
+    enter(&rt, alloc, &mut divided, 2)?;
     reads(&rt, &divided, &[2, 0, 1], 5, 3);
     let mut pivot = Pivot::none(alloc);
     assert_eq!(rt; pivot.entries(), [].as_slice());
@@ -166,18 +166,18 @@ fn a_common_divisor_is_taken_off(rt: HostRuntime) -> Result<(), AllocError> {
     let mut first = row_of(&rt, alloc, &[2, 1], 1, 2)?;
     let mut second = row_of(&rt, alloc, &[1, 2], 3, 3)?;
     let mut third = row_of(&rt, alloc, &[1, 3], 2, 3)?;
-    enter(&rt, &mut first, 0);
+    enter(&rt, alloc, &mut first, 0)?;
     reads(&rt, &first, &[1, 1], 1, 2);
     take_off(&rt, alloc, &mut second, 0, &first)?;
     take_off(&rt, alloc, &mut third, 0, &first)?;
     reads(&rt, &second, &[-1, 3], 5, 2);
     reads(&rt, &third, &[-1, 5], 3, 2);
-    enter(&rt, &mut second, 1);
+    enter(&rt, alloc, &mut second, 1)?;
     reads(&rt, &second, &[-1, 2], 5, 3);
     take_off(&rt, alloc, &mut third, 1, &second)?;
     reads(&rt, &third, &[2, -10], -16, 6);
     // 6, -10 and -16 over 2.
-    enter(&rt, &mut third, 0);
+    enter(&rt, alloc, &mut third, 0)?;
     reads(&rt, &third, &[3, -5], -8, 1);
     Ok(())
 }
@@ -186,9 +186,9 @@ fn a_common_divisor_is_taken_off(rt: HostRuntime) -> Result<(), AllocError> {
 fn what_is_left_fits_up_to_the_last_number(rt: HostRuntime) -> Result<(), AllocError> {
     let alloc = rt.alloc();
     let half = 1 << 62;
-    for (num, want) in [(1 - half, Ok(())), (-half, Err(Large))] {
+    for (num, want) in [(1 - half, Ok(())), (-half, Err(RowStop::Large))] {
         let mut divided = row_of(&rt, alloc, &[1, num], 0, 1 << 62)?;
-        enter(&rt, &mut divided, 0);
+        enter(&rt, alloc, &mut divided, 0)?;
         let mut row = row_of(&rt, alloc, &[1, half], 0, 1 << 62)?;
         assert_eq!(rt; take(&rt, alloc, &mut row, 0, &divided)?, want, "{num}");
         if want.is_ok() {

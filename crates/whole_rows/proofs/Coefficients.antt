@@ -31,7 +31,7 @@ number_in n cs limit k h = elim (cases_lt k n) [
 ]
 
 -- and what the list of them
-listed_is : (cs : List Coefficient) (k : ℕ) → listed_at (map entry_of cs) k ≡ pos (number_at cs k)
+pub listed_is : (cs : List Coefficient) (k : ℕ) → listed_at (map entry_of cs) k ≡ pos (number_at cs k)
 listed_is [] k = refl
 listed_is (c ∷ cs) k = elim (cases_eq c.column k) [
   | inl here ↦ rw (eq-eqb c.column k here) refl
@@ -50,7 +50,7 @@ entry_first m cs j l =
     get_or-map entry_of (take m cs) j no_coefficient nothing (omega (arith, length-map (take m cs) entry_of, l))
     ∙ ap entry_of (get_or-take m cs j no_coefficient (inside m cs j l).0)
 
-first_sparse : (n m : ℕ) (cs : List Coefficient) → AreCoefficients n cs → AreSparse (map entry_of (take m cs))
+pub first_sparse : (n m : ℕ) (cs : List Coefficient) → AreCoefficients n cs → AreSparse (map entry_of (take m cs))
 first_sparse n m cs h = record {
   rise = λ i j l lj. rw (entry_first m cs i (omega arith), entry_first m cs j lj) (h.rise i j l (inside m cs j lj).1);
   nonzero = λ j lj. rw (entry_first m cs j lj) (above_zero (coefficient_at cs j).number (h.nonzero j (inside m cs j lj).1));
@@ -59,10 +59,10 @@ first_sparse n m cs h = record {
     above_zero : (x : ℕ) → 0 < x → pos x ≢ pos 0
     above_zero x l = omega (arith, ints)
 
-first_below : (n m : ℕ) (cs : List Coefficient) → AreCoefficients n cs → AreBelow n (map entry_of (take m cs))
+pub first_below : (n m : ℕ) (cs : List Coefficient) → AreCoefficients n cs → AreBelow n (map entry_of (take m cs))
 first_below n m cs h j l = rw (entry_first m cs j l) (h.below j (inside m cs j l).1)
 
-first_within : (m : ℕ) (cs : List Coefficient) → ((j : ℕ) → j < length cs → (coefficient_at cs j).number < 2 ^ 63)
+pub first_within : (m : ℕ) (cs : List Coefficient) → ((j : ℕ) → j < length cs → (coefficient_at cs j).number < 2 ^ 63)
     → AreListedWithin (2 ^ 63 - 1) (map entry_of (take m cs))
 first_within m cs small j = elim (cases_lt j (length (map entry_of (take m cs)))) [
   | inl l ↦

@@ -7,7 +7,7 @@ use Rattle.fraction128.proofs.Unique.{size_positive}
 use Rattle.whole_rows.proofs.Dividing.{quotient_positive}
 use Rattle.number_laws.proofs.Ring.{as_diff, diffs, same_diff, mul-one}
 use Rattle.whole_rows.specs.Rows.{RowDef, num_at}
-use Rattle.whole_rows.specs.RowView.{IsBounded}
+use Rattle.whole_rows.specs.Rows.{IsBounded}
 use Rattle.whole_rows.specs.Numbers.{IsSameRow, swapped}
 use Rattle.whole_rows.specs.Steps.{AreSmallCells, IsDividedRow}
 

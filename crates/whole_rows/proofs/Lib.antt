@@ -8,3 +8,5 @@ pub mod Read
 pub mod Entering
 pub mod Taking
 pub mod Marking
+pub mod ShortLists
+pub mod ShortRows

@@ -10,12 +10,12 @@ use Rattle.number_laws.proofs.Order.{times_positive}
 use Rattle.fraction128.specs.Fraction.{Fraction, over, whole}
 use Rattle.exchange_runs.specs.SmallRuns.{IsSmall}
 use Rattle.whole_rows.specs.Rows.{RowDef, PivotDef, num_at, entry_at, listed_at, AreSparse, IsPivotOf}
-use Rattle.whole_rows.specs.RowView.{IsBounded}
+use Rattle.whole_rows.specs.Rows.{IsBounded}
 use Rattle.whole_rows.specs.PivotView.{IsBoundedPivot}
 use Rattle.whole_rows.specs.Numbers.{number_at, AreTimes, AreTaken, IsCancelled, IsSameRow}
 use Rattle.whole_rows.specs.Steps.{IsSmallLess, IsLeftRow, LeavesRow}
 use Rattle.whole_rows.specs.declared.entries.Entry.{Entry}
-use Rattle.whole_rows.specs.declared.row.Large.{Large}
+use Rattle.whole_rows.specs.declared.stops.Large.{Large}
 use Rattle.whole_rows.proofs.Listed.{nothing, listed_entry, listed_none, found_or_none}
 
 -- the sizes of products and differences

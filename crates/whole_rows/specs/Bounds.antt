@@ -1,10 +1,10 @@
 -- Bounds on the numbers of a row, and what is subtracted from it within them.
 use Rattle.std.specs.Prelude.{◌≡◌, ℕ, ◌+◌, ◌*◌, ◌<◌, ◌≤◌, ◌^◌, length, Option, IfSome, IfNone, Result, OnErr, ℤ, unsigned_abs}
 use Rattle.whole_rows.specs.Rows.{RowDef, PivotDef, AreBelow, IsPivotOf}
-use Rattle.whole_rows.specs.RowView.{IsBounded}
+use Rattle.whole_rows.specs.Rows.{IsBounded}
 use Rattle.whole_rows.specs.Large.{IsReducedTo, IsSizeIn, IsPast}
 use Rattle.whole_rows.specs.Steps.{LeavesRow}
-use Rattle.whole_rows.specs.declared.row.Large.{Large}
+use Rattle.whole_rows.specs.declared.stops.Large.{Large}
 
 -- Is it the row without common divisors, and `most` the greatest size in it?
 pub record IsTightened (row tight : RowDef) (most : ℕ) : Type 0 where

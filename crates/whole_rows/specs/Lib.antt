@@ -1,5 +1,8 @@
 pub mod Rows
+pub mod DenseView
+pub mod ShortView
 pub mod RowView
+pub mod Short
 pub mod PivotView
 pub mod EntrySteps
 pub mod Numbers

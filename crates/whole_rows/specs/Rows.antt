@@ -1,5 +1,6 @@
 -- What contracts see of a row of whole numbers over one denominator, and of its nonzero numbers as a list.
-use Rattle.std.specs.Prelude.{◌≡◌, ◌≢◌, ℕ, ◌<◌, ◌==◌, if◌then◌else◌, List, [], ◌∷◌, map, length, slice_index_or, ℤ, pos}
+use Rattle.std.specs.Prelude.{◌≡◌, ◌≢◌, ℕ, ◌<◌, ◌≤◌, ◌^◌, ◌==◌, if◌then◌else◌, List, [], ◌∷◌, map, length, slice_index_or, ℤ, pos}
+use Rattle.std.specs.Prelude.{◌<ℤ◌, unsigned_abs}
 use Rattle.std.specs.List.{range_with_len}
 use Rattle.fraction128.specs.Fraction.{Fraction, over}
 use Rattle.program_form.specs.SparseRows.{number_at}
@@ -28,6 +29,14 @@ cell_at row k = over (num_at row k) row.den
 abbrev pub limit_of : RowDef → Fraction
 limit_of row = over row.limit row.den
 
+-- Is the denominator above zero, and no part of the row greater in size than a bound that fits?
+pub record IsBounded (row : RowDef) (most : ℕ) : Type 0 where
+  pub positive : pos 0 <ℤ row.den
+  pub nums : (k : ℕ) → unsigned_abs (num_at row k) ≤ most
+  pub limit : unsigned_abs row.limit ≤ most
+  pub den : unsigned_abs row.den ≤ most
+  pub fits : most < 2 ^ 63
+
 -- The row of n places with these coefficients and this limit, over 1.
 abbrev pub coefficient_row : ℕ → List Coefficient → ℕ → RowDef
 coefficient_row n cs limit = record { nums = map (λ v. pos (number_at cs v)) (range_with_len 0 n); limit = pos limit; den = pos 1 }
@@ -36,6 +45,10 @@ coefficient_row n cs limit = record { nums = map (λ v. pos (number_at cs v)) (r
 abbrev pub listed_at : List Entry → ℕ → ℤ
 listed_at [] k = pos 0
 listed_at (e ∷ es) k = if e.place == k then e.num else listed_at es k
+
+-- The row of n places with these numbers and this limit, over 1. A place that isn't listed has zero.
+abbrev pub listed_row : ℕ → List Entry → ℤ → RowDef
+listed_row n entries limit = record { nums = map (listed_at entries) (range_with_len 0 n); limit = limit; den = pos 1 }
 
 -- The entry at index j of a list.
 abbrev pub entry_at : List Entry → ℕ → Entry

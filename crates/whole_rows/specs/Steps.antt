@@ -4,7 +4,7 @@ use Rattle.fraction128.specs.Fraction.{Fraction, IsQuotient, whole}
 use Rattle.exchange_runs.specs.Exchange.{IsLessOver}
 use Rattle.exchange_runs.specs.SmallRuns.{IsSmall}
 use Rattle.whole_rows.specs.Rows.{RowDef, cell_at, limit_of}
-use Rattle.whole_rows.specs.declared.row.Large.{Large}
+use Rattle.whole_rows.specs.declared.stops.Large.{Large}
 
 -- Are all its cells small?
 pub record AreSmallCells (row : RowDef) : Type 0 where

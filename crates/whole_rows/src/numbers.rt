@@ -73,7 +73,7 @@ fn multiply_all(nums: &mut [i64], by: i64)
 
 // Subtracts f times each listed number from the number at its place.
 #[inline(never)]
-fn take_listed(nums: &mut [i64], entries: &[Entry], f: i64)
+pub(crate) fn take_listed(nums: &mut [i64], entries: &[Entry], f: i64)
     requires { CanSubtract nums.old f entries.now }
     ensures { AreLess nums.old f entries.now nums.new }
 {

@@ -53,7 +53,7 @@ impl Pivot {
     pub fn read(&mut self, row: &WholeRow) -> Result<(), AllocError>
         ensures { IfOk result (λ _. IsPivotOf self.new row.now) }
     {
-        let listed = list_nums(&mut self.entries, row.nums());
+        let listed = row.list(&mut self.entries);
         self.limit = row.limit();
         self.den = row.den();
         self.most = greatest_listed(&self.entries, self.limit.unsigned_abs());
@@ -149,7 +149,7 @@ fn list_between(
 }
 
 // Writes the nonzero numbers, at their places, into the memory of a list. If there isn't enough for all of them, it writes some.
-fn list_nums(list: &mut Vec<Entry>, nums: &[i64]) -> Result<(), AllocError>
+pub(crate) fn list_nums(list: &mut Vec<Entry>, nums: &[i64]) -> Result<(), AllocError>
     ensures { Lists result nums.now list.new.items (AreListed nums.now) }
 {
     list.clear();
@@ -168,7 +168,10 @@ fn list_nums(list: &mut Vec<Entry>, nums: &[i64]) -> Result<(), AllocError>
 }
 
 // Writes the coefficients into the memory of a list. If there isn't enough for all of them, it writes some.
-fn list_coefficients(list: &mut Vec<Entry>, coefficients: &[Coefficient]) -> Result<(), AllocError>
+pub(crate) fn list_coefficients(
+    list: &mut Vec<Entry>,
+    coefficients: &[Coefficient],
+) -> Result<(), AllocError>
     requires { (j : ℕ) → j < length coefficients.now → (coefficient_at coefficients.now j).number < 2 ^ 63 }
     ensures { ListsCoefficients result coefficients.now list.new.items }
 {
@@ -183,7 +186,7 @@ fn list_coefficients(list: &mut Vec<Entry>, coefficients: &[Coefficient]) -> Res
 }
 
 // The greatest size of the listed numbers, and of a first one.
-fn greatest_listed(entries: &[Entry], first: u64) -> u64
+pub(crate) fn greatest_listed(entries: &[Entry], first: u64) -> u64
     ensures { IsGreatestListed entries.now first result }
 {
     let mut most = first;

@@ -1,37 +1,36 @@
 //! A row of whole numbers over one denominator.
 
-ghost use Rattle.std.specs.Prelude.{◌≡◌, ℕ, ◌+◌, ◌*◌, ◌<◌, ◌≤◌, ◌^◌, length, slice_index_or, OnErr};
-ghost use Rattle.std.specs.Prelude.{pos, ◌-ℤ◌, ◌*ℤ◌, ◌<ℤ◌, unsigned_abs};
-ghost use Rattle.whole_rows.specs.Rows.{RowDef, num_at, AreBelow, IsPivotOf};
-ghost use Rattle.whole_rows.specs.Given.{CanEnter};
-ghost use Rattle.whole_rows.specs.Numbers.{swapped};
-ghost use Rattle.whole_rows.specs.RowView.{IsBounded};
-ghost use Rattle.whole_rows.specs.Large.{IsReducedTo, IsTooLarge};
-ghost use Rattle.whole_rows.specs.Bounds.{IsTightened, CanTakeWithin, TakesWithin, IsBoundAfter};
-ghost use Rattle.whole_rows.specs.Steps.{AreSmallCells, IsDividedRow, LeavesRow};
+ghost use Rattle.std.specs.Prelude.{◌≡◌, ℕ, ◌<◌, ◌≤◌, ◌^◌, length, slice_index_or, pos, ◌<ℤ◌, unsigned_abs, IfOk, IsErrOf};
+ghost use Rattle.program_form.specs.SparseRows.{coefficient_at, AreCoefficients};
+ghost use Rattle.whole_rows.specs.Rows.{RowDef, num_at, coefficient_row, AreBelow, IsPivotOf};
+ghost use Rattle.whole_rows.specs.Large.{IsTooLarge};
+ghost use Rattle.whole_rows.specs.Listing.{Lists};
+ghost use Rattle.whole_rows.specs.Numbers.{AreListed};
+ghost use Rattle.whole_rows.specs.Steps.{AreSmallCells, IsDividedRow, IsLeftRow};
+ghost use Rattle.whole_rows.specs.declared.stops.RowStop.TheVariants as row_stop;
 
-use crate::divisors::{divide_parts, lowest_terms};
-use crate::numbers::{greatest_size, take_from};
-use crate::pivot::Pivot;
+use crate::dense_row::DenseRow;
+use crate::entries::Entry;
+use crate::pivot::{Pivot, list_nums};
+use crate::short_row::{MOST_LISTED, ShortRow};
+use crate::stops::RowStop;
+use program_form::Coefficient;
+use std::alloc::{AllocError, Global};
 use std::marker::Model;
-use thiserror::Error;
 
-// The greatest size of a number.
-const MOST: u64 = i64::MAX as u64;
-
-/// A bound on the numbers over the row's denominator is above 2^63 - 1.
-#[derive(Clone, Copy, Debug, PartialEq, Eq, Error)]
-#[error("a number over the row's denominator passes 2^63 - 1")]
-pub struct Large;
+// How the numbers of a row are kept.
+#[derive(Drop)]
+enum Form {
+    /// The nonzero ones, over 1.
+    Short(ShortRow),
+    /// One for each place.
+    Dense(DenseRow),
+}
 
 /// A row: a number for each place, and its limit, over one denominator.
 #[derive(Drop)]
 pub struct WholeRow {
-    nums: Vec<i64>,
-    limit: i64,
-    den: i64,
-    // no number above is greater in size, and the denominator isn't either
-    most: u64,
+    form: Form,
 }
 
 impl Model for WholeRow {
@@ -39,11 +38,9 @@ impl Model for WholeRow {
 
     ghost Value = { RowDef };
 
-    ghost use Rattle.whole_rows.specs.RowView.{row_view, IsKept};
+    ghost use Rattle.whole_rows.specs.RowView.{row_view};
 
     ghost view = { row_view };
-
-    ghost invariant = { IsKept };
 }
 
 impl WholeRow {
@@ -56,26 +53,39 @@ impl WholeRow {
         ensures { result ≡ record { nums = nums.items; limit = limit; den = pos 1 } }
     {
         WholeRow {
-            nums,
-            limit,
-            den: 1,
-            most,
+            form: Form::Dense(DenseRow::over_one(nums, limit, most)),
         }
+    }
+
+    /// The row over 1 with these coefficients, each at the place of its column, and this limit. It fails only for want of memory.
+    pub fn of_coefficients(
+        alloc: Global,
+        places: usize,
+        coefficients: &[Coefficient],
+        limit: u64,
+    ) -> Result<WholeRow, AllocError>
+        requires listed { AreCoefficients places coefficients.now }
+        requires small { (j : ℕ) → j < length coefficients.now → (coefficient_at coefficients.now j).number < 2 ^ 63 }
+        requires limit { limit < 2 ^ 63 }
+        ensures { IfOk result (λ row. row ≡ coefficient_row places coefficients.now limit) }
+    {
+        let short = ShortRow::of_coefficients(alloc, places, coefficients, limit)?;
+        let form = if coefficients.len() <= MOST_LISTED {
+            Form::Short(short)
+        } else {
+            Form::Dense(short.spread(alloc)?)
+        };
+        Ok(WholeRow { form })
     }
 
     /// How many places there are.
     pub fn places(&self) -> usize
         ensures { result ≡ length self.now.nums }
     {
-        self.nums.len()
-    }
-
-    // The numbers.
-    pub(crate) fn nums(&self) -> &[i64]
-        ensures value { result.now ≡ self.now.nums }
-        ensures small { AreSmallCells self.now }
-    {
-        &self.nums
+        match &self.form {
+            Form::Short(row) => row.places(),
+            Form::Dense(row) => row.places(),
+        }
     }
 
     /// The number at a place.
@@ -84,7 +94,10 @@ impl WholeRow {
         ensures value { result ≡ num_at self.now k }
         ensures small { AreSmallCells self.now }
     {
-        self.nums[k]
+        match &self.form {
+            Form::Short(row) => row.num(k),
+            Form::Dense(row) => row.num(k),
+        }
     }
 
     /// The limit, over the same denominator.
@@ -92,7 +105,10 @@ impl WholeRow {
         ensures value { result ≡ self.now.limit }
         ensures small { AreSmallCells self.now }
     {
-        self.limit
+        match &self.form {
+            Form::Short(row) => row.limit(),
+            Form::Dense(row) => row.limit(),
+        }
     }
 
     /// The denominator.
@@ -100,113 +116,65 @@ impl WholeRow {
         ensures value { result ≡ self.now.den }
         ensures small { AreSmallCells self.now }
     {
-        self.den
-    }
-
-    /// Divides the row by its cell at place k. The variable that leaves takes over that place.
-    pub fn enter(&mut self, k: usize)
-        requires place { k < length self.old.nums }
-        requires above { pos 0 <ℤ num_at self.old k }
-        ensures { IsDividedRow self.old k self.new }
-    {
-        self.swap_in(k);
-        // over 1 there is nothing to remove
-        if self.den != 1 {
-            self.reduce();
+        match &self.form {
+            Form::Short(row) => row.den(),
+            Form::Dense(row) => row.den(),
         }
     }
 
-    // Swaps the number at place k and the denominator.
-    fn swap_in(&mut self, k: usize)
-        requires { CanEnter self.old k }
-        ensures swapped { self.new ≡ swapped self.old k }
-        ensures small { AreSmallCells self.new }
+    // Writes the nonzero numbers into the memory of a list. If there isn't enough for all of them, it writes some.
+    pub(crate) fn list(&self, list: &mut Vec<Entry>) -> Result<(), AllocError>
+        ensures listed { Lists result self.now.nums list.new.items (AreListed self.now.nums) }
+        ensures small { AreSmallCells self.now }
     {
-        let num = self.nums[k];
-        self.nums[k] = self.den;
-        self.den = num;
+        match &self.form {
+            Form::Short(row) => row.list(list),
+            Form::Dense(row) => list_nums(list, row.nums()),
+        }
     }
 
-    // Divides all numbers by their greatest common divisor. None becomes greater, so the bound stays.
-    fn reduce(&mut self)
-        ensures reduced { IsReducedTo self.old self.new }
-        ensures small { AreSmallCells self.new }
+    /// Divides the row by its cell at place k. The variable that leaves takes over that place. It fails only for want of memory.
+    pub fn enter(&mut self, alloc: Global, k: usize) -> Result<(), AllocError>
+        requires place { k < length self.old.nums }
+        requires above { pos 0 <ℤ num_at self.old k }
+        ensures { IfOk result (λ _. IsDividedRow self.old k self.new) }
     {
-        let (limit, den) = divide_parts(&mut self.nums, self.limit, self.den);
-        self.limit = limit;
-        self.den = den;
-    }
-
-    // A bound on the sizes of its numbers, its limit and its denominator.
-    fn bound(&self) -> u64
-        ensures { IsBounded self.now result }
-    {
-        self.most
-    }
-
-    // The same, after all numbers are measured anew. Answers the greatest size.
-    fn tighten(&mut self) -> u64
-        ensures { IsTightened self.old self.new result }
-    {
-        self.reduce();
-        let first = self.limit.unsigned_abs().max(self.den.unsigned_abs());
-        self.most = greatest_size(&self.nums, first);
-        self.most
+        match &mut self.form {
+            Form::Dense(row) => row.enter(k),
+            Form::Short(row) => {
+                if !row.is_one_at(k) {
+                    let mut dense = row.spread(alloc)?;
+                    dense.enter(k);
+                    self.form = Form::Dense(dense);
+                }
+            }
+        }
+        Ok(())
     }
 
     /// Subtracts a divided row times the row's own cell at place k. At place k it subtracts from 0, which is the cell of the variable that
     /// leaves. `Large` comes only if a bound on what is left is above 2^63 - 1 even with all common divisors removed. The bound is a size
-    /// of the row times p, and a size of the pivot times that of f, where f / p is the cell over the pivot's denominator.
-    pub fn take(&mut self, k: usize, pivot: &Pivot) -> Result<(), Large>
+    /// of the row times p, and a size of the pivot times that of f, where f / p is the cell over the pivot's denominator. `Memory` comes
+    /// only for want of memory.
+    pub fn take(&mut self, alloc: Global, k: usize, pivot: &Pivot) -> Result<(), RowStop>
         requires place { k < length self.old.nums }
         requires below { AreBelow (length self.old.nums) pivot.now.entries }
-        ensures left { (divided : RowDef) → IsPivotOf pivot.now divided → LeavesRow result self.old k divided self.new }
+        ensures left { (divided : RowDef) → IsPivotOf pivot.now divided → IfOk result (λ _. IsLeftRow self.old k divided self.new) }
         ensures as_many { length self.new.nums ≡ length self.old.nums }
-        ensures large { OnErr result (IsTooLarge self.old k pivot.now) }
+        ensures large { IsErrOf result row_stop.Large → IsTooLarge self.old k pivot.now }
     {
-        let most = self.bound();
-        match self.take_within(k, pivot, most) {
-            Ok(()) => Ok(()),
-            Err(Large) => {
-                let most = self.tighten();
-                self.take_within(k, pivot, most)
-            }
+        match &mut self.form {
+            Form::Dense(row) => row.take(k, pivot)?,
+            Form::Short(row) => match row.less(alloc, k, pivot)? {
+                Some(left) => self.form = Form::Short(left),
+                None => {
+                    let mut dense = row.spread(alloc)?;
+                    let taken = dense.take(k, pivot);
+                    self.form = Form::Dense(dense);
+                    taken?;
+                }
+            },
         }
-    }
-
-    // The same if the bound on what is left fits, with `most` as a bound on the row. If it doesn't fit, the row stays.
-    fn take_within(&mut self, k: usize, pivot: &Pivot, most: u64) -> Result<(), Large>
-        requires { CanTakeWithin self.old k most pivot.now }
-        ensures { TakesWithin result self.old k most pivot.now self.new }
-    {
-        let (f, p) = lowest_terms(self.nums[k], pivot.den());
-        let bound = match bound_after(most, p, f, pivot.most()) {
-            Some(bound) => bound,
-            None => return Err(Large),
-        };
-        take_from(&mut self.nums, k, p, f, pivot.entries());
-        self.limit = less_times(self.limit, p, f, pivot.limit());
-        self.den = self.den * p;
-        self.most = bound;
         Ok(())
     }
-}
-
-// A number times p, less f times another.
-#[inline(always)]
-fn less_times(num: i64, p: i64, f: i64, other: i64) -> i64
-    requires { unsigned_abs num * unsigned_abs p + unsigned_abs f * unsigned_abs other < 2 ^ 63 }
-    ensures { result ≡ (num *ℤ p) -ℤ (f *ℤ other) }
-{
-    num * p - f * other
-}
-
-// A bound on numbers times p, less f times others, if `most` and `others` bound both. None if it is above 2^63 - 1.
-fn bound_after(most: u64, p: i64, f: i64, others: u64) -> Option<u64>
-    ensures { IsBoundAfter result most p f others }
-{
-    let first = most.checked_mul(p.unsigned_abs())?;
-    let second = f.unsigned_abs().checked_mul(others)?;
-    let bound = first.checked_add(second)?;
-    if bound <= MOST { Some(bound) } else { None }
 }

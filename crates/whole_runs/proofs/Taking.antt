@@ -1,16 +1,14 @@
 -- Rows taken from one by one, and what the rows are after all of them.
 use Rattle.std.proofs.Common.{◌≡◌, ◌≢◌, ◌⊎◌, inl, inr, ℕ, zero, suc, ◌+◌, ◌<◌, ◌≤◌, ◌^◌, List, [], ◌∷◌, length, set}
-use Rattle.std.proofs.Common.{None, Some, is_some, true, false, pos, ◌<ℤ◌, refl, sym, ap, ◌∙◌, arith}
+use Rattle.std.proofs.Common.{None, Some, Err, is_some, true, false, pos, ◌<ℤ◌, refl, sym, ap, ◌∙◌, arith}
 use Rattle.std.proofs.Common.{get_or-set_same, get_or-set_other, length-set, subst}
 use Rattle.std.specs.declared.option.Option.{Option}
 use Rattle.std.proofs.lemmas.Bool.{cases_eq, ne_eqb}
-use Rattle.std.proofs.lemmas.List.FromFn.{length-map-range_with_len}
 use Rattle.fraction128.specs.Fraction.{Fraction, whole}
 use Rattle.exchange_runs.specs.SmallRuns.{IsSmall}
 use Rattle.program_form.specs.Program.{ProgramDef, IsProgram, columns, height, row, entry, limit}
 use Rattle.program_form.specs.SparseRows.{number_at, full_row, AreCoefficients}
 use Rattle.program_form.specs.declared.sparse_rows.Coefficient.{Coefficient}
-use Rattle.whole_rows.proofs.Coefficients.{number_in}
 use Rattle.whole_rows.specs.Rows.{RowDef, PivotDef, coefficient_row, listed_at, entry_at, num_at}
 use Rattle.whole_rows.specs.Rows.{cell_at, limit_of, AreSparse, AreBelow, IsPivotOf}
 use Rattle.whole_rows.specs.Steps.{IsDividedRow, IsLeftRow}
@@ -21,7 +19,11 @@ use Rattle.whole_runs.specs.Exchanges.{IsTouched, AreSmallRows, IsLeft, IsDivide
 use Rattle.whole_runs.specs.Takings.{Touches, Divides, IsLeftAt, IsTaken, AreTakenTo, ExchangesRows}
 use Rattle.whole_runs.specs.Starts.{IsFirstRow}
 use Rattle.whole_runs.proofs.Smalls.{small_zero, small_whole, over_one_same, less_of_zero, zero_less}
-use Rattle.whole_runs.proofs.Starting.{number_of_row, first_row_is}
+use Rattle.whole_rows.specs.declared.stops.RowStop.{RowStop}
+use Rattle.whole_rows.specs.declared.stops.RowStop.TheVariants as row_stop
+use Rattle.whole_runs.specs.Ends.{GivesOrStops}
+use Rattle.whole_runs.specs.Stops.{halt_of}
+use Rattle.whole_runs.proofs.Starting.{number_of_row, coefficient_row_is}
 use Rattle.whole_runs.proofs.Marking.{num_of_cell}
 
 -- A place is listed, or it isn't.
@@ -90,6 +92,12 @@ divided_of_touched p r before row k divided touched h = record {
   limit = rw (← touched.limit, ← touched.cells k) h.limit;
 }
 
+-- What a row's stop becomes.
+pub halts_for : {X : Type 0} (stop : RowStop) (is : X → Type 0) (cause : Type 0) → (stop ≡ row_stop.Large → cause)
+    → GivesOrStops (Err (halt_of stop)) is cause
+halts_for row_stop.Memory is cause large = tt
+halts_for row_stop.Large is cause large = large refl
+
 pub taken_one : (p : ProgramDef) (i k : ℕ) (pivot : PivotDef) (before : Option RowDef) (row left : RowDef)
     → IsTouched p i before row → ((divided : RowDef) → IsPivotOf pivot divided → IsLeftRow row k divided left)
     → IsTaken p i before k pivot (Some left)
@@ -129,8 +137,7 @@ pub divided_untouched : (p : ProgramDef) (r k : ℕ) (before : Option RowDef) (c
     → number_at cs k ≡ 1 → IsPivotOf pivot (coefficient_row (columns p) cs (limit p r)) → Divides p r before k before pivot
 divided_untouched p r k (Some old) cs pivot none is l listed full one pivot_is = cc
 divided_untouched p r k None cs pivot none is l listed full one pivot_is =
-    let own = first_row_is p r cs (coefficient_row (columns p) cs (limit p r)).nums (pos (limit p r)) is l listed full
-    (length-map-range_with_len (λ v. pos (number_at cs v)) 0 (columns p)) (λ v. number_in (columns p) cs (limit p r) v listed) refl in
+    let own = coefficient_row_is p r cs is l listed full in
     let touched : IsTouched p r None (coefficient_row (columns p) cs (limit p r))
     = record { as_many = own.as_many; cells = own.cells; limit = own.limit } in
     record {

@@ -3,6 +3,7 @@ pub mod Columns
 pub mod Given
 pub mod Readings
 pub mod Starts
+pub mod Stops
 pub mod Writing
 pub mod Exchanges
 pub mod Choice

@@ -1,39 +1,13 @@
 -- How are the parts of the first table written?
 use Rattle.std.specs.Prelude.{◌≡◌, ◌≢◌, ℕ, ◌<◌, ◌≤◌, ◌^◌, List, length, slice_index_or, ℤ, pos}
 use Rattle.program_form.specs.Program.{ProgramDef, columns, height, cost}
-use Rattle.program_form.specs.SparseRows.{number_at, coefficient_at, AreCoefficients}
+use Rattle.program_form.specs.SparseRows.{number_at}
 use Rattle.program_form.specs.declared.sparse_rows.Coefficient.{Coefficient}
 use Rattle.whole_rows.specs.Marks.{IsMarked, AreKept}
 use Rattle.whole_rows.specs.declared.marks.RowMarks.{RowMarks}
 use Rattle.whole_runs.specs.States.{stand_at}
 use Rattle.whole_runs.specs.declared.stands.Stand.{Stand}
 use Rattle.whole_runs.specs.declared.stands.Stand.TheVariants.{Outside}
-
--- Is each coefficient below 2^63?
-abbrev pub AreSmall : List Coefficient → Type 0
-AreSmall cs = (k : ℕ) → k < length cs → (coefficient_at cs k).number < 2 ^ 63
-
--- Are these small coefficients of a row with as many places, and all numbers there zero?
-pub record CanWrite (nums : List ℤ) (cs : List Coefficient) : Type 0 where
-  pub listed : AreCoefficients (length nums) cs
-  pub small : AreSmall cs
-  pub zero : (v : ℕ) → slice_index_or nums v (pos 0) ≡ pos 0
-
--- Has each column its coefficient, in a list as long as before?
-pub record AreWritten (before : List ℤ) (cs : List Coefficient) (after : List ℤ) : Type 0 where
-  pub as_many : length after ≡ length before
-  pub each : (v : ℕ) → slice_index_or after v (pos 0) ≡ pos (number_at cs v)
-
--- Are the coefficients and a first number below 2^63?
-pub record AreAllSmall (cs : List Coefficient) (start : ℕ) : Type 0 where
-  pub small : AreSmall cs
-  pub first : start < 2 ^ 63
-
--- Is no coefficient above `most`, nor the first number, and is it below 2^63?
-pub record IsBoundOf (cs : List Coefficient) (start most : ℕ) : Type 0 where
-  pub first : start ≤ most
-  pub all : (v : ℕ) → number_at cs v ≤ most
-  pub small : most < 2 ^ 63
 
 -- Are these the costs, one for each column?
 pub record AreCosts (p : ProgramDef) (nums : List ℤ) : Type 0 where

@@ -48,7 +48,7 @@ fn divide_touched(
     touch(alloc, program, row, r)?;
     match row {
         Some(row) => {
-            row.enter(k);
+            row.enter(alloc, k)?;
             pivot.read(row)?;
         }
         None => unreachable!(),
@@ -92,7 +92,7 @@ fn take_from(
 {
     touch(alloc, program, row, i)?;
     match row {
-        Some(row) => row.take(k, pivot)?,
+        Some(row) => row.take(alloc, k, pivot)?,
         None => unreachable!(),
     }
     Ok(())

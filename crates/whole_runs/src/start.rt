@@ -4,7 +4,7 @@ ghost use Rattle.std.specs.Prelude.{◌≡◌, ℕ, ◌<◌, [], length, IfOk, O
 ghost use Rattle.program_form.specs.Program.{columns, height};
 ghost use Rattle.program_form.specs.SparseRows.{coefficient_at};
 ghost use Rattle.whole_rows.specs.Marks.{HasWord};
-ghost use Rattle.whole_runs.specs.Writing.{CanWrite, AreWritten, AreAllSmall, IsBoundOf, AreCosts, IsCostBound};
+ghost use Rattle.whole_runs.specs.Writing.{AreCosts, IsCostBound};
 ghost use Rattle.whole_runs.specs.Writing.{AreColumnStands, AreMarkedIn, AreCostsMarked};
 ghost use Rattle.whole_runs.specs.Starts.{IsFirstRow, IsCostRow, AreFirstRows, IsFirstBasis, AreFirstStands};
 ghost use Rattle.whole_runs.specs.Starts.{AreFirstOutside, AreFirstMarks, IsFirstTableau};
@@ -14,28 +14,6 @@ use crate::tableau::Tableau;
 use program_form::{Coefficient, SparseProgram};
 use std::alloc::{AllocError, Global};
 use whole_rows::{RowMarks, WholeRow};
-
-// Writes the coefficients at their columns.
-fn write_all(nums: &mut [i64], coefficients: &[Coefficient])
-    requires { CanWrite nums.old coefficients.now }
-    ensures { AreWritten nums.old coefficients.now nums.new }
-{
-    for coefficient in coefficients {
-        nums[coefficient.column as usize] = coefficient.number as i64;
-    }
-}
-
-// The greatest of the coefficients and another number.
-fn greatest(coefficients: &[Coefficient], first: u64) -> u64
-    requires { AreAllSmall coefficients.now first }
-    ensures { IsBoundOf coefficients.now first result }
-{
-    let mut most = first;
-    for coefficient in coefficients {
-        most = most.max(coefficient.number);
-    }
-    most
-}
 
 // Row i of the program.
 #[inline(never)]
@@ -47,12 +25,12 @@ pub(crate) fn first_row(
     requires { i < height program.now }
     ensures { IfOk result (IsFirstRow program.now i) }
 {
-    let coefficients = program.coefficients(i);
-    let mut nums = vec![in alloc; 0i64; program.columns() as usize]?;
-    write_all(&mut nums, coefficients);
-    let limit = program.limit(i as u32);
-    let most = greatest(coefficients, limit.max(1));
-    Ok(WholeRow::over_one(nums, limit as i64, most))
+    WholeRow::of_coefficients(
+        alloc,
+        program.columns() as usize,
+        program.coefficients(i),
+        program.limit(i as u32),
+    )
 }
 
 // The costs, one for each column.

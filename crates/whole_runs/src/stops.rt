@@ -4,7 +4,7 @@ ghost use Rattle.std.specs.Prelude.{◌≡◌};
 
 use std::alloc::{AllocError, AllocFailed};
 use thiserror::Error;
-use whole_rows::Large as LargeRow;
+use whole_rows::RowStop;
 
 /// Why a run was not made to its end.
 #[derive(Clone, Copy, Debug, PartialEq, Eq, Error)]
@@ -41,12 +41,15 @@ impl<T: Drop> From<AllocFailed<T>> for Halt {
     }
 }
 
-impl From<LargeRow> for Halt {
-    ghost use Rattle.whole_runs.specs.declared.stops.Halt.TheVariants.{Large};
+impl From<RowStop> for Halt {
+    ghost use Rattle.whole_runs.specs.Stops.{halt_of};
 
-    ghost from_gives = { λ _ halt. halt ≡ Large };
+    ghost from_gives = { λ stop halt. halt ≡ halt_of stop };
 
-    fn from(_large: LargeRow) -> Halt {
-        Halt::Large
+    fn from(stop: RowStop) -> Halt {
+        match stop {
+            RowStop::Memory => Halt::Memory,
+            RowStop::Large => Halt::Large,
+        }
     }
 }

@@ -20,4 +20,4 @@ pub returns : goal.returns
 returns c =
     let touched : IsTouched c.args.program.now c.args.r c.args.row.now c.in-Some.row = rw c.in-Some.is at c.in_ok-touch.ensures in
     divided_one c.args.program.now c.args.r c.args.k c.read.new.self c.args.row.now c.in-Some.row c.enter.new.self touched
-    c.enter.ensures c.in_ok-read-in-Some.ensures
+    c.in_ok-enter-in-Some.ensures c.in_ok-read-in-Some.ensures

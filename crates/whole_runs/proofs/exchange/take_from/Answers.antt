@@ -1,7 +1,7 @@
-use Rattle.std.proofs.Common.{arith}
+use Rattle.std.proofs.Common.{Err, ap, arith}
 use Rattle.std.proofs.lemmas.Result.{err_from_is_err_and}
 use Rattle.whole_runs.specs.Exchanges.{IsTouched}
-use Rattle.whole_runs.proofs.Taking.{taken_one}
+use Rattle.whole_runs.proofs.Taking.{taken_one, halts_for}
 use Rattle.whole_runs.proofs.exchange.take_from.Goals as goal
 
 pub take-requires-clause-place : goal.take-requires-clause-place
@@ -21,7 +21,8 @@ pub returns-in_err-take-in-Some : goal.returns-in_err-take-in-Some
 returns-in_err-take-in-Some c =
     let touched : IsTouched c.args.program.now c.args.i c.args.row.now c.in-Some.row = rw c.in-Some.is at c.in_ok-touch.ensures in
     let stop = err_from_is_err_and c.from_residual-in_err-take-in-Some.result c.from_residual-in_err-take-in-Some.ensures.1 in
-    rw (stop.1, stop.2) (record { row = c.in-Some.row; touched = touched; large = c.in_err-take-in-Some.ensures.large })
+    rw (stop.1, stop.2) (halts_for c.in_err-take-in-Some.field-0.0 _ _ (λ is.
+    record { row = c.in-Some.row; touched = touched; large = c.in_err-take-in-Some.ensures.large (ap Err is) }))
 
 pub returns : goal.returns
 returns c =

@@ -1,17 +1,18 @@
-use Rattle.std.proofs.lemmas.Result.{on_err_weaker}
-use Rattle.whole_rows.proofs.Taking.{leaves_again}
-use Rattle.whole_rows.proofs.Larger.{too_large}
+use Rattle.std.proofs.Common.{◌≡◌}
+use Rattle.whole_rows.specs.Steps.{IsLeftRow}
 use Rattle.whole_rows.proofs.row.WholeRow.take.Goals as goal
+use Rattle.whole_rows.proofs.row.WholeRow.take.Goals.{in-Short-2, in-Dense-2}
 
-pub returns-in-Err-clause-left : goal.returns-in-Err-clause-left
-returns-in-Err-clause-left c divided is =
-    leaves_again c.take_within-in-Err.result c.args.self.now c.tighten-most.new.self divided c.take_within-in-Err.new.self c.args.k
-    (rw c.in-Err.ensures.stays at c.tighten-most.ensures.reduced.same) (c.take_within-in-Err.ensures.left divided is)
+pub returns-in-Some-clause-left : goal.returns-in-Some-clause-left
+returns-in-Some-clause-left c divided is =
+    let own : c.in-Short.row ≡ c.args.self.now = rw c.in-Short.is at c.self.view_is in
+    let left : IsLeftRow c.in-Short.row c.args.k divided c.in-Some.left = (rw c.in-Some.is at c.in_ok-left-in-Short.ensures).1 divided is in
+    elim c.match-self-2.branch [
+      | in-Short-2 w ↦ rw (w.self-is, ← own) left
+      | in-Dense-2 w ↦ rw (w.self-is, ← own) left
+    ]
 
-pub returns-in-Err-clause-large : goal.returns-in-Err-clause-large
-returns-in-Err-clause-large c =
-    on_err_weaker c.take_within-in-Err.result
-    (λ past. too_large c.args.self.now c.tighten-most.new.self c.args.k c.tighten-most.result c.args.pivot.now
-    (rw c.in-Err.ensures.stays at c.tighten-most.ensures.reduced.same) c.tighten-most.ensures.reduced.lowest
-    c.tighten-most.ensures.attained past)
-    c.take_within-in-Err.ensures.large
+pub returns-in_ok-taken-in-None-clause-left : goal.returns-in_ok-taken-in-None-clause-left
+returns-in_ok-taken-in-None-clause-left c divided is =
+    let own : c.in-Short.row ≡ c.args.self.now = rw c.in-Short.is at c.self.view_is in
+    rw (← own, ← c.in_ok-dense-in-None.ensures) (c.in_ok-taken-in-None.ensures.left divided is)

@@ -1,6 +1,6 @@
 use Rattle.whole_rows.specs.Numbers.{swapped}
 use Rattle.whole_rows.proofs.Entering.{divided_row, same_row}
-use Rattle.whole_rows.proofs.row.WholeRow.enter.Goals as goal
+use Rattle.whole_rows.proofs.dense_row.DenseRow.enter.Goals as goal
 
 pub returns-then-self-ne1 : goal.returns-then-self-ne1
 returns-then-self-ne1 c =

@@ -2,7 +2,7 @@ use Rattle.std.proofs.Common.{FitsSigned, w64, ◌-ℤ◌, ◌*ℤ◌, rules}
 use Rattle.fraction128.proofs.Products.{fits_part, own_part_read}
 use Rattle.whole_rows.proofs.Read.{product_read}
 use Rattle.whole_rows.proofs.Taking.{less_times_fits}
-use Rattle.whole_rows.proofs.row.less_times.Goals as goal
+use Rattle.whole_rows.proofs.dense_row.less_times.Goals as goal
 
 pub overflow_sub-result : goal.overflow_sub-result
 overflow_sub-result c =

@@ -1,11 +1,11 @@
 use Rattle.std.proofs.Common.{◌≡◌, length, FitsSigned, w64, rules, ◌∙◌}
 use Rattle.std.proofs.lemmas.List.{with_items_is}
 use Rattle.whole_rows.specs.Rows.{RowDef}
-use Rattle.whole_rows.specs.RowView.{row_view}
+use Rattle.whole_rows.specs.DenseView.{dense_view}
 use Rattle.whole_rows.specs.Numbers.{IsSameRow}
 use Rattle.whole_rows.proofs.Read.{read}
 use Rattle.whole_rows.proofs.Entering.{same_bounded, small_cells}
-use Rattle.whole_rows.proofs.row.WholeRow.reduce.Goals as goal
+use Rattle.whole_rows.proofs.dense_row.DenseRow.reduce.Goals as goal
 
 pub invariant_of-self : goal.invariant_of-self
 invariant_of-self c =
@@ -21,9 +21,9 @@ invariant_of-self c =
       limit = c.divide_parts-limit.result.0;
       den = c.divide_parts-limit.result.1;
     } in
-    let same : IsSameRow (row_view c.self.inside) left =
+    let same : IsSameRow (dense_view c.self.inside) left =
     rw (c.deref_mut.ensures.value, read _ own_limit, read _ own_den) at c.divide_parts-limit.ensures.same in
-    rw (items, read _ fits_limit, read _ fits_den) (same_bounded (row_view c.self.inside) left c.self.inside.most c.self.invariant same)
+    rw (items, read _ fits_limit, read _ fits_den) (same_bounded (dense_view c.self.inside) left c.self.inside.most c.self.invariant same)
 
 pub returns-clause-reduced : goal.returns-clause-reduced
 returns-clause-reduced c =
