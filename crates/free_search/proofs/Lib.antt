@@ -2,6 +2,7 @@ mod Quotients
 mod Entering
 mod Rows
 mod SeenRows
+mod Written
 mod FirstTables
 mod LeastPlaces
 mod LeastRows

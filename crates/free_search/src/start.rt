@@ -3,8 +3,7 @@
 ghost use Rattle.std.specs.Prelude.{◌+◌, ◌<◌, ◌^◌, IfOk};
 ghost use Rattle.program_form.specs.Program.{height};
 ghost use Rattle.whole_runs.specs.Starts.{IsFirstRow, IsCostRow};
-ghost use Rattle.whole_runs.specs.Writing.{AreWritten};
-ghost use Rattle.free_search.specs.Begun.{AreZeros, AreCounted, AreRowsOf, IsFirstTable};
+ghost use Rattle.free_search.specs.Begun.{AreZeros, AreCoefficientsWritten, AreCounted, AreRowsOf, IsFirstTable};
 ghost use Rattle.free_search.specs.Given.{CanWriteAll};
 
 use crate::row::FreeRow;
@@ -27,7 +26,7 @@ fn zeros(alloc: Global, count: usize) -> Result<Vec<Signed>, AllocError>
 // Writes the coefficients at their columns.
 fn write_all(alloc: Global, nums: &mut [Signed], coefficients: &[Coefficient])
     requires { CanWriteAll nums.old coefficients.now }
-    ensures { AreWritten nums.old coefficients.now nums.new }
+    ensures { AreCoefficientsWritten nums.old coefficients.now nums.new }
 {
     for coefficient in coefficients {
         nums[coefficient.column as usize] = Signed::of(Whole::of(alloc, coefficient.number));

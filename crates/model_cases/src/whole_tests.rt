@@ -2,7 +2,7 @@ ghost use Rattle.std.specs.Prelude.{◌≡◌, ℕ, ◌<◌, ◌≤◌, length, 
 ghost use Rattle.whole_rows.specs.Marks.{HaveRoom};
 
 use crate::simplex_tests::{CHAINED, Case, FOUR_PRIMES, SEVEN_ROWS, program_of};
-use program_form::{Program, SparseProgram};
+use program_form::{Coefficient, Program, SparseProgram};
 use std::alloc::{AllocError, Global};
 use std::process::Abort;
 use whole_rows::{Entry, Pivot, RowMarks, RowStop, WholeRow, push_num};
@@ -196,6 +196,79 @@ fn what_is_left_fits_up_to_the_last_number(rt: HostRuntime) -> Result<(), AllocE
         }
     }
     Ok(())
+}
+
+// The row of three places with one coefficient.
+fn row_of_one(
+    rt: &impl Abort,
+    alloc: Global,
+    coefficient: Coefficient,
+    limit: u64,
+) -> Result<WholeRow, AllocError> {
+    let Coefficient { column, number } = coefficient;
+    assert!(rt; column < 3 && 0 < number && number <= MOST && limit <= MOST);
+    WholeRow::of_coefficients(alloc, 3, &[coefficient], limit)
+}
+
+// The row of one coefficient at place 1 is divided by it, and taken from the row of 3 at that place and the limit 30. What is wanted is the
+// number there, the limit and the denominator, first of the divided row and then of what is left.
+fn is_entered(
+    rt: &impl Abort,
+    alloc: Global,
+    coefficient: Coefficient,
+    divided: (i64, i64, i64),
+    left: (i64, i64, i64),
+) -> Result<(), AllocError> {
+    let mut row = row_of_one(rt, alloc, coefficient, 7)?;
+    enter(rt, alloc, &mut row, 1)?;
+    reads(rt, &row, &[0, divided.0, 0], divided.1, divided.2);
+    let mut other = row_of_one(
+        rt,
+        alloc,
+        Coefficient {
+            column: 1,
+            number: 3,
+        },
+        30,
+    )?;
+    take_off(rt, alloc, &mut other, 1, &row)?;
+    reads(rt, &other, &[0, left.0, 0], left.1, left.2);
+    Ok(())
+}
+
+#[test]
+fn rows_of_one_coefficient(rt: HostRuntime) -> Result<(), AllocError> {
+    let alloc = rt.alloc();
+    let first = row_of_one(
+        &rt,
+        alloc,
+        Coefficient {
+            column: 2,
+            number: 5,
+        },
+        9,
+    )?;
+    reads(&rt, &first, &[0, 0, 5], 9, 1);
+    is_entered(
+        &rt,
+        alloc,
+        Coefficient {
+            column: 1,
+            number: 1,
+        },
+        (1, 7, 1),
+        (-3, 9, 1),
+    )?;
+    is_entered(
+        &rt,
+        alloc,
+        Coefficient {
+            column: 1,
+            number: 2,
+        },
+        (1, 7, 2),
+        (-3, 39, 2),
+    )
 }
 
 #[test]

@@ -1,6 +1,7 @@
 use Rattle.std.proofs.Common.{◌≡◌, length, pos, ap, ◌∙◌, arith}
 use Rattle.program_form.specs.Program.{columns, limit}
-use Rattle.whole_runs.proofs.Starting.{refilled, first_row_is}
+use Rattle.whole_runs.proofs.Starting.{first_row_is}
+use Rattle.free_search.proofs.Written.{refilled}
 use Rattle.free_search.proofs.start.first_row.Goals as goal
 
 pub returns : goal.returns

@@ -1,6 +1,6 @@
 use Rattle.std.proofs.Common.{◌<◌, ◌≡◌, length, length-set, pos, ap, ◌∙◌, arith}
 use Rattle.program_form.specs.SparseRows.{coefficient_at}
-use Rattle.whole_runs.proofs.Starting.{written_more}
+use Rattle.free_search.proofs.Written.{written_more}
 use Rattle.free_search.proofs.start.write_all.Goals as goal
 
 pub loop-coefficient-preserved : goal.loop-coefficient-preserved
