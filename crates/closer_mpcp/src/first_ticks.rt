@@ -1,10 +1,12 @@
 //! How long the requests of a task last that go first. That doesn't depend on the bounds, or on how long a job waits.
 
-ghost use Rattle.std.specs.Prelude.{◌<◌, length};
+ghost use Rattle.std.specs.Prelude.{◌≡◌, ◌<◌, length};
+ghost use Rattle.sporadic_model.specs.SetDef.{task_at};
+ghost use Rattle.blocking_columns.specs.Ceilings.{remote_ceiling_rank};
 ghost use Rattle.closer_mpcp.specs.Given.{AreTaskAndResource, AreTaskAndTwoResources};
 ghost use Rattle.closer_mpcp.specs.Tables.{AreFirst, AreFirstOf, AreFirstOfResource};
 
-use crate::ceilings::goes_first;
+use crate::ceilings::{ceiling_seen, goes_first_of};
 use sporadic_model::{ResourceId, TaskId, TaskSet};
 
 /// How long requests of a task that go first last, in ticks. They go first while another task of its processor holds the resource that is
@@ -17,12 +19,19 @@ pub(crate) struct FirstTicks {
     pub(crate) all: u64,
 }
 
-// The requests of `r` by `x`, if they go first while another task of `x`'s processor holds `q`.
-fn first_of_resource(set: &TaskSet, x: TaskId, q: ResourceId, r: ResourceId) -> FirstTicks
-    requires { AreTaskAndTwoResources set.now x.0 r.0 q.0 }
+// The requests of `r` by `x`, if they go first while another task of `x`'s processor holds `q`, whose ceiling that processor sees so.
+fn first_of_resource(
+    set: &TaskSet,
+    x: TaskId,
+    q: ResourceId,
+    ceiling: u32,
+    r: ResourceId,
+) -> FirstTicks
+    requires request { AreTaskAndTwoResources set.now x.0 r.0 q.0 }
+    requires ceiling { ceiling ≡ remote_ceiling_rank set.now q.0 (task_at set.now x.0).processor }
     ensures { AreFirstOfResource set.now x.0 q.0 r.0 result }
 {
-    if goes_first(set, x, r, q) {
+    if goes_first_of(set, x, r, q, ceiling) {
         let length = set.length(x, r);
         FirstTicks {
             longest: length,
@@ -42,10 +51,11 @@ fn first_ticks(set: &TaskSet, x: TaskId, q: ResourceId) -> FirstTicks
     let _resources = set.resources();
     set.keeps_the_model();
     let used = set.used_by(x);
+    let ceiling = ceiling_seen(set, q, set.processor(x));
     let mut longest = 0;
     let mut all = 0;
     for r in used {
-        let some = first_of_resource(set, x, q, *r);
+        let some = first_of_resource(set, x, q, ceiling, *r);
         longest = some.longest.max(longest);
         all += some.all;
     }

@@ -7,12 +7,12 @@ use Rattle.blocking_columns.proofs.KeptNumbers.{any_of_kept}
 use Rattle.closer_mpcp_laws.specs.CloserMpcpRows.{goes_first}
 use Rattle.closer_mpcp.proofs.ceilings.goes_before.Goals as goal
 
-pub returns-then-goes_first : goal.returns-then-goes_first
-returns-then-goes_first c =
+pub returns-then-goes_first_of : goal.returns-then-goes_first_of
+returns-then-goes_first_of c =
     let set = c.args.set.now in
     let used = c.used_by-used.result.now in
     sym (list_any_at (λ (q : ResourceId). goes_first set c.args.x.0 q.0 c.args.r.0) used c.loop-q.q-index _ c.loop-q-test.true
-    (sym c.goes_first.ensures ∙ c.if-goes_first.true))
+    (sym c.goes_first_of.ensures ∙ c.if-goes_first_of.true))
     ∙ any_of_kept (λ (q : ResourceId). q.0) used (λ q. is_user set q c.args.x.0) (λ q. goes_first set c.args.x.0 q c.args.r.0)
     (length set.resources) c.used_by-used.ensures.value
 
