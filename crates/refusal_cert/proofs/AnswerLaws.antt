@@ -19,6 +19,7 @@ use Rattle.refusal_laws.proofs.NothingFits.{nothing_fits}
 use Rattle.response_fixpoint.specs.Rounds.{RunEnd, Valued, TooWide, OutOfUnits, Ending, Schedulable, NotShown, Wide, Allowance}
 use Rattle.response_fixpoint.specs.Rounds.{Found, nothing_found, with_task, Passes, Reaches, EndsIn}
 use Rattle.response_fixpoint.specs.Answers.{TakesRun, Halts, found_of, stop_at}
+use Rattle.response_fixpoint.specs.Taking.{TakesRound}
 use Rattle.response_fixpoint.specs.declared.task_run.TaskRun.{TaskRun}
 use Rattle.response_fixpoint.specs.declared.rounds.Round.{Round}
 use Rattle.response_fixpoint.specs.declared.rounds.RoundStop.{RoundStop}
@@ -29,7 +30,8 @@ use Rattle.response_fixpoint.proofs.RoundLaws.{values_length}
 use Rattle.response_fixpoint.proofs.RunLaws.{CostsFit}
 use Rattle.refusal_cert.specs.Refuting.{PointRuns, refuting}
 use Rattle.refusal_cert.specs.Steps.{step_of, steps_over, round_steps, way_steps, refusal_of}
-use Rattle.refusal_cert.specs.Answers.{Refutes, IsAnswerOf, IsRight, GivesPointRun, HasFound, HaltsLate, GivesRound, answer_at}
+use Rattle.refusal_cert.specs.Answers.{Refutes, IsAnswerOf, IsRight, GivesPointRun, HasFound, HaltsLate, GivesRound, Stands, answer_at}
+use Rattle.refusal_cert.specs.Answers.{answer_of, seen}
 use Rattle.refusal_cert.specs.declared.answer.Answer.{Answer}
 use Rattle.refusal_cert.specs.declared.answer.Answer.TheVariants as answer
 use Rattle.refusal_cert.specs.declared.answer.RefuteStop.{RefuteStop}
@@ -151,12 +153,7 @@ next_in_range f r left earlier steps round h =
       to_latest = λ i here. (point_value f r left h.found h.passed i here).1;
     })
 
--- The state of the rounds: they have come to these bounds, with these units and steps.
-pub record Stands (f : SourceDef) (a spent : ℕ) (bounds : List ℕ) (steps : List StepDef) : Type 0 where
-  pub rounds : ℕ
-  pub way : Reaches (refuting f) a rounds spent bounds
-  pub steps_are : steps ≡ way_steps (refuting f) a rounds spent bounds way
-
+-- Rounds begin so, without steps.
 pub stands_first : (f : SourceDef) (a : ℕ) (bounds : List ℕ) → bounds ≡ map (λ t. t.cost) f.set.tasks → Stands f a 0 bounds []
 stands_first f a bounds first = record { rounds = 0; way = (refl, first); steps_are = refl }
 
@@ -173,6 +170,29 @@ stands_more f a spent used r earlier steps round s h other units =
       way = way;
       steps_are = h.steps_are ∙ ap (λ (xs : List StepDef). xs ++ round_steps r h.found (tasks_of f)) s.steps_are;
     }
+
+-- What a round gives, as the loop of the rounds asks for it.
+pub round_taken : (f : SourceDef) (r : List ℕ) (left : ℕ) (before now : Vec RefusalStep Global) (given : Result Round RoundStop)
+    → GivesRound given f r left (seen before.items) (seen now.items)
+    → TakesRound (λ f a spent q. Stands f a spent q (seen before.items)) (λ f a spent q. Stands f a spent q (seen now.items))
+    (λ f a last. Refutes (answer_of last now) f a) f r left given
+round_taken f r left before now (Ok round) (found, within, least, kept) =
+    let there : (a spent : ℕ) → left ≡ a - spent → HasFound f r (a - spent) (tasks_of f) (seen before.items) (seen now.items) round =
+    λ a spent is. subst (λ (n : ℕ). HasFound f r n (tasks_of f) (seen before.items) (seen now.items) round) is found in
+    record {
+      range = next_in_range f r left (seen before.items) (seen now.items) round found;
+      within = within;
+      least = least;
+      kept = kept;
+      settles = λ a spent is s same.
+          settled_answers f a s.rounds spent r (seen before.items) (seen now.items) round s.way (there a spent is) same;
+      leads = λ a spent is s other.
+          stands_more f a spent (spent + round.used) r (seen before.items) (seen now.items) round s (there a spent is) other refl;
+    }
+round_taken f r left before now (Err stop) given = λ a spent is s.
+    ended_answers f a s.rounds spent r stop now s.way
+    (subst (λ (xs : List StepDef). GivesRound (Err stop) f r (a - spent) xs (seen now.items)) s.steps_are
+    (subst (λ (n : ℕ). GivesRound (Err stop) f r n (seen before.items) (seen now.items)) is given))
 
 -- Rounds end in one way, so the answer is the one of their end, and its steps are those of the refusal.
 refusals_same : (f : SourceDef) (a i v : ℕ) (first : EndsIn (refuting f) a (NotShown i v)) (e : Ending) → NotShown i v ≡ e

@@ -12,7 +12,7 @@ use Rattle.refusal_laws.specs.Steps.{StepDef, Holds}
 use Rattle.refusal_laws.specs.Seen.{step_seen, steps_seen}
 use Rattle.refusal_laws.specs.declared.refusal.RefusalStep.{RefusalStep}
 use Rattle.response_fixpoint.specs.Rounds.{Valued, TooWide, OutOfUnits, Ending, Schedulable, NotShown, Wide, Allowance}
-use Rattle.response_fixpoint.specs.Rounds.{Found, Passes, EndsIn}
+use Rattle.response_fixpoint.specs.Rounds.{Found, Passes, Reaches, EndsIn}
 use Rattle.response_fixpoint.specs.Runs.{rounds_of}
 use Rattle.response_fixpoint.specs.Solutions.{IsSolution, AreKept}
 use Rattle.response_fixpoint.specs.Answers.{Halts}
@@ -21,7 +21,7 @@ use Rattle.response_fixpoint.specs.declared.rounds.Round.{Round}
 use Rattle.response_fixpoint.specs.declared.rounds.RoundStop.{RoundStop}
 use Rattle.response_fixpoint.specs.declared.rounds.RoundStop.TheVariants as round_stop
 use Rattle.refusal_cert.specs.Refuting.{IsWritten, IsUnwritable, GivesPoint, PointRuns, refuting, AreWritable}
-use Rattle.refusal_cert.specs.Steps.{step_of, steps_over, round_steps, refusal_of}
+use Rattle.refusal_cert.specs.Steps.{step_of, steps_over, round_steps, way_steps, refusal_of}
 use Rattle.refusal_cert.specs.declared.answer.Answer.{Answer}
 use Rattle.refusal_cert.specs.declared.answer.Answer.TheVariants as answer
 use Rattle.refusal_cert.specs.declared.answer.RefuteStop.{RefuteStop}
@@ -131,3 +131,14 @@ answer_at (round_stop.NotShown task bound) steps = Ok (answer.Refused (record { 
 answer_at (round_stop.Wide task) steps = Err (stop.Wide task)
 answer_at round_stop.Allowance steps = Err stop.Allowance
 answer_at round_stop.Memory steps = Err stop.Memory
+
+-- The answer where the last round gives this, with the steps up to there.
+abbrev pub answer_of : Result Round RoundStop → Vec RefusalStep Global → Result Answer RefuteStop
+answer_of (Ok round) steps = Ok answer.Schedulable
+answer_of (Err stop) steps = answer_at stop steps
+
+-- Have the rounds come to these bounds, with this many units spent, and are these their steps?
+pub record Stands (f : SourceDef) (a spent : ℕ) (bounds : List ℕ) (steps : List StepDef) : Type 0 where
+  pub rounds : ℕ
+  pub way : Reaches (refuting f) a rounds spent bounds
+  pub steps_are : steps ≡ way_steps (refuting f) a rounds spent bounds way

@@ -1,15 +1,18 @@
 ghost use Rattle.std.specs.Prelude.{◌≡◌, IfOk};
 ghost use Rattle.program_sources.specs.Recurrence.{source_at};
+ghost use Rattle.response_fixpoint.specs.Given.{IsServedAt};
+ghost use Rattle.response_fixpoint.specs.Places.{AreEach};
 ghost use Rattle.response_fixpoint.specs.Rounds.{Ending, EndsIn};
+ghost use Rattle.response_fixpoint.specs.Solutions.{IsPlanned};
 ghost use Rattle.refusal_cert.specs.Refuting.{refuting};
-ghost use Rattle.refusal_cert.specs.Answers.{Refutes, IsAnswerOf, FollowsAnalysis, IsRight, answer_at};
+ghost use Rattle.refusal_cert.specs.Answers.{Refutes, IsAnswerOf, FollowsAnalysis, IsRight, GivesRound, answer_at, seen};
 ghost use Rattle.refusal_cert.specs.Steps.{refusal_of};
 
 use crate::answer::{Answer, RefuteStop};
 use crate::rounds::take_round;
 use program_sources::{ProgramSource, recurrence_is_monotone};
 use refusal_laws::{Refusal, RefusalStep};
-use response_fixpoint::{Round, RoundStop, costs, next_plan};
+use response_fixpoint::{Planned, Round, RoundRecord, RoundStop, costs, take_rounds};
 use sporadic_model::TaskSet;
 use std::alloc::Global;
 
@@ -25,8 +28,28 @@ fn answer_of_stop(stop: RoundStop, steps: Vec<RefusalStep>) -> Result<Answer, Re
     }
 }
 
-/// Takes rounds from the costs on, until one ends or gives the vector that it began with.
-fn take_rounds<P: ProgramSource>(
+/// A refutation records the steps of its rounds.
+#[derive(Drop)]
+struct StepRecord {
+    steps: Vec<RefusalStep>,
+}
+
+impl RoundRecord for StepRecord {
+    ghost use Rattle.refusal_cert.specs.Answers.{Stands, answer_of};
+
+    ghost begins = { λ f r left plan. AreEach (IsPlanned f r left) 0 plan };
+
+    ghost stands = { λ s f allowance spent r. Stands f allowance spent r (seen s.steps.items) };
+
+    ghost ends = { λ s f allowance given. Refutes (answer_of given s.steps) f allowance };
+
+    ghost plans_begin = { λ f r left plan whole. whole.planned };
+
+    ghost memory = { λ s f allowance. tt };
+}
+
+/// What is answered at the end of the rounds from the costs on.
+fn answer_of_rounds<P: ProgramSource>(
     alloc: Global,
     set: &TaskSet,
     protocol: &P,
@@ -35,26 +58,33 @@ fn take_rounds<P: ProgramSource>(
     requires { P.serves protocol.now set.now }
     ensures { Refutes result (source_at (P.source protocol.now) set.now) allowance }
 {
-    let mut bounds = costs(alloc, set)?;
-    // a set has a task, so each round takes a unit, and the rounds end
-    let _tasks = set.tasks();
+    let first = costs(alloc, set)?;
+    let take = |written: &mut StepRecord, bounds: &[u64], left: u64, plan: Vec<Planned>| -> Result<
+        Round,
+        RoundStop,
+    >
+        requires served { IsServedAt (P.serves protocol.now) set.now bounds.now }
+        requires plan { AreEach (IsPlanned (source_at (P.source protocol.now) set.now) bounds.now left) 0 plan.items }
+        ensures { GivesRound result (source_at (P.source protocol.entry.now) set.entry.now) bounds.now left (seen written.old.steps.items)
+            (seen written.new.steps.items) }
+    { take_round(alloc, set, protocol, bounds, left, plan, &mut written.steps) };
+    let mut written = StepRecord {
+        steps: Vec::new(alloc),
+    };
     // the first round forms the programs, in their places
-    let mut plan = Vec::new(alloc);
-    let mut steps = Vec::new(alloc);
-    let mut spent = 0;
-    loop {
-        let left = allowance - spent;
-        let next = match take_round(alloc, set, protocol, &bounds, left, plan, &mut steps) {
-            Ok(next) => next,
-            Err(stop) => return answer_of_stop(stop, steps),
-        };
-        let Round { used, values, kept } = next;
-        if values == bounds {
-            return Ok(Answer::Schedulable);
-        }
-        plan = next_plan(alloc, set, protocol, &bounds, &values, kept)?;
-        bounds = values;
-        spent += used;
+    let none = Vec::new(alloc);
+    match take_rounds(
+        alloc,
+        set,
+        protocol,
+        allowance,
+        &mut written,
+        &take,
+        first,
+        none,
+    ) {
+        Ok(_) => Ok(Answer::Schedulable),
+        Err(stop) => answer_of_stop(stop, written.steps),
     }
 }
 
@@ -92,5 +122,5 @@ pub fn refute<P: ProgramSource>(
     // the costs of a set are within its latest bounds
     let _tasks = set.tasks();
     recurrence_is_monotone::<P>();
-    take_rounds(alloc, set, protocol, allowance)
+    answer_of_rounds(alloc, set, protocol, allowance)
 }

@@ -15,6 +15,7 @@ use Rattle.response_fixpoint.specs.Rounds.{Allowance, Found, with_task, RoundsOf
 use Rattle.response_fixpoint.specs.Runs.{TaskRuns, rounds_of, HasNoColumns, slack_of}
 use Rattle.response_fixpoint.specs.Answers.{Answers, IsAnswerOf, IsRight, IsSchedulable, GivesRun, TakesRun, Halts}
 use Rattle.response_fixpoint.specs.Answers.{GivesRound, IsSettled, found_of, answer_at, stop_at}
+use Rattle.response_fixpoint.specs.Taking.{TakesRound, IsReached, EndsWith}
 use Rattle.response_fixpoint.specs.declared.verdict.Verdict.{Verdict}
 use Rattle.response_fixpoint.specs.declared.verdict.Verdict.TheVariants as verdict
 use Rattle.response_fixpoint.specs.declared.verdict.Stop.{Stop}
@@ -186,3 +187,22 @@ pub reaches_more : (f : SourceDef) (allowance k spent used : ℕ) (r : List ℕ)
     → (j : ℕ) × Reaches (rounds_of f) allowance j used found.values
 reaches_more f allowance k spent used r found reached passed other units =
     (suc k, (spent, r, found, reached, passed, refl, other, units))
+
+-- What a round gives, as the loop of the rounds asks for it.
+pub round_taken : (f : SourceDef) (r : List ℕ) (left : ℕ) (given : Result Round RoundStop) → GivesRound given f r left
+    → TakesRound IsReached IsReached EndsWith f r left given
+round_taken f r left (Ok round) (passed, within, least, kept) =
+    let there : (allowance spent : ℕ) → left ≡ allowance - spent → Passes (rounds_of f) r (allowance - spent) (tasks_of f) (found_of round) =
+    λ allowance spent is. subst (λ (n : ℕ). Passes (rounds_of f) r n (tasks_of f) (found_of round)) is passed in
+    record {
+      range = next_in_range f r left (found_of round) passed;
+      within = within;
+      least = least;
+      kept = kept;
+      settles = λ allowance spent is way same.
+          settled_ends (rounds_of f) allowance way.0 spent r (found_of round) way.1 (there allowance spent is) same;
+      leads = λ allowance spent is way other.
+          reaches_more f allowance way.0 spent (spent + round.used) r (found_of round) way.1 (there allowance spent is) other refl;
+    }
+round_taken f r left (Err stop) given = λ allowance spent is way.
+    ended_answers f allowance way.0 spent r stop way.1 (subst (λ (n : ℕ). GivesRound (Err stop) f r n) is given)

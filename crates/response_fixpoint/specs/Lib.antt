@@ -5,4 +5,5 @@ pub mod Sharing
 pub mod Solutions
 pub mod Given
 pub mod Answers
+pub mod Taking
 pub mod Worked

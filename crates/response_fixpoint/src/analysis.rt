@@ -7,12 +7,14 @@ ghost use Rattle.program_sources.specs.Recurrence.{source_at};
 ghost use Rattle.program_laws.specs.Programs.{source_of};
 ghost use Rattle.response_fixpoint.specs.Rounds.{Ending, EndsIn};
 ghost use Rattle.response_fixpoint.specs.Runs.{rounds_of, slack_of, HasNoColumns, RequestsNothing};
-ghost use Rattle.response_fixpoint.specs.Answers.{Answers, IsAnswerOf, IsRight, IsSchedulable, IsSettled, answer_at};
+ghost use Rattle.response_fixpoint.specs.Given.{BeginsRound};
+ghost use Rattle.response_fixpoint.specs.Answers.{Answers, GivesRound, IsAnswerOf, IsRight, IsSchedulable, IsSettled, answer_at};
 
 use crate::beginning::first_plan;
 use crate::laws::no_requests_no_columns;
-use crate::plan::{Kept, next_plan};
+use crate::plan::{Kept, Planned};
 use crate::rounds::{Round, RoundStop, take_round};
+use crate::taking::{RoundRecord, take_rounds};
 use crate::task_run::Solution;
 use crate::verdict::{Stop, Verdict};
 use program_form::{Certificate, Dual};
@@ -67,8 +69,27 @@ fn verdict_at_fixpoint(alloc: Global, bounds: Vec<u64>, kept: Vec<Kept>) -> Resu
     Ok(Verdict::Schedulable(Certificate { bounds, duals }))
 }
 
-/// Takes rounds from the costs on, until one ends or gives the vector that it began with.
-fn take_rounds<R: Threads + Sync, P: ProgramSource + Sync>(
+/// An analysis records nothing of its rounds.
+#[derive(Drop)]
+struct NoRecord;
+
+impl RoundRecord for NoRecord {
+    ghost use Rattle.response_fixpoint.specs.Solutions.{IsPlan};
+    ghost use Rattle.response_fixpoint.specs.Taking.{IsReached, EndsWith};
+
+    ghost begins = { IsPlan };
+
+    ghost stands = { λ none. IsReached };
+
+    ghost ends = { λ none. EndsWith };
+
+    ghost plans_begin = { λ f r left plan whole. whole };
+
+    ghost memory = { λ none f allowance. tt };
+}
+
+/// The verdict at the end of the rounds from the costs on.
+fn verdict_of_rounds<R: Threads + Sync, P: ProgramSource + Sync>(
     rt: &R,
     alloc: Global,
     set: &TaskSet,
@@ -78,24 +99,21 @@ fn take_rounds<R: Threads + Sync, P: ProgramSource + Sync>(
     requires { P.serves protocol.now set.now }
     ensures { Answers result (source_at (P.source protocol.now) set.now) allowance }
 {
-    let mut bounds = costs(alloc, set)?;
-    // a set has a task, so each round takes a unit, and the rounds end
-    let _tasks = set.tasks();
-    let mut plan = first_plan(rt, alloc, set, protocol, &bounds, allowance)?;
-    let mut spent = 0;
-    loop {
-        let left = allowance - spent;
-        let next = match take_round(rt, alloc, set, protocol, &bounds, left, plan) {
-            Ok(next) => next,
-            Err(stop) => return verdict_of_stop(stop),
-        };
-        let Round { used, values, kept } = next;
-        if values == bounds {
-            return verdict_at_fixpoint(alloc, values, kept);
-        }
-        plan = next_plan(alloc, set, protocol, &bounds, &values, kept)?;
-        bounds = values;
-        spent += used;
+    let first = costs(alloc, set)?;
+    let begun = first_plan(rt, alloc, set, protocol, &first, allowance)?;
+    let take = |_none: &mut NoRecord, bounds: &[u64], left: u64, plan: Vec<Planned>| -> Result<
+        Round,
+        RoundStop,
+    >
+        requires { BeginsRound (P.serves protocol.now) (source_at (P.source protocol.now) set.now) bounds.now left plan.items }
+        ensures { GivesRound result (source_at (P.source protocol.entry.now) set.entry.now) bounds.now left }
+    { take_round(rt, alloc, set, protocol, bounds, left, plan) };
+    let mut none = NoRecord;
+    match take_rounds(
+        alloc, set, protocol, allowance, &mut none, &take, first, begun,
+    ) {
+        Ok(Round { values, kept, .. }) => verdict_at_fixpoint(alloc, values, kept),
+        Err(stop) => verdict_of_stop(stop),
     }
 }
 
@@ -141,7 +159,7 @@ pub fn analyse_with<R: Threads + Sync, P: ProgramSource + Sync>(
     // the costs of a set are within its latest bounds
     let _tasks = set.tasks();
     recurrence_is_monotone::<P>();
-    take_rounds(rt, alloc, set, protocol, allowance)
+    verdict_of_rounds(rt, alloc, set, protocol, allowance)
 }
 
 /// The same over the programs of the protocol. Under DPCP each resource has a home.

@@ -13,6 +13,7 @@ mod places;
 mod plan;
 mod rounds;
 mod sharing;
+mod taking;
 mod task_run;
 mod verdict;
 
@@ -26,5 +27,6 @@ pub use places::{Placed, in_places};
 pub use plan::{Kept, Planned, next_plan};
 pub use rounds::{Round, RoundStop, round_stop, take_run};
 pub use sharing::{Share, first_threads, is_in};
+pub use taking::{RoundRecord, take_rounds};
 pub use task_run::{Solution, TaskRun, run_task};
 pub use verdict::{Stop, Verdict};
