@@ -4,3 +4,4 @@ mod ListedSums
 mod NoIndirect
 mod OnProcessors
 mod Pushed
+mod SteadyJobs

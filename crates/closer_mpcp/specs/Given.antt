@@ -54,6 +54,11 @@ pub record AreTwoBounds (set : SetDef) (r bounds : List ℕ) : Type 0 where
   pub earlier : AreWithinDeadlines set r
   pub within : AreWithinDeadlines set bounds
 
+-- Is x a task of the set, with such bounds?
+pub record IsTaskAtTwoBounds (set : SetDef) (r bounds : List ℕ) (x : ℕ) : Type 0 where
+  pub task : x < length set.tasks
+  pub both : AreTwoBounds set r bounds
+
 -- Is what happens in a span counted with such bounds, where it is at most the longest deadline of any set?
 pub record AreInSpan (set : SetDef) (bounds : List ℕ) (ticks : ℕ) : Type 0 where
   pub within : AreWithinDeadlines set bounds

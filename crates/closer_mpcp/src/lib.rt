@@ -13,6 +13,7 @@ mod programs;
 mod protocol;
 mod rows;
 mod searching;
+mod steady;
 mod sums;
 mod ticks;
 mod wait_rows;
