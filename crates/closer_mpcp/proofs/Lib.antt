@@ -1,6 +1,7 @@
 pub mod FewColumns
 mod FirstUsed
 mod ListedSums
+mod LowerUsers
 mod NoIndirect
 mod OnProcessors
 mod Pushed

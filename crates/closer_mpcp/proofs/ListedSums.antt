@@ -51,16 +51,16 @@ made_by i at f ys = sum_by (λ (y : TaskId). only_if (nat_lt y.0 i && at y.0) (f
 
 -- If no other task makes anything, the users of r make what all higher tasks make that pass.
 higher_users : (set : SetDef) (i r : ℕ) (at : ℕ → Bool) (f : ℕ → ℕ) (ys : List TaskId)
-    → map (λ (y : TaskId). y.0) ys ≡ users_of set r → i < length set.tasks → ((y : ℕ) → is_user set r y ≡ false → f y ≡ 0)
+    → map (λ (y : TaskId). y.0) ys ≡ users_of set r → i ≤ length set.tasks → ((y : ℕ) → is_user set r y ≡ false → f y ≡ 0)
     → made_by i at f ys ≡ sum_below i (λ y. only_if (at y) (f y))
 higher_users set i r at f ys same here none =
     sum_where_kept (λ (y : TaskId). y.0) ys (is_user set r) (λ y. only_if (nat_lt y i && at y) (f y)) (length set.tasks) same
     (λ y unused. ap (only_if (nat_lt y i && at y)) (none y unused) ∙ only_if-nothing (nat_lt y i && at y))
-    ∙ sum_of_higher i (length set.tasks) at f (omega (arith, here))
+    ∙ sum_of_higher i (length set.tasks) at f here
 
 -- So much is the total behind the last of them.
 pub all_users : (set : SetDef) (i r : ℕ) (at : ℕ → Bool) (f : ℕ → ℕ) (ys : List TaskId) (k total : ℕ)
-    → map (λ (y : TaskId). y.0) ys ≡ users_of set r → i < length set.tasks → ((y : ℕ) → is_user set r y ≡ false → f y ≡ 0)
+    → map (λ (y : TaskId). y.0) ys ≡ users_of set r → i ≤ length set.tasks → ((y : ℕ) → is_user set r y ≡ false → f y ≡ 0)
     → length ys ≤ k → total + made_by i at f (drop k ys) ≡ made_by i at f ys → total ≡ sum_below i (λ y. only_if (at y) (f y))
 all_users set i r at f ys k total same here none past sums =
     let whole : total + made_by i at f [] ≡ made_by i at f ys = rw (drop_all k ys past) at sums in
@@ -68,7 +68,7 @@ all_users set i r at f ys k total same here none past sums =
 
 -- The same where all higher ones pass.
 pub all_higher_users : (set : SetDef) (i r : ℕ) (f : ℕ → ℕ) (ys : List TaskId) (k total : ℕ)
-    → map (λ (y : TaskId). y.0) ys ≡ users_of set r → i < length set.tasks → ((y : ℕ) → is_user set r y ≡ false → f y ≡ 0)
+    → map (λ (y : TaskId). y.0) ys ≡ users_of set r → i ≤ length set.tasks → ((y : ℕ) → is_user set r y ≡ false → f y ≡ 0)
     → length ys ≤ k → total + sum_by (λ (y : TaskId). only_if (nat_lt y.0 i) (f y.0)) (drop k ys)
     ≡ sum_by (λ (y : TaskId). only_if (nat_lt y.0 i) (f y.0)) ys → total ≡ sum_below i f
 all_higher_users set i r f ys k total same here none past sums =

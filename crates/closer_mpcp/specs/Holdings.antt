@@ -18,11 +18,6 @@ abbrev pub passes : SetDef → ℕ → Option ResourceId → ℕ → Bool
 passes set x None r = goes_before set x r
 passes set x (Some q) r = goes_first set x q.0 r
 
--- Is y at this place of x, as far as i's processor isn't asked for?
-abbrev pub is_at : Place → SetDef → ℕ → ℕ → Bool
-is_at place.Beside set x y = is_beside set x y
-is_at place.Away set x y = is_away set x y
-
 -- Is a lower task y?
 abbrev pub is_lower_at : Place → SetDef → ℕ → ℕ → ℕ → Bool
 is_lower_at place.Beside set i x y = is_beside set x y

@@ -11,7 +11,7 @@ use Rattle.mpcp_window_laws.specs.WaitRows.{requests_in_waits}
 use Rattle.shared_requests.specs.Held.{AreSharedOut}
 use Rattle.closer_mpcp.specs.Given.{AreRequestsIn}
 use Rattle.closer_mpcp.specs.Holdings.{held_beside}
-use Rattle.closer_mpcp.specs.Sums.{made_on, AreSumsOf, AreSumsOfUsed}
+use Rattle.closer_mpcp.specs.Sums.{made_on, AreSumsOf, AreSumsOfUsed, AreLowerSums}
 use Rattle.closer_mpcp.specs.declared.first_ticks.FirstTicks.{FirstTicks}
 use Rattle.closer_mpcp.specs.declared.lower_holders.OtherHolders.{OtherHolders}
 use Rattle.closer_mpcp.specs.declared.sums.Sums.{Sums}
@@ -83,10 +83,12 @@ AreInBound set bounds i r s = AreSumsOf set i (λ y. requests_in set bounds i y 
 abbrev pub AreInBoundEach : SetDef → (ℕ → ℕ) → ℕ → List Sums → Type 0
 AreInBoundEach set bounds i tables = AreSumsOfUsed set i (λ r y. requests_in set bounds i y r) tables
 
--- Does s say of each resource whether it is shared out, and do the tables say how many requests higher tasks can make so?
-pub record AreAwayTables (set : SetDef) (bounds : List ℕ) (i : ℕ) (s : List Bool) (tables : List Sums) : Type 0 where
+-- Does s say of each resource whether it is shared out, do the tables say how many requests higher tasks can make so, and l which lower tasks
+-- make some?
+pub record AreAwayTables (set : SetDef) (bounds : List ℕ) (i : ℕ) (s : List Bool) (tables l : List Sums) : Type 0 where
   pub shared : AreSharedOut set i s
   pub sums : AreInBoundEach set (slice_index bounds) i tables
+  pub lower : AreLowerSums set i l
 
 -- How many requests of r can be held beside x while i waits for them, if r is shared out?
 abbrev pub shared_beside : SetDef → (ℕ → ℕ) → ℕ → ℕ → ℕ → ℕ

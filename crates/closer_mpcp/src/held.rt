@@ -5,6 +5,7 @@ ghost use Rattle.shared_requests.specs.Held.{AreSharedOut};
 ghost use Rattle.closer_mpcp.specs.Amounts.{IsAmount};
 ghost use Rattle.closer_mpcp.specs.Given.{AreTwoTasks, AreTwoTasksAndResource, AreSharedWaitsAt};
 ghost use Rattle.closer_mpcp.specs.Holdings.{held_beside};
+ghost use Rattle.closer_mpcp.specs.Sums.{AreLowerSumsOf, AreLowerSums};
 ghost use Rattle.closer_mpcp.specs.Tables.{AreInWaits, AreInWaitsEach, shared_beside, AreHeldBeside, AreHeldBesideEach};
 
 use crate::holdings::lower_held;
@@ -32,16 +33,18 @@ fn held_beside(
     r: ResourceId,
     bounds: &[u64],
     sums: &Sums,
+    lower: &Sums,
 ) -> u64
     requires request { AreTwoTasksAndResource set.now i.0 x.0 r.0 }
     requires sums { AreInWaits set.now (slice_index bounds.now) i.0 r.0 sums.now }
+    requires lower { AreLowerSumsOf set.now (i.0) r.0 lower.now }
     ensures { IsAmount result (held_beside set.now (slice_index bounds.now) i.0 x.0 r.0) 128000000001000 }
 {
     let higher = beside(set, sums, x);
     if share_processor(set, x, i) {
         higher
     } else {
-        higher + lower_held(set, Place::Beside, i, x, r)
+        higher + lower_held(set, Place::Beside, i, x, r, lower)
     }
 }
 
@@ -54,14 +57,16 @@ fn shared_beside(
     shared: &[bool],
     bounds: &[u64],
     sums: &Sums,
+    lower: &Sums,
 ) -> u64
     requires request { AreTwoTasksAndResource set.now i.0 x.0 r.0 }
     requires shared { AreSharedOut set.now i.0 shared.now }
     requires sums { AreInWaits set.now (slice_index bounds.now) i.0 r.0 sums.now }
+    requires lower { AreLowerSumsOf set.now (i.0) r.0 lower.now }
     ensures { IsAmount result (shared_beside set.now (slice_index bounds.now) i.0 x.0 r.0) 128000000001000 }
 {
     if shared[r.0 as usize] {
-        held_beside(set, i, x, r, bounds, sums)
+        held_beside(set, i, x, r, bounds, sums, lower)
     } else {
         0
     }
@@ -75,10 +80,12 @@ fn held_beside_task(
     shared: &[bool],
     bounds: &[u64],
     sums: &[Sums],
+    lower: &[Sums],
 ) -> [u64; 32]
     requires tasks { AreTwoTasks set.now i.0 x.0 }
     requires shared { AreSharedOut set.now i.0 shared.now }
     requires sums { AreInWaitsEach set.now (slice_index bounds.now) i.0 sums.now }
+    requires lower { AreLowerSums set.now i.0 lower.now }
     ensures { AreHeldBeside set.now (slice_index bounds.now) i.0 x.0 result }
 {
     // a set has at most 32 resources
@@ -86,7 +93,7 @@ fn held_beside_task(
     let used = set.used_by(i);
     let mut held = [0u64; 32];
     for k in 0..used.len() {
-        held[k] = shared_beside(set, i, x, used[k], shared, bounds, &sums[k]);
+        held[k] = shared_beside(set, i, x, used[k], shared, bounds, &sums[k], &lower[k]);
     }
     held
 }
@@ -99,15 +106,17 @@ pub(crate) fn held_beside_each(
     shared: &[bool],
     bounds: &[u64],
     windows: &[Option<u64>],
+    lower: &[Sums],
 ) -> Result<HeldBesideTasks, AllocError>
-    requires { AreSharedWaitsAt set.now bounds.now i.0 shared.now windows.now }
+    requires waits { AreSharedWaitsAt set.now bounds.now i.0 shared.now windows.now }
+    requires lower { AreLowerSums set.now i.0 lower.now }
     ensures { IfOk result (λ v. AreHeldBesideEach set.now (slice_index bounds.now) i.0 v.requests.items) }
 {
     let in_waits = InWaits { i, bounds, windows };
     let sums = sums_of_used(alloc, set, &in_waits, i)?;
     let mut requests = Vec::with_capacity(alloc, set.tasks() as usize)?;
     for x in 0..set.tasks() {
-        requests.push(held_beside_task(set, i, TaskId(x), shared, bounds, &sums))?;
+        requests.push(held_beside_task(set, i, TaskId(x), shared, bounds, &sums, lower))?;
     }
     Ok(HeldBesideTasks { requests })
 }

@@ -1,57 +1,68 @@
 //! How many requests that the analysed task waits for can be held beside another task, and away from it.
 
-ghost use Rattle.std.specs.Prelude.{◌≡◌, ◌<◌, ◌&&◌, nat_lt, length, slice_index, IfSome, IfOk};
+ghost use Rattle.std.specs.Prelude.{◌≡◌, ◌<◌, length, slice_index, IfSome, IfOk};
 ghost use Rattle.number_laws.specs.Sums.{only_if};
 ghost use Rattle.closer_laws.specs.CloserRows.{is_held_there};
 ghost use Rattle.closer_mpcp_laws.specs.CloserMpcpRows.{shared_holdings, away_row};
 ghost use Rattle.shared_requests.specs.Held.{AreSharedOut};
 ghost use Rattle.closer_mpcp.specs.Amounts.{IsAmount};
 ghost use Rattle.closer_mpcp.specs.Given.{AreTwoTasks, AreTaskAndNamed, AreTwoTasksAndResource, IsTaskAt};
-ghost use Rattle.closer_mpcp.specs.Holdings.{passes, holdings_in_waits, is_lower_at, has_lower, lower_held, run_of};
+ghost use Rattle.closer_mpcp.specs.Holdings.{passes, holdings_in_waits, has_lower, lower_held, run_of};
+ghost use Rattle.closer_mpcp.specs.Sums.{made_away_from_both, AreLowerSumsOf};
 ghost use Rattle.closer_mpcp.specs.Tables.{AreHeldBesideEach, AreInBound, AreInBoundEach, AreAwayTables};
 
 use crate::ceilings::passes;
 use crate::held::HeldBesideTasks;
-use crate::places::{Place, is_at};
-use crate::sums::{Sums, away, sums_of_used};
+use crate::places::Place;
+use crate::sums::{Sums, away, beside, sums_of_used};
 use crate::ticks::InSpan;
+use fragments::share_processor;
 use shared_requests::{Holders, has_holder};
 use sporadic_model::{ResourceId, TaskId, TaskSet};
 use std::alloc::{AllocError, Global};
 
-// Is `y` a lower task than `i` at this place of `x`?
-fn is_lower_at(set: &TaskSet, place: Place, i: TaskId, x: TaskId, y: TaskId) -> bool
-    requires task { i.0 < length set.now.tasks }
-    requires others { AreTwoTasks set.now x.0 y.0 }
-    ensures { result ≡ (nat_lt i.0 y.0 && is_lower_at place set.now i.0 x.0 y.0) }
+// How many requests does one job of each lower task than `i` make on other processors than `x`'s and `i`'s?
+fn lower_away(set: &TaskSet, i: TaskId, x: TaskId, r: ResourceId, lower: &Sums) -> u64
+    requires request { AreTwoTasksAndResource set.now i.0 x.0 r.0 }
+    requires lower { AreLowerSumsOf set.now (i.0) r.0 lower.now }
+    ensures { result ≡ made_away_from_both set.now (slice_index lower.now.own) i.0 x.0 }
 {
-    let lower = i < y;
-    match place {
-        Place::Beside => lower && is_at(set, Place::Beside, x, y),
-        Place::Away => lower && is_at(set, Place::Away, x, y) && is_at(set, Place::Away, i, y),
+    // a set has at most 64 processors
+    let _tasks = set.tasks();
+    let elsewhere = away(set, lower, x);
+    if share_processor(set, x, i) {
+        elsewhere
+    } else {
+        elsewhere - lower.on[set.processor(i) as usize]
     }
 }
 
-// Is there one that uses `r`?
-fn has_lower(set: &TaskSet, place: Place, i: TaskId, x: TaskId, r: ResourceId) -> bool
-    requires { AreTwoTasksAndResource set.now i.0 x.0 r.0 }
+// May a lower task than `i` at this place of `x` hold `r`?
+fn has_lower(set: &TaskSet, place: Place, i: TaskId, x: TaskId, r: ResourceId, lower: &Sums) -> bool
+    requires request { AreTwoTasksAndResource set.now i.0 x.0 r.0 }
+    requires lower { AreLowerSumsOf set.now (i.0) r.0 lower.now }
     ensures { result ≡ has_lower place set.now i.0 x.0 r.0 }
 {
-    let users = set.users(r);
-    for y in users {
-        if is_lower_at(set, place, i, x, *y) {
-            return true;
-        }
+    match place {
+        Place::Beside => beside(set, lower, x) > 0,
+        Place::Away => lower_away(set, i, x, r, lower) > 0,
     }
-    false
 }
 
 /// How many requests of `r` can lower tasks than `i` at this place of `x` hold while a job of `i` waits for them?
-pub(crate) fn lower_held(set: &TaskSet, place: Place, i: TaskId, x: TaskId, r: ResourceId) -> u64
-    requires { AreTwoTasksAndResource set.now i.0 x.0 r.0 }
+pub(crate) fn lower_held(
+    set: &TaskSet,
+    place: Place,
+    i: TaskId,
+    x: TaskId,
+    r: ResourceId,
+    lower: &Sums,
+) -> u64
+    requires request { AreTwoTasksAndResource set.now i.0 x.0 r.0 }
+    requires lower { AreLowerSumsOf set.now (i.0) r.0 lower.now }
     ensures { IsAmount result (lower_held place set.now i.0 x.0 r.0) 1000 }
 {
-    if has_lower(set, place, i, x, r) {
+    if has_lower(set, place, i, x, r, lower) {
         set.count(i, r)
     } else {
         0
@@ -137,16 +148,18 @@ fn run_of(
     r: ResourceId,
     shared: &[bool],
     sums: &Sums,
+    lower: &Sums,
     bounds: &[u64],
 ) -> u64
     requires request { AreTwoTasksAndResource set.now i.0 x.0 r.0 }
     requires shared { AreSharedOut set.now i.0 shared.now }
     requires sums { AreInBound set.now (slice_index bounds.now) i.0 r.0 sums.now }
+    requires lower { AreLowerSumsOf set.now (i.0) r.0 lower.now }
     ensures { IsAmount result (run_of set.now (slice_index bounds.now) i.0 x.0 r.0) 128000000002000 }
 {
     if is_held_there(set, i, x, r, shared) {
         let higher = away(set, sums, x);
-        set.count(i, r) + (higher + lower_held(set, Place::Away, i, x, r))
+        set.count(i, r) + (higher + lower_held(set, Place::Away, i, x, r, lower))
     } else {
         0
     }
@@ -160,10 +173,11 @@ pub(crate) fn run_beside_away_holdings(
     x: TaskId,
     shared: &[bool],
     sums: &[Sums],
+    lower: &[Sums],
     bounds: &[u64],
 ) -> u64
     requires tasks { AreTwoTasks set.now i.0 x.0 }
-    requires tables { AreAwayTables set.now bounds.now i.0 shared.now sums.now }
+    requires tables { AreAwayTables set.now bounds.now i.0 shared.now sums.now lower.now }
     ensures { result ≡ (away_row set.now i.0 x.0).limit (slice_index bounds.now) }
 {
     // a set has at most 32 resources, so the sum fits
@@ -171,7 +185,7 @@ pub(crate) fn run_beside_away_holdings(
     let used = set.used_by(i);
     let mut total = 0;
     for k in 0..used.len() {
-        total += run_of(set, i, x, used[k], shared, &sums[k], bounds);
+        total += run_of(set, i, x, used[k], shared, &sums[k], &lower[k], bounds);
     }
     total
 }

@@ -7,6 +7,7 @@ mod held;
 mod holdings;
 mod keeping;
 mod laws;
+mod lower;
 mod lower_holders;
 mod places;
 mod programs;

@@ -18,6 +18,7 @@ ghost use Rattle.closer_mpcp.specs.Tables.{AreHeldBesideEach, AreAwayTables};
 
 use crate::held::{HeldBesideTasks, held_beside_each};
 use crate::holdings::{run_beside_away_holdings, shared_holdings, sums_in_bound};
+use crate::lower::lower_sums_of_used;
 use crate::sums::Sums;
 use crate::wait_rows::add_wait_rows;
 use crate::windows::wait_windows;
@@ -168,12 +169,14 @@ struct AwayRow<'a> {
     shared: &'a [bool],
     /// How many requests higher tasks make, of each resource that the analysed task requests.
     sums: &'a [Sums],
+    /// And one job of each lower task.
+    lower: &'a [Sums],
 }
 
 impl<'a> TaskRow for AwayRow<'a> {
     ghost row_of = { λ k. away_row };
 
-    ghost fits = { λ k set i bounds. AreAwayTables set bounds i k.shared.now k.sums.now };
+    ghost fits = { λ k set i bounds. AreAwayTables set bounds i k.shared.now k.sums.now k.lower.now };
 
     ghost alone = { λ k set i x c other. ap (λ b. flag (b && not (is_class Preemption c.class))) other };
 
@@ -182,7 +185,7 @@ impl<'a> TaskRow for AwayRow<'a> {
     }
 
     fn limit(&self, set: &TaskSet, i: TaskId, x: TaskId, _jobs: u64, bounds: &[u64]) -> u64 {
-        run_beside_away_holdings(set, i, x, self.shared, self.sums, bounds)
+        run_beside_away_holdings(set, i, x, self.shared, self.sums, self.lower, bounds)
     }
 }
 
@@ -360,12 +363,14 @@ fn add_further_rows<T: RowTaker>(
 {
     let shared = shared_out(alloc, set, i)?;
     let intervals = 1 + requests_shared_out(set, i, &shared);
-    let held = held_beside_each(alloc, set, i, &shared, bounds, windows)?;
+    let lower = lower_sums_of_used(alloc, set, i)?;
+    let held = held_beside_each(alloc, set, i, &shared, bounds, windows, &lower)?;
     add_holding_rows(alloc, taker, set, i, bounds, columns, places, &held)?;
     let sums = sums_in_bound(alloc, set, i, bounds)?;
     let of_away = EachTask(AwayRow {
         shared: &shared,
         sums: &sums,
+        lower: &lower,
     });
     add_per_task(alloc, taker, &of_away, set, i, bounds, columns, places)?;
     add_interval_rows(alloc, taker, set, i, bounds, columns, places, intervals)?;

@@ -1,7 +1,7 @@
 //! How many requests the higher users of a resource make, summed by processor. What others make on a task's processor is then the sum there
 //! less what the task makes itself.
 
-ghost use Rattle.std.specs.Prelude.{◌≡◌, ℕ, ◌<◌, false, nat_lt, length, slice_index, IfOk};
+ghost use Rattle.std.specs.Prelude.{◌≡◌, ℕ, ◌<◌, ◌≤◌, false, nat_lt, length, slice_index, IfOk};
 ghost use Rattle.number_laws.specs.Sums.{only_if};
 ghost use Rattle.sporadic_model.specs.SetDef.{SetDef};
 ghost use Rattle.sporadic_model.specs.Users.{is_user};
@@ -50,10 +50,11 @@ fn of_higher<R: Requests>(set: &TaskSet, requests: &R, i: TaskId, r: ResourceId,
     if y < i { requests.number(set, r, y) } else { 0 }
 }
 
-/// The sums of those of `r`.
+/// The sums of those of `r` by tasks that are higher than `i`, which may be the number behind all tasks.
 pub(crate) fn sums_of<R: Requests>(set: &TaskSet, requests: &R, i: TaskId, r: ResourceId) -> Sums
     requires fits { R.fits requests.now set.now }
-    requires request { AreTaskAndResource set.now i.0 r.0 }
+    requires limit { i.0 ≤ length set.now.tasks }
+    requires resource { r.0 < length set.now.resources }
     ensures { AreSumsOf set.now i.0 (R.made requests.now set.now r.0) result }
 {
     // a set has at most 64 tasks, so each sum fits, and at most 64 processors, which are counted from 1

@@ -110,7 +110,7 @@ returns g c =
     let f : ℕ → ℕ = g.R.Requests.made c.args.requests.now set r in
     let past : length users ≤ c.loop-y.y-index = omega (arith, c.loop-y-test.false) in
     let own : (y : ℕ) → y < length set.tasks → slice_index c.loop-y.own y ≡ only_if (nat_lt y i) (f y) = λ y l.
-    all_users set i r (λ z. z == y) f users c.loop-y.y-index (slice_index c.loop-y.own y) c.users-users.ensures.value c.requires.request.task
+    all_users set i r (λ z. z == y) f users c.loop-y.y-index (slice_index c.loop-y.own y) c.users-users.ensures.value c.requires.limit
     (g.met.R.Requests.none c.args.requests.now set r) past
     (c.loop-y.invariant.own y (omega (arith, l, c.tasks-tasks.ensures.value, c.tasks-tasks.ensures.most)))
     ∙ own_term i y f in
@@ -119,9 +119,9 @@ returns g c =
         tasks = c.loop-y.invariant.tasks;
         processors = c.loop-y.invariant.processors;
         sum = λ k l. all_users set i r (λ z. (task_at set z).processor == k) f users c.loop-y.y-index (slice_index c.loop-y.on k)
-            c.users-users.ensures.value c.requires.request.task (g.met.R.Requests.none c.args.requests.now set r) past (c.loop-y.invariant.on k l)
+            c.users-users.ensures.value c.requires.limit (g.met.R.Requests.none c.args.requests.now set r) past (c.loop-y.invariant.on k l)
             ∙ sym (sum_of_own (length set.tasks) i (λ z. (task_at set z).processor == k) f (slice_index c.loop-y.own)
-            (omega (arith, c.requires.request.task)) own);
+            c.requires.limit own);
         small = λ k l. omega (
           arith,
           users_few set r users c.users-users.ensures.value,
@@ -138,9 +138,9 @@ returns g c =
           c.tasks-tasks.ensures.most,
           c.loop-y.invariant.own_most y l,
         );
-        all = all_higher_users set i r f users c.loop-y.y-index c.loop-y.all c.users-users.ensures.value c.requires.request.task
+        all = all_higher_users set i r f users c.loop-y.y-index c.loop-y.all c.users-users.ensures.value c.requires.limit
             (g.met.R.Requests.none c.args.requests.now set r) past c.loop-y.invariant.all
-            ∙ sym (sum_of_own (length set.tasks) i (λ z. true) f (slice_index c.loop-y.own) (omega (arith, c.requires.request.task)) own);
+            ∙ sym (sum_of_own (length set.tasks) i (λ z. true) f (slice_index c.loop-y.own) c.requires.limit own);
         all_small = omega (
           arith,
           users_few set r users c.users-users.ensures.value,

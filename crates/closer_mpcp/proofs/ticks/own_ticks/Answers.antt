@@ -25,7 +25,7 @@ returns c =
     let few = users_few c.args.set.now c.args.q.0 c.users-users.result.now c.users-users.ensures.value in
     record {
       value = all_higher_users set c.args.i.0 q (own_ticks set bounds q c.args.span) c.users-users.result.now c.loop-x.x-index c.loop-x.total
-          c.users-users.ensures.value c.requires.request.task (λ y unused. none_own set bounds q c.args.span y unused) (omega (arith, c.loop-x-test.false))
+          c.users-users.ensures.value (omega (arith, c.requires.request.task)) (λ y unused. none_own set bounds q c.args.span y unused) (omega (arith, c.loop-x-test.false))
           c.loop-x.invariant.value;
       most = omega (
         arith,
