@@ -35,6 +35,32 @@ pub trait RoundRecord {
     ghost memory: { (t : Self) (f : SourceDef) (allowance : ℕ) → ends t f allowance (Err Memory) };
 }
 
+/// One round at these bounds, as `take` takes and records it.
+fn next_round<
+    P: ProgramSource,
+    S: RoundRecord,
+    F: Fn(&mut S, &[u64], u64, Vec<Planned>) -> Result<Round, RoundStop>,
+>(
+    set: &TaskSet,
+    protocol: &P,
+    recorded: &mut S,
+    take: &F,
+    bounds: &Vec<u64>,
+    left: u64,
+    plan: Vec<Planned>,
+) -> Result<Round, RoundStop>
+    requires served { IsServedAt (P.serves protocol.now) set.now bounds.now.items }
+    requires takes { (s : _) (b : _) (left : ℕ) (p : _) → IsServedAt (P.serves protocol.now) set.now b.now
+        → S.begins (source_at (P.source protocol.now) set.now) b.now left p.items
+        → (F.pre take.now s b left p) × ((given : _) (t : _) → F.post take.now s b left p given t
+        → TakesRound (S.stands s.now) (S.stands t.now) (S.ends t.now) (source_at (P.source protocol.now) set.now) b.now left given) }
+    requires plan { S.begins (source_at (P.source protocol.now) set.now) bounds.now.items left plan.items }
+    ensures { TakesRound (S.stands recorded.old) (S.stands recorded.new) (S.ends recorded.new) (source_at (P.source protocol.now) set.now)
+        bounds.now.items left result }
+{
+    take(recorded, bounds, left, plan)
+}
+
 /// Takes rounds from these bounds on, until one ends or gives the vector that it began with. What it answers is what that round gives.
 /// `take` takes one round and records it: at these bounds, with this many units left, and with this plan. `plan` is that of the first.
 pub fn take_rounds<
@@ -67,7 +93,7 @@ pub fn take_rounds<
     let mut spent = 0;
     loop {
         let left = allowance - spent;
-        let round = match take(recorded, &bounds, left, plan) {
+        let round = match next_round(set, protocol, recorded, take, &bounds, left, plan) {
             Ok(round) => round,
             Err(stop) => return Err(stop),
         };
