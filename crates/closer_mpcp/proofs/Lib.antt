@@ -6,3 +6,4 @@ mod NoIndirect
 mod OnProcessors
 mod Pushed
 mod SteadyJobs
+mod UsersBeside

@@ -38,7 +38,11 @@ pub record AreSumsOf (set : SetDef) (i : ℕ) (f : ℕ → ℕ) (s : Sums) : Typ
   pub sums : AreSums set s
   pub each : (y : ℕ) → y < length set.tasks → slice_index s.own y ≡ only_if (nat_lt y i) (f y)
 
--- Does the table have the sums of the requests of r that one job of each task makes that is lower than i?
+-- Does the table have the sums of the requests of r that one job of each task makes?
+abbrev pub AreSumsOfAll : SetDef → ℕ → Sums → Type 0
+AreSumsOfAll set r s = AreSumsOf set (length set.tasks) (λ y. count_of set y r) s
+
+-- And of each task that is lower than i?
 abbrev pub AreLowerSumsOf : SetDef → ℕ → ℕ → Sums → Type 0
 AreLowerSumsOf set i r s = AreSumsOf set (length set.tasks) (λ y. only_if (nat_lt i y) (count_of set y r)) s
 

@@ -1,5 +1,5 @@
 -- What searches and limits look up. In each, i is the analysed task.
-use Rattle.std.specs.Prelude.{◌≡◌, ℕ, ◌*◌, ◌<◌, ◌≤◌, Bool, List, [], length, slice_index, slice_index_or}
+use Rattle.std.specs.Prelude.{◌≡◌, ℕ, ◌*◌, ◌<◌, ◌≤◌, nat_lt, Bool, List, [], length, slice_index, slice_index_or}
 use Rattle.number_laws.specs.Sums.{sum_below, only_if}
 use Rattle.sporadic_model.specs.SetDef.{SetDef}
 use Rattle.sporadic_model.specs.Users.{used_by, count_of, length_of}
@@ -11,7 +11,7 @@ use Rattle.mpcp_window_laws.specs.WaitRows.{requests_in_waits}
 use Rattle.shared_requests.specs.Held.{AreSharedOut}
 use Rattle.closer_mpcp.specs.Given.{AreRequestsIn}
 use Rattle.closer_mpcp.specs.Holdings.{held_beside}
-use Rattle.closer_mpcp.specs.Sums.{made_on, AreSumsOf, AreSumsOfUsed, AreLowerSums}
+use Rattle.closer_mpcp.specs.Sums.{made_on, made_beside, AreSumsOf, AreSumsOfUsed, AreLowerSums}
 use Rattle.closer_mpcp.specs.declared.first_ticks.FirstTicks.{FirstTicks}
 use Rattle.closer_mpcp.specs.declared.lower_holders.OtherHolders.{OtherHolders}
 use Rattle.closer_mpcp.specs.declared.sums.Sums.{Sums}
@@ -31,15 +31,30 @@ pub record AreFirstOf (set : SetDef) (x q : ℕ) (first : FirstTicks) : Type 0 w
   pub longest_to : first.longest ≤ 1000000000
   pub all_to : first.all ≤ 32000000000000
 
+-- Can another task of x's processor hold q at all: does it use q?
+abbrev pub is_used_beside : SetDef → ℕ → ℕ → Bool
+is_used_beside set x q = nat_lt 0 (made_beside set (λ y. count_of set y q) x)
+
+-- For how many ticks may the longest of these requests of x last, if so?
+abbrev pub longest_beside : SetDef → ℕ → ℕ → ℕ
+longest_beside set x q = only_if (is_used_beside set x q) (longest_first set x q)
+
+-- Is it said how long they last, if so?
+pub record AreFirstBeside (set : SetDef) (x q : ℕ) (first : FirstTicks) : Type 0 where
+  pub longest : first.longest ≡ longest_beside set x q
+  pub all : first.all ≡ only_if (is_used_beside set x q) (time_first set x q)
+  pub longest_to : first.longest ≤ 1000000000
+  pub all_to : first.all ≤ 32000000000000
+
 -- Is it said of each task?
 pub record AreFirst (set : SetDef) (q : ℕ) (first : List FirstTicks) : Type 0 where
   pub enough : length set.tasks ≤ length first
-  pub each : (x : ℕ) → x < length set.tasks → AreFirstOf set x q (slice_index_or first x (record { longest = 0; all = 0 }))
+  pub each : (x : ℕ) → x < length set.tasks → AreFirstBeside set x q (slice_index_or first x (record { longest = 0; all = 0 }))
 
 -- Is it said how long these last on each processor, the longest one of each of its tasks?
 pub record AreLongestOn (set : SetDef) (q : ℕ) (ticks : List ℕ) : Type 0 where
   pub processors : length ticks ≡ 65
-  pub sum : (k : ℕ) → k < 65 → slice_index ticks k ≡ made_on set (λ x. longest_first set x q) k
+  pub sum : (k : ℕ) → k < 65 → slice_index ticks k ≡ made_on set (λ x. longest_beside set x q) k
   pub small : (k : ℕ) → k < 65 → slice_index ticks k ≤ 64000000000
 
 -- Is it said of each task and of each processor?

@@ -1,7 +1,8 @@
 //! For how long a lower task may hold what the analysed task waits for. That doesn't depend on the bounds.
 
-ghost use Rattle.std.specs.Prelude.{◌≡◌, false};
+ghost use Rattle.std.specs.Prelude.{◌≡◌, true, false};
 ghost use Rattle.number_laws.specs.Sums.{only_if};
+ghost use Rattle.sporadic_model.specs.Users.{is_user};
 ghost use Rattle.blocking_columns.specs.Columns.{have_one_processor};
 ghost use Rattle.mpcp_window_laws.specs.MpcpWindows.{holding_ticks, may_hold_before, longest_lower_holding};
 ghost use Rattle.closer_mpcp.specs.Amounts.{IsAmount};
@@ -15,7 +16,7 @@ use sporadic_model::{ResourceId, TaskId, TaskSet};
 /// What others may do with a resource while the analysed task waits for it, as far as it doesn't depend on the bounds.
 #[derive(Drop)]
 pub(crate) struct OtherHolders {
-    /// Of each task, by its number, how long its requests last that go first.
+    /// Of each task, by its number, how long its requests last that go first. It is 0 if no other task of its processor uses the resource.
     pub(crate) first: [FirstTicks; 64],
     /// For how many ticks a lower task may hold the resource.
     pub(crate) lower: u64,
@@ -47,6 +48,7 @@ fn holding_ticks(
     y: TaskId,
 ) -> u64
     requires held { AreTaskAndResource set.now y.0 q.0 }
+    requires user { is_user set.now q.0 y.0 ≡ true }
     requires away { have_one_processor set.now y.0 i.0 ≡ false }
     requires first { AreFirstOn set.now q.0 first.now on.now }
     ensures { IsAmount result (holding_ticks set.now i.0 q.0 y.0) 65000000000 }

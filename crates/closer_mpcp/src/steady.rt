@@ -57,7 +57,7 @@ fn common_ticks_of(set: &TaskSet, earlier: &[u64], bounds: &[u64], x: TaskId) ->
     }
 }
 
-/// Is it so for each task up to how many ticks?
+/// Up to how many ticks is that so of each task?
 pub(crate) fn common_ticks(set: &TaskSet, earlier: &[u64], bounds: &[u64]) -> u64
     requires { AreTwoBounds set.now earlier.now bounds.now }
     ensures { AreCommon set.now (slice_index earlier.now) (slice_index bounds.now) result }
