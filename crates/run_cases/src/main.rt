@@ -18,3 +18,6 @@ mod protocol_tests;
 mod study_tests;
 #[cfg(test)]
 mod table_tests;
+
+// The crate has only tests. It is a program, since a kit that keeps no sums forms those of all crates below a library anew, path by path.
+fn main() {}
