@@ -4,7 +4,7 @@ use Rattle.std.specs.Prelude.{◌≡◌, ℕ, ◌<◌, true, List, map, length, 
 use Rattle.sporadic_model.specs.SetDef.{SetDef}
 use Rattle.sporadic_model.specs.Users.{is_user}
 use Rattle.sporadic_model.specs.declared.ids.Protocol.{Protocol}
-use Rattle.program_sources.specs.Bounds.{AreWithinDeadlines}
+use Rattle.sporadic_model.specs.Bounds.{AreWithinDeadlines}
 use Rattle.blocking_columns.specs.declared.columns.Fragment.{Fragment}
 use Rattle.blocking_columns.specs.declared.stretches.TaskPlace.{TaskPlace}
 use Rattle.blocking_columns.specs.ColumnDef.{column_seen, AreKnown}

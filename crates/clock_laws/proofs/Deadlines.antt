@@ -4,6 +4,7 @@ use Rattle.std.proofs.Common.{◌≡◌, ℕ, ◌+◌, ◌*◌, ◌<◌, ◌≤�
 use Rattle.std.specs.Prelude.{slice_index}
 use Rattle.sporadic_model.specs.SetDef.{SetDef, task_at}
 use Rattle.sporadic_model.specs.Accepted.{IsAccepted}
+use Rattle.sporadic_model.specs.Bounds.{AreWithinDeadlines}
 use Rattle.schedule_model.specs.JobDef.{job_of}
 use Rattle.schedule_model.specs.LawfulJobs.{AreLawfulIn, IsLawfulJob}
 use Rattle.schedule_model.specs.RowDef.{Trace}
@@ -13,7 +14,6 @@ use Rattle.schedule_model.specs.Activity.{task_of}
 use Rattle.schedule_model.specs.Keeping.{KeepsBefore}
 use Rattle.schedule_model.specs.declared.rule.Rule.{Rule}
 use Rattle.schedule_laws.proofs.Ticks.{finished_stays}
-use Rattle.program_sources.specs.Bounds.{AreWithinDeadlines}
 use Rattle.soundness_laws.specs.Sound.{due_tick, KeepsBounds}
 use Rattle.clock_laws.specs.Cycles.{in_cycles, times_each}
 use Rattle.clock_laws.specs.Clock.{SoundOnClocks, values_in_cycles}

@@ -11,7 +11,7 @@ use Rattle.sporadic_model.specs.SetDef.{SetDef, task_at}
 use Rattle.sporadic_model.specs.Homes.{home_in}
 use Rattle.sporadic_model.specs.Accepted.{IsAccepted}
 use Rattle.sporadic_model.specs.declared.ids.Protocol.TheVariants as protocol
-use Rattle.program_sources.specs.Bounds.{AtMost, AreWithinDeadlines}
+use Rattle.sporadic_model.specs.Bounds.{AtMost, AreWithinDeadlines}
 use Rattle.program_sources.specs.Fitting.{ComesUpAbove}
 use Rattle.program_sources.proofs.RecurrenceLaws.{comes_up_above}
 use Rattle.blocking_columns.specs.ColumnDef.{is_preemption}

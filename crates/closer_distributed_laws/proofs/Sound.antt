@@ -5,10 +5,10 @@ use Rattle.sporadic_model.specs.SetDef.{SetDef, task_at}
 use Rattle.sporadic_model.specs.Accepted.{IsAccepted, IsFormed}
 use Rattle.sporadic_model.proofs.Laws.{formed_of_accepted}
 use Rattle.sporadic_model.specs.declared.ids.Protocol.TheVariants as protocol
+use Rattle.sporadic_model.specs.Bounds.{AtMost}
 use Rattle.schedule_model.specs.BlockedTicks.{is_dpcp_interference}
 use Rattle.schedule_model.specs.Protocols.{dpcp_rule}
 use Rattle.schedule_laws.proofs.DpcpLaws.{dpcp_one_of_three, dpcp_sound_row}
-use Rattle.program_sources.specs.Bounds.{AtMost}
 use Rattle.program_sources.specs.Fitting.{AreFitting, AreLeastFitting}
 use Rattle.program_sources.specs.Valid.{IsValid}
 use Rattle.blocking_columns.specs.Columns.{blocks_at_home, may_block, columns_of}

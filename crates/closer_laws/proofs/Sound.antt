@@ -5,11 +5,11 @@ use Rattle.sporadic_model.specs.SetDef.{SetDef}
 use Rattle.sporadic_model.specs.Accepted.{IsAccepted, IsFormed}
 use Rattle.sporadic_model.proofs.Laws.{formed_of_accepted}
 use Rattle.sporadic_model.specs.declared.ids.Protocol.TheVariants as protocol
+use Rattle.sporadic_model.specs.Bounds.{AtMost}
 use Rattle.schedule_model.specs.BlockedTicks.{is_shared_interference}
 use Rattle.schedule_model.specs.Ranks.{fmlp_plus}
 use Rattle.schedule_model.specs.Protocols.{shared_rule}
 use Rattle.schedule_laws.proofs.SharedLaws.{shared_one_of_three, shared_sound_row}
-use Rattle.program_sources.specs.Bounds.{AtMost}
 use Rattle.program_sources.specs.Fitting.{AreFitting, AreLeastFitting}
 use Rattle.program_sources.specs.Valid.{IsValid}
 use Rattle.blocking_columns.specs.Columns.{may_block, columns_of}

@@ -1,9 +1,9 @@
 -- What the functions here are given: tasks, a resource, bounds, windows and columns that belong together. In each, i is the analysed task, and
 -- x and y are any tasks.
 use Rattle.std.specs.Prelude.{ℕ, ◌<◌, ◌≤◌, Bool, List, length, slice_index, Option, IfSome}
-use Rattle.program_sources.specs.Bounds.{AreWithinDeadlines}
 use Rattle.sporadic_model.specs.SetDef.{SetDef}
 use Rattle.sporadic_model.specs.declared.ids.ResourceId.{ResourceId}
+use Rattle.sporadic_model.specs.Bounds.{AreWithinDeadlines}
 use Rattle.blocking_columns.specs.declared.columns.Fragment.{Fragment}
 use Rattle.blocking_columns.specs.declared.stretches.TaskPlace.{TaskPlace}
 use Rattle.blocking_columns.specs.Given.{AreLaidOut}

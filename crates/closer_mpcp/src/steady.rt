@@ -1,7 +1,7 @@
 //! Up to how many ticks as many jobs of each task can run as in one tick. In all spans up to that one others can hold a resource equally long.
 
 ghost use Rattle.std.specs.Prelude.{slice_index};
-ghost use Rattle.program_sources.specs.Bounds.{AreWithinDeadlines};
+ghost use Rattle.sporadic_model.specs.Bounds.{AreWithinDeadlines};
 ghost use Rattle.closer_mpcp.specs.Given.{IsTaskAt, AreTwoBounds, IsTaskAtTwoBounds};
 ghost use Rattle.closer_mpcp.specs.Steady.{IsSteady, AllJobsStay, IsCommonOf, AreCommon};
 

@@ -1,7 +1,7 @@
 -- Tables that tell of resources.
 use Rattle.std.specs.Prelude.{◌≡◌, ℕ, ◌<◌, ◌≤◌, Bool, false, List, length, slice_index, slice_index_or}
 use Rattle.sporadic_model.specs.SetDef.{SetDef}
-use Rattle.program_sources.specs.Bounds.{AreWithinDeadlines}
+use Rattle.sporadic_model.specs.Bounds.{AreWithinDeadlines}
 use Rattle.blocking_columns.specs.declared.columns.Fragment.{Fragment}
 use Rattle.spin_charging.specs.SpinPrograms.{is_used_below, upper_requests}
 use Rattle.blocking_columns.specs.Given.{AreKnownAt}

@@ -14,7 +14,7 @@ use Rattle.program_form.specs.Limits.{HasLimitsAtMost}
 use Rattle.sporadic_model.specs.SetDef.{SetDef}
 use Rattle.sporadic_model.specs.Users.{count_of}
 use Rattle.sporadic_model.specs.Accepted.{IsAccepted}
-use Rattle.program_sources.specs.Bounds.{AtMost, AreWithinDeadlines}
+use Rattle.sporadic_model.specs.Bounds.{AtMost, AreWithinDeadlines}
 use Rattle.program_sources.specs.Fitting.{ComesUpAbove}
 use Rattle.program_sources.proofs.RecurrenceLaws.{comes_up_above}
 use Rattle.fragments.specs.Constraints.{ConstraintDef, per, per_pair}

@@ -7,10 +7,10 @@ use Rattle.number_laws.specs.Sums.{flag}
 use Rattle.program_form.specs.Certificate.{CertificateDef}
 use Rattle.sporadic_model.specs.SetDef.{SetDef, task_at}
 use Rattle.sporadic_model.specs.Accepted.{IsAccepted, IsFormed}
+use Rattle.sporadic_model.specs.Bounds.{AtMost}
 use Rattle.sporadic_model.proofs.Laws.{formed_of_accepted}
 use Rattle.schedule_model.specs.BlockedTicks.{is_shared_interference}
 use Rattle.schedule_laws.proofs.SharedLaws.{shared_one_of_three}
-use Rattle.program_sources.specs.Bounds.{AtMost}
 use Rattle.program_sources.specs.Fitting.{AreFitting, AreLeastFitting}
 use Rattle.program_sources.specs.Valid.{IsValid}
 use Rattle.blocking_columns.specs.ColumnDef.{is_preemption}

@@ -9,7 +9,7 @@ use Rattle.program_form.specs.Limits.{HasLimitsAtMost}
 use Rattle.sporadic_model.specs.SetDef.{SetDef}
 use Rattle.sporadic_model.specs.Homes.{home_in}
 use Rattle.sporadic_model.specs.Accepted.{IsAccepted}
-use Rattle.program_sources.specs.Bounds.{AtMost, AreWithinDeadlines}
+use Rattle.sporadic_model.specs.Bounds.{AtMost, AreWithinDeadlines}
 use Rattle.blocking_columns.specs.ColumnDef.{is_preemption}
 use Rattle.blocking_columns.specs.Columns.{is_lower_local}
 use Rattle.blocking_columns.specs.Windows.{requests_at}

@@ -4,10 +4,10 @@ use Rattle.program_form.specs.Certificate.{CertificateDef, certificate_seen}
 use Rattle.program_form.specs.Program.{ProgramDef, height}
 use Rattle.program_form.specs.declared.certificate.Certificate.{Certificate}
 use Rattle.program_form.specs.declared.certificate.Dual.{Dual}
-use Rattle.program_sources.specs.Bounds.{AreWithinDeadlines}
 use Rattle.program_sources.specs.Recurrence.{SourceDef}
 use Rattle.program_sources.specs.Fitting.{tasks_of}
 use Rattle.sporadic_model.specs.SetDef.{SetDef}
+use Rattle.sporadic_model.specs.Bounds.{AreWithinDeadlines}
 use Rattle.schedule_answers.specs.Failures.{AllPass}
 use Rattle.dual_check.specs.Answers.{HasDenominators, AreWorths, IsCovering, worth_at}
 use Rattle.dual_check.specs.declared.duals.DualWorth.{DualWorth}

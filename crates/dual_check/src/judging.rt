@@ -1,9 +1,9 @@
 ghost use Rattle.std.specs.Prelude.{◌≡◌, ℕ, ◌<◌, ◌≤◌, List, map, length, vec_len, option_map, slice_index, ◌^◌, ◌↔◌, IsTrue, IfOk, IfErr};
 ghost use Rattle.program_form.specs.Certificate.{certificate_seen};
 ghost use Rattle.sporadic_model.specs.Homes.{HasHomesFor};
-ghost use Rattle.program_sources.specs.Bounds.{AreWithinDeadlines, AreFromCostsAbove};
 ghost use Rattle.program_sources.specs.Recurrence.{response_with, source_at};
 ghost use Rattle.sporadic_model.specs.SetDef.{task_at, latest_bound};
+ghost use Rattle.sporadic_model.specs.Bounds.{AreWithinDeadlines, AreFromCostsAbove};
 ghost use Rattle.program_sources.specs.Valid.{IsValid};
 ghost use Rattle.program_laws.specs.Programs.{source_of};
 ghost use Rattle.soundness_laws.specs.Sound.{Sound};

@@ -1,7 +1,7 @@
 -- What rows of single tasks and single requests, and the walks over them, are given. In each, i is the analysed task, and x is any task.
 use Rattle.std.specs.Prelude.{◌≡◌, ℕ, ◌<◌, ◌≤◌, List, length, slice_index}
 use Rattle.sporadic_model.specs.SetDef.{SetDef}
-use Rattle.program_sources.specs.Bounds.{AreWithinDeadlines}
+use Rattle.sporadic_model.specs.Bounds.{AreWithinDeadlines}
 use Rattle.blocking_columns.specs.declared.columns.Fragment.{Fragment}
 use Rattle.blocking_columns.specs.ColumnDef.{AreKnown}
 use Rattle.blocking_columns.specs.Stretches.{slot, AreInOrder, BeginsAt, IsTaskStretch, IsRequestStretch}

@@ -2,7 +2,7 @@ ghost use Rattle.std.specs.Prelude.{◌≡◌, ℕ, ◌<◌, ◌≤◌, map, nat
 ghost use Rattle.std.specs.List.{list_any};
 ghost use Rattle.program_form.specs.RowBlock.{block_seen};
 ghost use Rattle.sporadic_model.specs.SetDef.{SetDef};
-ghost use Rattle.program_sources.specs.Bounds.{AreWithinDeadlines};
+ghost use Rattle.sporadic_model.specs.Bounds.{AreWithinDeadlines};
 ghost use Rattle.blocking_columns.specs.Given.{AreKnownAt};
 ghost use Rattle.blocking_columns.specs.ColumnDef.{ColumnDef, column_seen};
 ghost use Rattle.fragments.specs.Constraints.{ConstraintDef, pushed_row};

@@ -2,7 +2,7 @@
 
 ghost use Rattle.std.specs.Prelude.{◌≡◌, ◌+◌, ◌<◌, ◌≤◌, length, slice_index, IfOk, OnOk};
 ghost use Rattle.sporadic_model.specs.Users.{count_of};
-ghost use Rattle.program_sources.specs.Bounds.{AreWithinDeadlines};
+ghost use Rattle.sporadic_model.specs.Bounds.{AreWithinDeadlines};
 ghost use Rattle.indirect_constraints.specs.Tables.{AreAtMost, AreRaised, AreSums, HigherAreAtMost, HasRequestsAdded, AreAwaited, IsCountOf};
 ghost use Rattle.indirect_constraints.specs.Tables.{AreTotalsAndNumbers, HaveRoomAfter, AreHoldings};
 ghost use Rattle.indirect_constraints.specs.Tables.{held_on, held_alone, all_held_on, all_held_alone, lower_user};

@@ -8,7 +8,7 @@ use Rattle.program_form.specs.Points.{IsScaledPoint, Reaches, IsGreatestReached,
 use Rattle.program_form.specs.Program.{ProgramDef}
 use Rattle.program_form.proofs.Duality.{dual_bounds}
 use Rattle.sporadic_model.specs.SetDef.{task_at}
-use Rattle.program_sources.specs.Bounds.{AtMost}
+use Rattle.sporadic_model.specs.Bounds.{AtMost}
 use Rattle.program_sources.specs.Recurrence.{SourceDef, response_with}
 use Rattle.program_sources.specs.Fitting.{AreFitting, AreLeastFitting, AreBelowAllFitting, ComesUpAbove, tasks_of}
 use Rattle.program_sources.specs.Valid.{IsValid}

@@ -10,7 +10,7 @@ ghost use Rattle.program_form.specs.Duals.{Covers, dual_value};
 ghost use Rattle.program_form.specs.Points.{IsScaledPoint, Reaches, IsGreatestReached, worth};
 ghost use Rattle.program_form.specs.Program.{ProgramDef};
 ghost use Rattle.sporadic_model.specs.SetDef.{SetDef};
-ghost use Rattle.program_sources.specs.Bounds.{AtMost};
+ghost use Rattle.sporadic_model.specs.Bounds.{AtMost};
 ghost use Rattle.program_sources.specs.Recurrence.{SourceDef, source_at, interference_of, response_with};
 ghost use Rattle.program_sources.specs.Fitting.{AreFitting, AreLeastFitting, AreBelowAllFitting, tasks_of};
 ghost use Rattle.program_sources.specs.Valid.{IsValid};

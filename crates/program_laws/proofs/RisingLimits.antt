@@ -8,7 +8,7 @@ use Rattle.number_laws.proofs.OnlyIfLaws.{only_if-rises}
 use Rattle.sporadic_model.specs.SetDef.{SetDef, task_at}
 use Rattle.sporadic_model.specs.Users.{count_of, is_user}
 use Rattle.sporadic_model.specs.declared.ids.Protocol.{Protocol}
-use Rattle.program_sources.specs.Bounds.{AtMost}
+use Rattle.sporadic_model.specs.Bounds.{AtMost}
 use Rattle.program_sources.proofs.RecurrenceLaws.{div_ceil_rises}
 use Rattle.blocking_columns.specs.Windows.{jobs_in, requests_in}
 use Rattle.direct_constraints.specs.Rows.{time_row, common_rows}

@@ -19,8 +19,8 @@ use Rattle.sporadic_model.specs.Users.{count_of, length_of, entry_of, is_user}
 use Rattle.sporadic_model.specs.Accepted.{IsAccepted}
 use Rattle.sporadic_model.specs.Homes.{home_in}
 use Rattle.sporadic_model.specs.declared.ids.Protocol.{Protocol}
+use Rattle.sporadic_model.specs.Bounds.{AreWithinDeadlines}
 use Rattle.sporadic_model.proofs.Laws.{numbers_of_accepted, sizes_of_accepted, entry_of_accepted}
-use Rattle.program_sources.specs.Bounds.{AreWithinDeadlines}
 use Rattle.blocking_columns.specs.ColumnDef.{ColumnDef}
 use Rattle.blocking_columns.specs.Windows.{jobs_in, requests_in, all_requests}
 use Rattle.direct_constraints.specs.Rows.{request_row, time_row, turn_row, common_rows}

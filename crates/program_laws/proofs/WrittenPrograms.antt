@@ -7,7 +7,7 @@ use Rattle.sporadic_model.specs.SetDef.{SetDef, task_at}
 use Rattle.sporadic_model.specs.Accepted.{IsAccepted, TaskNumbers}
 use Rattle.sporadic_model.specs.declared.ids.Protocol.{Protocol}
 use Rattle.sporadic_model.specs.declared.ids.Protocol.TheVariants as protocol
-use Rattle.program_sources.specs.Bounds.{AtMost, AreWithinDeadlines}
+use Rattle.sporadic_model.specs.Bounds.{AtMost, AreWithinDeadlines}
 use Rattle.blocking_columns.specs.Columns.{is_column, columns_of}
 use Rattle.preempt_constraints.specs.Rows.{preemption_rows}
 use Rattle.program_laws.specs.Programs.{protocol_rows, rows_of, program_of, interfering_cost}

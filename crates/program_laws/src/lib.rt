@@ -10,7 +10,7 @@ ghost use Rattle.program_form.specs.SevenRows.{seven_rows};
 ghost use Rattle.sporadic_model.specs.SetDef.{SetDef};
 ghost use Rattle.sporadic_model.specs.Accepted.{IsAccepted};
 ghost use Rattle.sporadic_model.specs.declared.ids.Protocol.{Protocol};
-ghost use Rattle.program_sources.specs.Bounds.{AtMost, AreWithinDeadlines};
+ghost use Rattle.sporadic_model.specs.Bounds.{AtMost, AreWithinDeadlines};
 ghost use Rattle.blocking_columns.specs.ColumnDef.{ColumnDef};
 ghost use Rattle.blocking_columns.specs.Columns.{columns_where, columns_of, AreRequests};
 ghost use Rattle.fragments.specs.Constraints.{ConstraintDef};

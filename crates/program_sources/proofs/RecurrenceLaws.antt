@@ -12,7 +12,7 @@ use Rattle.program_form.specs.Limits.{HasLimitsAtMost}
 use Rattle.program_form.proofs.Points.{zero_reached, greater_limits_reach, greater_limits_greatest}
 use Rattle.program_form.proofs.Duality.{dual_bounds, one_greatest}
 use Rattle.sporadic_model.specs.SetDef.{SetDef, task_at, is_higher_local, jobs_within}
-use Rattle.program_sources.specs.Bounds.{AtMost}
+use Rattle.sporadic_model.specs.Bounds.{AtMost}
 use Rattle.program_sources.specs.Recurrence.{SourceDef, interference_by, interference_of, response_with, ComesUp, IsResponse}
 use Rattle.program_sources.specs.Fitting.{AreFitting, NeverFalls, ComesUpAbove, tasks_of}
 use Rattle.program_sources.specs.Valid.{IsValid, value_at, dual_at}

@@ -5,7 +5,7 @@
 -- response time has to be within the bound.
 use Rattle.std.specs.Prelude.{◌≡◌, ℕ, ◌<◌, ◌≤◌, List, length, slice_index}
 use Rattle.sporadic_model.specs.SetDef.{task_at, latest_bound}
-use Rattle.program_sources.specs.Bounds.{AtMost}
+use Rattle.sporadic_model.specs.Bounds.{AtMost}
 use Rattle.program_sources.specs.Recurrence.{SourceDef, ComesUp, IsResponse}
 
 -- How many tasks has the source's set?

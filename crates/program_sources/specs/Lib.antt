@@ -1,4 +1,3 @@
-pub mod Bounds
 pub mod Recurrence
 pub mod Fitting
 pub mod Valid

@@ -3,7 +3,7 @@ ghost use Rattle.program_form.specs.Program.{IsProgram, IsCovered, columns};
 ghost use Rattle.program_form.specs.Limits.{HasLimitsAtMost};
 ghost use Rattle.sporadic_model.specs.SetDef.{SetDef, task_at};
 ghost use Rattle.sporadic_model.specs.Accepted.{IsAccepted, TaskNumbers};
-ghost use Rattle.program_sources.specs.Bounds.{AtMost, AreWithinDeadlines, AreFromCostsAbove, most_of_one_task};
+ghost use Rattle.sporadic_model.specs.Bounds.{AtMost, AreWithinDeadlines, AreFromCostsAbove, most_of_one_task};
 ghost use Rattle.program_sources.specs.Recurrence.{SourceDef, interference_of};
 
 use program_form::{Program, SparseProgram};

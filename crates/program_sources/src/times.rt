@@ -1,5 +1,5 @@
 ghost use Rattle.std.specs.Prelude.{◌≡◌, ◌<◌, ◌^◌, length};
-ghost use Rattle.program_sources.specs.Bounds.{AreWithinDeadlines, AreFromCostsAbove};
+ghost use Rattle.sporadic_model.specs.Bounds.{AreWithinDeadlines, AreFromCostsAbove};
 ghost use Rattle.program_sources.specs.Recurrence.{source_at, response_with};
 
 use crate::source::ProgramSource;

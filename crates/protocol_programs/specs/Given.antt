@@ -1,7 +1,7 @@
 -- What the functions here are given: a task of a set, and bounds for its tasks. In each, i is the analysed task.
 use Rattle.std.specs.Prelude.{ℕ, ◌<◌, List, length}
 use Rattle.sporadic_model.specs.SetDef.{SetDef}
-use Rattle.program_sources.specs.Bounds.{AreWithinDeadlines, AreFromCostsAbove}
+use Rattle.sporadic_model.specs.Bounds.{AreWithinDeadlines, AreFromCostsAbove}
 
 -- Has i a program at these bounds? The set is served, i is a task of it, and each task has a bound, at most its latest one.
 pub record HasProgramAt (served : SetDef → Type 0) (set : SetDef) (i : ℕ) (bounds : List ℕ) : Type 0 where

@@ -1,6 +1,6 @@
 ghost use Rattle.std.specs.Prelude.{◌≡◌, ◌<◌, ◌≤◌, ◌*◌, length};
 ghost use Rattle.sporadic_model.specs.SetDef.{task_at};
-ghost use Rattle.program_sources.specs.Bounds.{most_of_one_task};
+ghost use Rattle.sporadic_model.specs.Bounds.{most_of_one_task};
 ghost use Rattle.program_sources.specs.Recurrence.{interference_by, interference_of};
 ghost use Rattle.program_laws.specs.Programs.{interfering_cost};
 ghost use Rattle.protocol_programs.specs.Given.{CanCountInterference};

@@ -6,7 +6,7 @@ use Rattle.std.specs.Global.{Global}
 use Rattle.std.proofs.lemmas.List.{append-nil}
 use Rattle.program_form.specs.Certificate.{dual_seen}
 use Rattle.program_form.specs.Program.{ProgramDef}
-use Rattle.program_sources.specs.Bounds.{IsInRange}
+use Rattle.sporadic_model.specs.Bounds.{IsInRange}
 use Rattle.program_sources.specs.Recurrence.{SourceDef}
 use Rattle.program_sources.specs.Fitting.{ComesUpAbove, tasks_of, latest_of}
 use Rattle.program_sources.proofs.RecurrenceLaws.{LimitsRise}

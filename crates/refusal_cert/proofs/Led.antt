@@ -11,7 +11,7 @@ use Rattle.program_form.specs.Limits.{HasLimitsAtMost}
 use Rattle.program_form.specs.Points.{IsScaledPoint}
 use Rattle.program_form.specs.Program.{ProgramDef, columns}
 use Rattle.program_form.proofs.Points.{kept_by_greater}
-use Rattle.program_sources.specs.Bounds.{AtMost}
+use Rattle.sporadic_model.specs.Bounds.{AtMost}
 use Rattle.program_sources.specs.Recurrence.{SourceDef, IsResponse, response_with, interference_of}
 use Rattle.program_sources.specs.Fitting.{AreFitting, NeverFalls, tasks_of, latest_of}
 use Rattle.program_sources.proofs.RecurrenceLaws.{LimitsRise, never_falls, interference_rises, response_is_greatest}

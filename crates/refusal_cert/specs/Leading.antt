@@ -1,6 +1,6 @@
 -- How steps lead from the costs to the bounds of rounds.
 use Rattle.std.specs.Prelude.{◌≡◌, ℕ, ◌<◌, ◌≤◌, List, length, slice_index}
-use Rattle.program_sources.specs.Bounds.{AtMost}
+use Rattle.sporadic_model.specs.Bounds.{AtMost}
 use Rattle.program_sources.specs.Recurrence.{SourceDef}
 use Rattle.program_sources.specs.Fitting.{tasks_of}
 use Rattle.refusal_laws.specs.Steps.{StepDef, step_at, after_steps, costs_of, vector_before, IsStep, PassesLatest}

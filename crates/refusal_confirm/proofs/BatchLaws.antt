@@ -7,7 +7,7 @@ use Rattle.std.specs.Prelude.{Option, Some, None, Result, Ok, Err, Bool, slice_g
 use Rattle.std.specs.declared.alloc.AllocError.{AllocError}
 use Rattle.sporadic_model.specs.SetDef.{SetDef}
 use Rattle.sporadic_model.specs.declared.ids.TaskId.{TaskId}
-use Rattle.program_sources.specs.Bounds.{IsInRange}
+use Rattle.sporadic_model.specs.Bounds.{IsInRange}
 use Rattle.program_sources.specs.Recurrence.{SourceDef}
 use Rattle.refusal_laws.specs.Steps.{StepDef, step_at, place_of}
 use Rattle.refusal_confirm.specs.Tests.{Passes, IsEntered}

@@ -5,7 +5,7 @@ use Rattle.std.proofs.lemmas.List.{length-set, get_or-set_same, get_or-set_other
 use Rattle.std.specs.Prelude.{Ok, Err, slice_index, slice_set}
 use Rattle.sporadic_model.specs.SetDef.{SetDef, task_at, latest_bound}
 use Rattle.sporadic_model.specs.declared.ids.TaskId.{TaskId}
-use Rattle.program_sources.specs.Bounds.{IsInRange}
+use Rattle.sporadic_model.specs.Bounds.{IsInRange}
 use Rattle.program_sources.specs.Recurrence.{SourceDef}
 use Rattle.refusal_laws.specs.Steps.{StepDef, Holds, HasDenominators, PassesLatest, step_at, place_of, with_step, costs_of, vector_before}
 use Rattle.refusal_laws.proofs.StepLaws.{vector_next}

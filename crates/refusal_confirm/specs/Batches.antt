@@ -1,7 +1,7 @@
 -- Batches of steps that pass the tests that need no program. Each step is kept with the bounds at which its point is to be tested.
 use Rattle.std.specs.Prelude.{◌≡◌, ℕ, ◌+◌, ◌<◌, ◌≤◌, List, Bool, Option, Some, None, Result, Ok, Err, length, slice_get, ◌⊎◌}
 use Rattle.sporadic_model.specs.SetDef.{SetDef}
-use Rattle.program_sources.specs.Bounds.{IsInRange}
+use Rattle.sporadic_model.specs.Bounds.{IsInRange}
 use Rattle.program_sources.specs.Recurrence.{SourceDef}
 use Rattle.refusal_laws.specs.Steps.{StepDef, step_at, place_of, vector_before}
 use Rattle.refusal_confirm.specs.Tests.{IsEntered}

@@ -2,13 +2,13 @@
 use Rattle.std.specs.Prelude.{◌≡◌, ℕ, ◌+◌, ◌<◌, ◌≤◌, List, length}
 use Rattle.program_form.specs.Certificate.{DualDef}
 use Rattle.program_form.specs.Program.{ProgramDef, height}
-use Rattle.program_sources.specs.Bounds.{IsInRange}
 use Rattle.program_sources.specs.Recurrence.{SourceDef}
 use Rattle.refusal_laws.specs.Steps.{StepDef, HasDenominators, place_of}
 use Rattle.refusal_confirm.specs.Batches.{IsTrial, AreTrials}
 use Rattle.refusal_confirm.specs.Tests.{HasSize}
 use Rattle.refusal_confirm.specs.declared.batches.Trial.{Trial}
 use Rattle.sporadic_model.specs.SetDef.{SetDef}
+use Rattle.sporadic_model.specs.Bounds.{IsInRange}
 
 -- Has the point a number for each column of the program, and is r one of its rows?
 pub record HasSizeForRow (p : ProgramDef) (point : DualDef) (r : ℕ) : Type 0 where

@@ -1,7 +1,7 @@
 -- How far a walk over a refusal's steps is.
 use Rattle.std.specs.Prelude.{◌≡◌, ℕ, ◌+◌, ◌<◌, List, Bool, true, false, length}
 use Rattle.sporadic_model.specs.SetDef.{SetDef}
-use Rattle.program_sources.specs.Bounds.{IsInRange}
+use Rattle.sporadic_model.specs.Bounds.{IsInRange}
 use Rattle.refusal_laws.specs.Steps.{StepDef, step_at, costs_of, vector_before, PassesLatest}
 use Rattle.refusal_confirm.specs.Tests.{IsCalm, IsEntered}
 

@@ -7,7 +7,7 @@ use Rattle.program_form.specs.Certificate.{DualDef}
 use Rattle.program_form.specs.Program.{ProgramDef}
 use Rattle.program_form.specs.Points.{IsScaledPoint, Reaches, worth}
 use Rattle.sporadic_model.specs.SetDef.{task_at, latest_bound}
-use Rattle.program_sources.specs.Bounds.{AtMost}
+use Rattle.sporadic_model.specs.Bounds.{AtMost}
 use Rattle.program_sources.specs.Recurrence.{SourceDef, ComesUp, response_with}
 use Rattle.program_sources.specs.Fitting.{AreFitting, ComesUpAbove, tasks_of}
 use Rattle.program_sources.proofs.RecurrenceLaws.{cost_below_fitting}

@@ -2,7 +2,7 @@
 use Rattle.std.specs.Prelude.{ℕ, ◌<◌, List, length}
 use Rattle.sporadic_model.specs.SetDef.{SetDef}
 use Rattle.sporadic_model.specs.Homes.{EachHasHome}
-use Rattle.program_sources.specs.Bounds.{AreWithinDeadlines}
+use Rattle.sporadic_model.specs.Bounds.{AreWithinDeadlines}
 
 -- Is i a task of the set, does each resource have a home, and are the bounds within the deadlines?
 pub record IsServed (set : SetDef) (i : ℕ) (bounds : List ℕ) : Type 0 where

@@ -2,7 +2,7 @@
 
 ghost use Rattle.std.specs.Prelude.{◌≡◌, ◌<◌, length, slice_index};
 ghost use Rattle.std.proofs.Props.{props};
-ghost use Rattle.program_sources.specs.Bounds.{AreWithinDeadlines};
+ghost use Rattle.sporadic_model.specs.Bounds.{AreWithinDeadlines};
 ghost use Rattle.blocking_columns.specs.Windows.{jobs_in};
 ghost use Rattle.window_laws.specs.WindowRows.{requests_there, requests_met, window_row};
 ghost use Rattle.request_windows.specs.Windows.{AreWindows, requests_by};

@@ -3,7 +3,7 @@
 ghost use Rattle.std.specs.Prelude.{◌≡◌, ◌<◌, ◌≤◌, ◌*◌, length, slice_index};
 ghost use Rattle.std.proofs.Props.{props};
 ghost use Rattle.sporadic_model.specs.Users.{count_of, length_of};
-ghost use Rattle.program_sources.specs.Bounds.{AreWithinDeadlines};
+ghost use Rattle.sporadic_model.specs.Bounds.{AreWithinDeadlines};
 ghost use Rattle.blocking_columns.specs.Windows.{jobs_during};
 ghost use Rattle.window_laws.specs.Windows.{time_at, may_hold_up, longest_lower, ticks_there};
 ghost use Rattle.request_windows.specs.Times.{AreTimes, own_and_lower, longest_by, ticks_by_higher};

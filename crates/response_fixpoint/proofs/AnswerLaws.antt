@@ -4,10 +4,10 @@ use Rattle.std.proofs.Common.{subst, arith, Ok, Err, IfOk}
 use Rattle.std.specs.Prelude.{Result, IsErrOf, slice_index}
 use Rattle.program_form.specs.Certificate.{DualDef, dual_seen}
 use Rattle.program_form.specs.Program.{ProgramDef}
-use Rattle.program_sources.specs.Bounds.{AreWithinDeadlines, AreFromCostsAbove, IsInRange}
 use Rattle.program_sources.specs.Recurrence.{SourceDef}
 use Rattle.program_sources.specs.Fitting.{AreFitting, NeverFalls, ComesUpAbove, tasks_of, latest_of}
 use Rattle.sporadic_model.specs.SetDef.{SetDef}
+use Rattle.sporadic_model.specs.Bounds.{AreWithinDeadlines, AreFromCostsAbove, IsInRange}
 use Rattle.simplex.specs.declared.SolveStop.{SolveStop}
 use Rattle.simplex.specs.declared.SolveStop.TheVariants as solve_stop
 use Rattle.response_fixpoint.specs.Rounds.{RunEnd, Valued, TooWide, OutOfUnits, Ending, Schedulable, NotShown, Wide}

@@ -8,7 +8,7 @@ use Rattle.std.specs.Prelude.{slice_index}
 use Rattle.program_form.specs.Program.{IsCovered, columns}
 use Rattle.program_form.proofs.Greatest.{greatest_exists}
 use Rattle.sporadic_model.specs.SetDef.{TaskDef, no_task, task_at}
-use Rattle.program_sources.specs.Bounds.{AtMost}
+use Rattle.sporadic_model.specs.Bounds.{AtMost}
 use Rattle.program_sources.specs.Recurrence.{SourceDef, IsResponse, response_with}
 use Rattle.program_sources.specs.Fitting.{AreFitting, AreBelowAllFitting, AreLeastFitting, NeverFalls, ComesUpAbove, tasks_of, latest_of}
 use Rattle.program_sources.proofs.RecurrenceLaws.{cost_below_fitting, response_comes_up, response_is_greatest}

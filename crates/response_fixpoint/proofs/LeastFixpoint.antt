@@ -2,7 +2,7 @@
 use Rattle.std.proofs.Common.{◌≡◌, ℕ, zero, suc, ◌+◌, ◌<◌, ◌≤◌, List, length, sym, subst, arith, inl, inr}
 use Rattle.std.proofs.lemmas.Bool.{cases_lt}
 use Rattle.std.specs.Prelude.{slice_index}
-use Rattle.program_sources.specs.Bounds.{AtMost}
+use Rattle.sporadic_model.specs.Bounds.{AtMost}
 use Rattle.program_sources.specs.Recurrence.{SourceDef, ComesUp, IsResponse}
 use Rattle.program_sources.specs.Fitting.{AreFitting, AreBelowAllFitting, AreLeastFitting, NeverFalls, ComesUpAbove, tasks_of, latest_of}
 use Rattle.program_sources.proofs.RecurrenceLaws.{response_comes_up, response_is_greatest}

@@ -8,7 +8,7 @@ use Rattle.number_laws.proofs.SumLaws.{sum_below-monotone, sum_below-agree, sum_
 use Rattle.program_form.specs.Program.{IsProgram}
 use Rattle.exchange_runs.proofs.Finals.{one_answer, ends_not_wide, ends_not_more, wide_not_more}
 use Rattle.sporadic_model.specs.SetDef.{TaskDef, task_at}
-use Rattle.program_sources.specs.Bounds.{AtMost}
+use Rattle.sporadic_model.specs.Bounds.{AtMost}
 use Rattle.program_sources.specs.Recurrence.{SourceDef, IsResponse}
 use Rattle.program_sources.specs.Fitting.{NeverFalls, tasks_of, latest_of}
 use Rattle.program_sources.proofs.RecurrenceLaws.{one_response}

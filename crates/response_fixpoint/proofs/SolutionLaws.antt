@@ -17,7 +17,7 @@ use Rattle.simplex.specs.Solves.{Solves}
 use Rattle.simplex.specs.declared.Solved.{Solved}
 use Rattle.simplex.specs.declared.SolveStop.{SolveStop}
 use Rattle.simplex.specs.declared.SolveStop.TheVariants as solve_stop
-use Rattle.program_sources.specs.Bounds.{AtMost}
+use Rattle.sporadic_model.specs.Bounds.{AtMost}
 use Rattle.program_sources.specs.Recurrence.{SourceDef, response_with}
 use Rattle.program_sources.specs.Fitting.{tasks_of}
 use Rattle.response_fixpoint.specs.Rounds.{Valued, OutOfUnits}

@@ -6,7 +6,7 @@ use Rattle.std.proofs.lemmas.Grind.{same_number_lists}
 use Rattle.std.specs.Str.{bytes_eq}
 use Rattle.std.proofs.lemmas.Slice.Eq.{bytes_eq-Decides}
 use Rattle.number_laws.specs.Sums.{sum_below}
-use Rattle.program_sources.specs.Bounds.{AtMost}
+use Rattle.sporadic_model.specs.Bounds.{AtMost}
 
 -- The sum of the first n places of a vector.
 abbrev pub total : ℕ → List ℕ → ℕ

@@ -2,7 +2,7 @@
 -- sets the source serves.
 use Rattle.std.specs.Prelude.{ℕ, ◌<◌, List, length}
 use Rattle.sporadic_model.specs.SetDef.{SetDef}
-use Rattle.program_sources.specs.Bounds.{IsInRange}
+use Rattle.sporadic_model.specs.Bounds.{IsInRange}
 use Rattle.program_sources.specs.Recurrence.{SourceDef}
 use Rattle.response_fixpoint.specs.Solutions.{IsPlan, IsKept}
 use Rattle.response_fixpoint.specs.declared.plan.Kept.{Kept}

@@ -1,6 +1,6 @@
 -- How rounds are taken, one after another: what each gives, and how the last one ends them.
 use Rattle.std.specs.Prelude.{◌≡◌, ◌≢◌, ℕ, ◌+◌, ◌-◌, ◌≤◌, List, Result, Ok, Err}
-use Rattle.program_sources.specs.Bounds.{IsInRange}
+use Rattle.sporadic_model.specs.Bounds.{IsInRange}
 use Rattle.program_sources.specs.Recurrence.{SourceDef}
 use Rattle.program_sources.specs.Fitting.{tasks_of}
 use Rattle.response_fixpoint.specs.Rounds.{Schedulable, Reaches, EndsIn}

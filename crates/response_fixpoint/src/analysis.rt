@@ -1,7 +1,7 @@
 ghost use Rattle.std.specs.Prelude.{◌≡◌, ℕ, ◌+◌, ◌*◌, ◌≤◌, ◌↔◌, List, length, map, IfOk, IsErrOf};
 ghost use Rattle.program_form.specs.Certificate.{dual_seen};
 ghost use Rattle.sporadic_model.specs.Homes.{HasHomesFor};
-ghost use Rattle.program_sources.specs.Bounds.{IsInRange};
+ghost use Rattle.sporadic_model.specs.Bounds.{IsInRange};
 ghost use Rattle.program_sources.specs.Fitting.{AreFitting};
 ghost use Rattle.program_sources.specs.Recurrence.{source_at};
 ghost use Rattle.program_laws.specs.Programs.{source_of};

@@ -1,7 +1,7 @@
 //! The plan of the first round. The threads that solve a task's program form it too, once.
 
 ghost use Rattle.std.specs.Prelude.{◌<◌, length, IfOk, IfSome};
-ghost use Rattle.program_sources.specs.Bounds.{IsInRange};
+ghost use Rattle.sporadic_model.specs.Bounds.{IsInRange};
 ghost use Rattle.program_sources.specs.Recurrence.{source_at};
 ghost use Rattle.response_fixpoint.specs.Places.{AreEachFound, GivesPlaced, GivesParts};
 ghost use Rattle.response_fixpoint.specs.Sharing.{IsShare};

@@ -2,7 +2,7 @@
 
 ghost use Rattle.std.specs.Prelude.{ℕ, length, IfOk};
 ghost use Rattle.program_form.specs.Program.{IsProgram};
-ghost use Rattle.program_sources.specs.Bounds.{IsInRange};
+ghost use Rattle.sporadic_model.specs.Bounds.{IsInRange};
 ghost use Rattle.program_sources.specs.Recurrence.{source_at};
 ghost use Rattle.response_fixpoint.specs.Solutions.{with_limits, IsPlannedFrom, IsPlanned, IsPlan, AreKept};
 ghost use Rattle.response_fixpoint.specs.Given.{IsTaskServedAt, IsKeptFrom};

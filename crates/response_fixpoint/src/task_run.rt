@@ -1,5 +1,5 @@
 ghost use Rattle.std.specs.Prelude.{◌≡◌, ◌<◌, ◌/◌, ◌^◌, ◌*◌, ◌+◌, length, unsigned_abs, IfOk, IfSome};
-ghost use Rattle.program_sources.specs.Bounds.{IsInRange};
+ghost use Rattle.sporadic_model.specs.Bounds.{IsInRange};
 ghost use Rattle.program_sources.specs.Recurrence.{response_with, source_at};
 ghost use Rattle.response_fixpoint.specs.Solutions.{IsSolution, GivesSolution, IsAhead};
 ghost use Rattle.response_fixpoint.specs.Answers.{GivesRun};

@@ -4,10 +4,10 @@ use Rattle.std.specs.Prelude.{[], ◌∷◌, codes, slice_index, slice_index_or}
 use Rattle.std.proofs.lemmas.List.{get_or_default}
 use Rattle.serde_json.specs.Data.{Data}
 use Rattle.program_form.specs.Certificate.{CertificateDef}
-use Rattle.program_sources.specs.Bounds.{AreWithinDeadlines}
 use Rattle.program_sources.specs.Valid.{dual_at, no_dual, IsValid}
 use Rattle.sporadic_model.specs.SetDef.{SetDef, latest_bound, task_at}
 use Rattle.sporadic_model.specs.Accepted.{IsAccepted}
+use Rattle.sporadic_model.specs.Bounds.{AreWithinDeadlines}
 use Rattle.sporadic_model.proofs.Laws.{numbers_of_accepted}
 use Rattle.protocol_names.specs.declared.ProtocolName.{ProtocolName}
 use Rattle.named_laws.specs.Named.{SoundUnder, source_of}

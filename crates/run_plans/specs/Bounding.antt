@@ -5,13 +5,13 @@ use Rattle.serde_json.specs.Data.{Data}
 use Rattle.outside_ports.specs.Names.{IsNamed}
 use Rattle.outside_ports.specs.Past.{wholly}
 use Rattle.sporadic_model.specs.SetDef.{SetDef}
+use Rattle.sporadic_model.specs.Bounds.{AreWithinDeadlines}
 use Rattle.protocol_names.specs.declared.ProtocolName.{ProtocolName}
 use Rattle.schedule_model.specs.RowDef.{Trace}
 use Rattle.schedule_model.specs.Phase.{phase_of}
 use Rattle.schedule_model.specs.Phase.Phase.{Finished}
 use Rattle.soundness_laws.specs.Sound.{IsLawfulSchedule, due_tick}
 use Rattle.named_laws.specs.Named.{rules_of}
-use Rattle.program_sources.specs.Bounds.{AreWithinDeadlines}
 use Rattle.command_words.specs.Spelled.{analyse_words, settle_words, check_words}
 use Rattle.taskset_json.specs.Answers.{IsValue}
 use Rattle.taskset_json.specs.Members.{list_at}

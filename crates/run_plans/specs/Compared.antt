@@ -4,8 +4,8 @@ use Rattle.std.specs.Prelude.{◌≡◌, ℕ, List, length, Some, IsSome}
 use Rattle.std.specs.Io.KnownBytes.{Appends}
 use Rattle.outside_ports.specs.Names.{Inputs, bytes_of}
 use Rattle.sporadic_model.specs.SetDef.{SetDef}
+use Rattle.sporadic_model.specs.Bounds.{AtMost}
 use Rattle.protocol_names.specs.declared.ProtocolName.{ProtocolName}
-use Rattle.program_sources.specs.Bounds.{AtMost}
 use Rattle.sha2.specs.Sha256.{sha256}
 use Rattle.command_words.specs.Spelled.{analyse_words, refute_words, settle_words, allowance_of}
 use Rattle.run_plans.specs.Headline.{Call, HasInputs, Analyses, WritesSchedulable}

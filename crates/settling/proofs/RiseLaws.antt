@@ -8,7 +8,7 @@ use Rattle.std.proofs.lemmas.Option.{slice_get_cases, slice_get-get_or}
 use Rattle.program_form.specs.Certificate.{DualDef}
 use Rattle.program_form.specs.Points.{Reaches, IsGreatestReached}
 use Rattle.program_form.specs.Program.{ProgramDef}
-use Rattle.program_sources.specs.Bounds.{AtMost, IsInRange}
+use Rattle.sporadic_model.specs.Bounds.{AtMost, IsInRange}
 use Rattle.program_sources.specs.Recurrence.{SourceDef, response_with}
 use Rattle.program_sources.specs.Fitting.{AreFitting, AreBelowAllFitting, tasks_of, latest_of}
 use Rattle.response_fixpoint.proofs.PlaceLaws.{each_more, each_none}

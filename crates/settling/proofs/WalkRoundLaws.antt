@@ -5,7 +5,7 @@ use Rattle.std.specs.Prelude.{slice_index, max, Some, None, IfSome}
 use Rattle.std.specs.declared.option.Option.{Option}
 use Rattle.std.proofs.lemmas.List.{length_push}
 use Rattle.program_form.specs.Certificate.{dual_seen}
-use Rattle.program_sources.specs.Bounds.{IsInRange}
+use Rattle.sporadic_model.specs.Bounds.{IsInRange}
 use Rattle.program_sources.specs.Recurrence.{SourceDef, response_with}
 use Rattle.program_sources.specs.Fitting.{AreBelowAllFitting, tasks_of, latest_of}
 use Rattle.refusal_laws.specs.Steps.{StepDef}

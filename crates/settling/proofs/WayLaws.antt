@@ -3,7 +3,7 @@ use Rattle.std.proofs.Common.{◌≡◌, ◌∙◌, ℕ, zero, suc, ◌+◌, ◌
 use Rattle.std.specs.Prelude.{slice_index, slice_get, Some}
 use Rattle.std.proofs.lemmas.Grind.{same_number_lists}
 use Rattle.sporadic_model.specs.SetDef.{task_at}
-use Rattle.program_sources.specs.Bounds.{AtMost, IsInRange}
+use Rattle.sporadic_model.specs.Bounds.{AtMost, IsInRange}
 use Rattle.program_sources.specs.Recurrence.{SourceDef, IsResponse, response_with}
 use Rattle.program_sources.specs.Fitting.{AreBelowAllFitting, AreLeastFitting, ComesUpAbove, tasks_of}
 use Rattle.program_sources.proofs.RecurrenceLaws.{one_response, response_comes_up, response_is_greatest}

@@ -7,7 +7,7 @@ use Rattle.program_form.specs.Certificate.{DualDef, CertificateDef, dual_seen}
 use Rattle.program_form.specs.Points.{IsScaledPoint, Reaches, IsGreatestReached}
 use Rattle.program_form.specs.Program.{ProgramDef, columns}
 use Rattle.program_form.specs.declared.certificate.Dual.{Dual}
-use Rattle.program_sources.specs.Bounds.{IsInRange}
+use Rattle.sporadic_model.specs.Bounds.{IsInRange}
 use Rattle.program_sources.specs.Recurrence.{SourceDef, response_with}
 use Rattle.program_sources.specs.Fitting.{AreBelowAllFitting, AreLeastFitting, tasks_of, latest_of}
 use Rattle.program_sources.specs.Valid.{IsValid, dual_at}

@@ -1,7 +1,7 @@
 //! Searches the programs of a round side by side, ahead of their places in it.
 
 ghost use Rattle.std.specs.Prelude.{◌≡◌, ℕ, ◌<◌, ◌≤◌, ◌^◌, length, slice_get, Some, IfOk, IfErr, IfSome};
-ghost use Rattle.program_sources.specs.Bounds.{IsInRange};
+ghost use Rattle.sporadic_model.specs.Bounds.{IsInRange};
 ghost use Rattle.program_sources.specs.Recurrence.{source_at};
 ghost use Rattle.response_fixpoint.specs.Sharing.{IsShare};
 ghost use Rattle.settling.specs.Rising.{AreFoundInPlaces, AreFoundWithTasks, IsBegun, IsFoundAt, StopsAt};

@@ -2,7 +2,7 @@
 
 ghost use Rattle.std.specs.Prelude.{◌≡◌, ℕ, ◌+◌, ◌<◌, ◌^◌, ◌++◌, ◌∷◌, [], max, slice_index, length, OnOk};
 ghost use Rattle.program_form.specs.Certificate.{dual_seen};
-ghost use Rattle.program_sources.specs.Bounds.{IsInRange};
+ghost use Rattle.sporadic_model.specs.Bounds.{IsInRange};
 ghost use Rattle.program_sources.specs.Recurrence.{source_at, response_with};
 ghost use Rattle.response_fixpoint.specs.Rounds.{with_task};
 ghost use Rattle.settling.specs.Rising.{AreFoundInPlaces, IsBegun};

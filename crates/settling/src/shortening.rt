@@ -5,7 +5,7 @@
 //! once more: if all that follow hold without it, it is left out.
 
 ghost use Rattle.std.specs.Prelude.{IsTrue};
-ghost use Rattle.program_sources.specs.Bounds.{IsInRange};
+ghost use Rattle.sporadic_model.specs.Bounds.{IsInRange};
 
 use crate::reached::copy_of;
 use program_sources::ProgramSource;

@@ -13,8 +13,8 @@ use Rattle.program_form.specs.Program.{IsProgram, IsCovered, columns}
 use Rattle.program_form.specs.Limits.{HasLimitsAtMost}
 use Rattle.sporadic_model.specs.SetDef.{SetDef, task_at}
 use Rattle.sporadic_model.specs.Accepted.{IsAccepted, TaskNumbers}
+use Rattle.sporadic_model.specs.Bounds.{AtMost, AreWithinDeadlines}
 use Rattle.sporadic_model.proofs.Laws.{sizes_of_accepted}
-use Rattle.program_sources.specs.Bounds.{AtMost, AreWithinDeadlines}
 use Rattle.blocking_columns.specs.Columns.{have_one_processor}
 use Rattle.fragments.specs.Constraints.{ConstraintDef, per_pair}
 use Rattle.blocking_columns.specs.Windows.{requests_in}

@@ -15,6 +15,7 @@ ghost use Rattle.soundness_laws.specs.Analyses.{AreValues};
 ghost use Rattle.soundness_laws.specs.Sound.{Sound};
 ghost use Rattle.sporadic_model.specs.SetDef.{SetDef, task_at};
 ghost use Rattle.sporadic_model.specs.Accepted.{IsAccepted};
+ghost use Rattle.sporadic_model.specs.Bounds.{AtMost, AreWithinDeadlines};
 ghost use Rattle.schedule_model.specs.JobDef.{job_of};
 ghost use Rattle.schedule_model.specs.LawfulJobs.{AreLawfulJobs, IsLawfulJob};
 ghost use Rattle.schedule_model.specs.RowDef.{Trace, jobs_of, holder_in};
@@ -22,7 +23,6 @@ ghost use Rattle.schedule_model.specs.Activity.{task_of, is_requester, issue_tic
 ghost use Rattle.schedule_model.specs.Protocols.{EachSetSuits};
 ghost use Rattle.schedule_model.specs.Keeping.{KeepsBefore};
 ghost use Rattle.schedule_model.specs.BlockedTicks.{is_shared_interference, is_blocked};
-ghost use Rattle.program_sources.specs.Bounds.{AtMost, AreWithinDeadlines};
 ghost use Rattle.program_laws.specs.Worked.{three_tasks, sizes};
 ghost use Rattle.program_laws.specs.Written.{KeepsJobs};
 ghost use Rattle.charge_laws.specs.Charges.{Charge};

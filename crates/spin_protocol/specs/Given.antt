@@ -1,7 +1,7 @@
 -- What functions here are given: what the counts of a task's requests are made of, and jobs of a machine.
 use Rattle.std.specs.Prelude.{◌≡◌, ℕ, ◌<◌, List, length, Option}
 use Rattle.sporadic_model.specs.SetDef.{SetDef}
-use Rattle.program_sources.specs.Bounds.{AreWithinDeadlines}
+use Rattle.sporadic_model.specs.Bounds.{AreWithinDeadlines}
 use Rattle.schedule_model.specs.declared.job.JobId.{JobId}
 use Rattle.phase_machine.specs.MachineDef.{MachineDef}
 

@@ -1,4 +1,5 @@
 pub mod SetDef
+pub mod Bounds
 pub mod Names
 pub mod Seen
 pub mod Users

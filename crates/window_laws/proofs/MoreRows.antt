@@ -2,7 +2,7 @@
 use Rattle.std.proofs.Common.{ℕ, List, length}
 use Rattle.sporadic_model.specs.SetDef.{SetDef}
 use Rattle.sporadic_model.specs.declared.ids.Protocol.TheVariants as protocol
-use Rattle.program_sources.specs.Bounds.{AtMost}
+use Rattle.sporadic_model.specs.Bounds.{AtMost}
 use Rattle.program_sources.specs.Fitting.{AreFitting, AreLeastFitting}
 use Rattle.blocking_columns.specs.Columns.{may_block}
 use Rattle.program_laws.specs.Programs.{rows_of, source_of, interfering_cost}

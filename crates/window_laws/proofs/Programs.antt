@@ -10,9 +10,9 @@ use Rattle.program_form.specs.Limits.{HasLimitsAtMost}
 use Rattle.sporadic_model.specs.SetDef.{SetDef}
 use Rattle.sporadic_model.specs.Accepted.{IsAccepted}
 use Rattle.sporadic_model.specs.declared.ids.Protocol.TheVariants as protocol
+use Rattle.sporadic_model.specs.Bounds.{AtMost, AreWithinDeadlines}
 use Rattle.program_sources.specs.Fitting.{ComesUpAbove}
 use Rattle.program_sources.proofs.RecurrenceLaws.{comes_up_above}
-use Rattle.program_sources.specs.Bounds.{AtMost, AreWithinDeadlines}
 use Rattle.blocking_columns.specs.Columns.{is_column, columns_of}
 use Rattle.fragments.specs.Constraints.{ConstraintDef}
 use Rattle.blocking_columns.proofs.KnownColumns.{passing_known}

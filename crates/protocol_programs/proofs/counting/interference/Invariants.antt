@@ -1,7 +1,7 @@
 use Rattle.std.proofs.Common.{◌≡◌, ◌*◌, ◌≤◌}
 use Rattle.number_laws.specs.Sums.{sum_below, only_if}
 use Rattle.sporadic_model.specs.SetDef.{is_higher_local}
-use Rattle.program_sources.specs.Bounds.{most_of_one_task}
+use Rattle.sporadic_model.specs.Bounds.{most_of_one_task}
 use Rattle.program_sources.specs.Recurrence.{interference_by}
 use Rattle.program_laws.specs.Programs.{interfering_cost}
 use Rattle.protocol_programs.proofs.counting.interference.Given as goal

@@ -1,5 +1,5 @@
 use Rattle.std.proofs.Common.{ℕ, ◌≤◌, ◌-◌, List}
-use Rattle.program_sources.specs.Bounds.{IsInRange}
+use Rattle.sporadic_model.specs.Bounds.{IsInRange}
 use Rattle.program_sources.specs.Recurrence.{source_at}
 use Rattle.program_sources.specs.Fitting.{AreBelowAllFitting}
 use Rattle.response_fixpoint.specs.Rounds.{Reaches}
