@@ -1,7 +1,6 @@
 -- Bounds on the numbers of a row, and what is subtracted from it within them.
 use Rattle.std.specs.Prelude.{◌≡◌, ℕ, ◌+◌, ◌*◌, ◌<◌, ◌≤◌, ◌^◌, length, Option, IfSome, IfNone, Result, OnErr, ℤ, unsigned_abs}
-use Rattle.whole_rows.specs.Rows.{RowDef, PivotDef, AreBelow, IsPivotOf}
-use Rattle.whole_rows.specs.Rows.{IsBounded}
+use Rattle.whole_rows.specs.Rows.{RowDef, PivotDef, AreBelow, IsBounded, IsPivotOf}
 use Rattle.whole_rows.specs.Large.{IsReducedTo, IsSizeIn, IsPast}
 use Rattle.whole_rows.specs.Steps.{LeavesRow}
 use Rattle.whole_rows.specs.declared.stops.Large.{Large}
