@@ -1,2 +1,4 @@
 pub mod Tables
+pub mod Groups
 pub mod Together
+pub mod Closer

@@ -4,6 +4,7 @@
 //! [`CloserSpin`] judges and chooses rows, gives programs and charges ticks, so the calls over a protocol's type take it.
 #![tactic(auto)]
 
+mod groups;
 mod programs;
 mod protocol;
 mod rows;

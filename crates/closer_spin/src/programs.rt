@@ -1,16 +1,17 @@
 //! What the closer programs are made of: the columns of spin locks, and rows that say more.
 
-ghost use Rattle.std.specs.Prelude.{◌<◌, map, OnOk};
+ghost use Rattle.std.specs.Prelude.{◌<◌, ◌++◌, map, OnOk};
 ghost use Rattle.schedule_model.specs.Protocols.{EachSetSuits};
 ghost use Rattle.blocking_columns.specs.ColumnDef.{column_seen};
 ghost use Rattle.spin_charging.specs.SpinPrograms.{spin_columns};
-ghost use Rattle.closer_spin_laws.specs.CloserSpinRows.{together_rows, spin_closer_rows};
+ghost use Rattle.closer_spin_laws.specs.CloserSpinRows.{together_rows, closer_spinning_rows, lone_spinning_rows, spin_closer_rows};
 ghost use Rattle.closer_spin_laws.proofs.Programs.{spin_closer_is_program};
 ghost use Rattle.blocking_columns.specs.Given.{AreInOrderAt};
 ghost use Rattle.closer_spin.specs.Tables.{CanMakeRowsWith};
 
-use crate::rows::{CloserSpinningRows, LowerSpinningRows, OtherLowerSpinningRows};
-use crate::tables::UsedBelow;
+use crate::groups::{Group, Pairing};
+use crate::rows::{CloserSpinningRows, GroupRows, PairedRows, Users};
+use crate::tables::{UsedAbove, UsedBelow};
 use direct_constraints::add_common;
 use fragments::{Fragment, RowTaker, add_per_number};
 use protocol_programs::ProgramParts;
@@ -26,16 +27,56 @@ fn add_together_rows<T: RowTaker>(
     i: TaskId,
     bounds: &[u64],
     columns: &[Fragment],
-    below: &[bool],
+    users: Users<'_>,
 ) -> Result<(), AllocError>
-    requires { CanMakeRowsWith set.now i.0 bounds.now columns.now below.now }
+    requires { CanMakeRowsWith set.now i.0 bounds.now columns.now users.below.now users.above.now }
     ensures { OnOk result (T.takes taker.old (map column_seen columns.now) (together_rows set.now i.0) bounds.now taker.new) }
 {
     let processors = set.processors();
-    let all = LowerSpinningRows { below };
+    let all = GroupRows {
+        users,
+        group: Group::All,
+    };
     add_per_number(alloc, taker, &all, set, processors, i, bounds, columns)?;
-    let others = OtherLowerSpinningRows { below };
+    let others = PairedRows {
+        users,
+        pairing: Pairing::Others,
+    };
     add_per_number(alloc, taker, &others, set, processors, i, bounds, columns)?;
+    let lone = PairedRows {
+        users,
+        pairing: Pairing::Lone,
+    };
+    add_per_number(alloc, taker, &lone, set, processors, i, bounds, columns)?;
+    Ok(())
+}
+
+/// Adds the rows of spinning, and those of resources for which only lower tasks may spin, behind those that the taker has.
+fn add_last_rows<T: RowTaker>(
+    alloc: Global,
+    taker: &mut T,
+    set: &TaskSet,
+    i: TaskId,
+    bounds: &[u64],
+    columns: &[Fragment],
+    users: Users<'_>,
+) -> Result<(), AllocError>
+    requires { CanMakeRowsWith set.now i.0 bounds.now columns.now users.below.now users.above.now }
+    ensures { OnOk result (T.takes taker.old (map column_seen columns.now)
+        (closer_spinning_rows set.now i.0 ++ lone_spinning_rows set.now i.0) bounds.now taker.new) }
+{
+    let processors = set.processors();
+    let origins = origins_of(alloc, set, columns)?;
+    let rows = CloserSpinningRows {
+        users,
+        origins: &origins,
+    };
+    add_per_number(alloc, taker, &rows, set, processors, i, bounds, columns)?;
+    let lone = GroupRows {
+        users,
+        group: Group::Lone,
+    };
+    add_per_number(alloc, taker, &lone, set, processors, i, bounds, columns)?;
     Ok(())
 }
 
@@ -53,16 +94,15 @@ fn add_rows<T: RowTaker>(
 {
     add_common(alloc, taker, set, i, bounds, columns)?;
     add_lower_requests(alloc, taker, set, i, bounds, columns)?;
-    let processors = set.processors();
-    let below = table_of(alloc, set, i, &UsedBelow)?;
-    let origins = origins_of(alloc, set, columns)?;
-    let rows = CloserSpinningRows {
-        below: &below,
-        origins: &origins,
-    };
-    add_per_number(alloc, taker, &rows, set, processors, i, bounds, columns)?;
     add_own_spinning(alloc, taker, set, i, bounds, columns)?;
-    add_together_rows(alloc, taker, set, i, bounds, columns, &below)?;
+    let below = table_of(alloc, set, i, &UsedBelow)?;
+    let above = table_of(alloc, set, i, &UsedAbove)?;
+    let users = Users {
+        below: &below,
+        above: &above,
+    };
+    add_together_rows(alloc, taker, set, i, bounds, columns, users)?;
+    add_last_rows(alloc, taker, set, i, bounds, columns, users)?;
     Ok(())
 }
 

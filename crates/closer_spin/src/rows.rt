@@ -1,17 +1,21 @@
 //! The rows in which the closer analysis differs from that of spin locks.
 
-ghost use Rattle.std.specs.Prelude.{◌≡◌, ◌<◌, ◌+◌, [], ◌∷◌, map, length, Option, OnOk};
+ghost use Rattle.std.specs.Prelude.{◌≡◌, ◌<◌, ◌+◌, [], ◌∷◌, false, map, length, OnOk};
 ghost use Rattle.blocking_columns.specs.ColumnDef.{column_seen};
-ghost use Rattle.fragments.specs.Constraints.{per};
-ghost use Rattle.closer_spin_laws.specs.CloserSpinRows.{is_spun_below, closer_spinning_row};
-ghost use Rattle.closer_spin_laws.specs.CloserSpinRows.{lower_spinning_row, other_lower_spinning_row};
-ghost use Rattle.spin_protocol.specs.Origins.{AreOrigins};
 ghost use Rattle.blocking_columns.specs.Given.{AreKnownAt};
+ghost use Rattle.fragments.specs.Constraints.{per};
+ghost use Rattle.closer_spin_laws.specs.CloserSpinRows.{is_spun_below, is_left_out, closer_spinning_row};
+ghost use Rattle.spin_protocol.specs.Origins.{AreOrigins};
 ghost use Rattle.spin_protocol.specs.Tables.{Tells};
-ghost use Rattle.closer_spin.specs.Tables.{TellsUsedBelow, TellsSpun};
-ghost use Rattle.closer_spin.specs.Together.{taken_together, row_together, AreTold};
+ghost use Rattle.closer_spin.specs.Tables.{AreUsers};
+ghost use Rattle.closer_spin.specs.Groups.{TellsThere, HasGroup};
+ghost use Rattle.closer_spin.specs.Closer.{CanAddSeveral};
+ghost use Rattle.closer_spin.specs.Together.{taken_together, row_together, paired, AreTold};
 
-use crate::tables::{SpunBelow, SpunBeside, are_several, upper_requests};
+use crate::groups::{
+    Group, InGroup, Pairing, SpunThere, is_paired, least_above, leaves_lone_out, paired, spun_there,
+};
+use crate::tables::{how_many, upper_requests};
 use fragments::{
     Constraint, Fragment, PerNumber, RowKind, RowTaker, add_per_number, add_row, add_row_limited,
 };
@@ -21,6 +25,13 @@ use std::alloc::{AllocError, Global};
 
 /// How many requests of lower tasks are open at a job's release.
 const LOWER_REQUESTS: u64 = 1;
+
+/// Which resources lower tasks use, and which are used above, as tables.
+#[derive(Clone, Copy)]
+pub(crate) struct Users<'a> {
+    pub(crate) below: &'a [bool],
+    pub(crate) above: &'a [bool],
+}
 
 /// Of a processor, counted from 1, and a resource: each request of it from the analysed task's processor spins for at most one from
 /// there. Where lower tasks may spin so, a lower request of another resource stands in the place of theirs.
@@ -36,7 +47,8 @@ impl RowKind for CloserSpinningRow {
 
     ghost fits = { λ k set. k.resource.0 < length set.resources };
 
-    ghost over = { λ k set i c. k.is_spun_below ≡ is_spun_below set i k.processor k.resource.0 };
+    ghost over = { λ k set i c. (k.is_spun_below ≡ is_spun_below set i k.processor k.resource.0)
+        × (is_left_out set i k.processor k.resource.0 ≡ false) };
 
     fn coefficient(&self, set: &TaskSet, _i: TaskId, column: Fragment) -> u64 {
         if column.class.is_preemption() {
@@ -53,19 +65,21 @@ impl Constraint for CloserSpinningRow {
     }
 }
 
-/// The rows of a processor for each resource, with the resources for which lower tasks may spin there, and the table of where the columns
-/// come from.
+/// The rows of a processor for each resource, with the resources for which lower tasks may spin there, whether lone ones are left out, and
+/// the table of where the columns come from.
 #[derive(Drop)]
 struct CloserSpinningFrom<'a> {
-    processor: u32,
-    spun: Vec<bool>,
+    there: SpunThere,
+    leaves_out: bool,
     origins: &'a [bool],
 }
 
 impl<'a> PerNumber for CloserSpinningFrom<'a> {
-    ghost rows_of = { λ k set i q. closer_spinning_row set i k.processor q ∷ [] };
+    ghost use Rattle.closer_spin.specs.Closer.{CanMakeCloser};
 
-    ghost fits = { λ k set i columns q. (q < length set.resources) × (TellsSpun set i k.processor k.spun.items × AreOrigins set columns k.origins.now) };
+    ghost rows_of = { λ k set i q. closer_spinning_row set i k.there.processor q ∷ [] };
+
+    ghost fits = { λ k set i columns q. CanMakeCloser set i k.there k.leaves_out q columns k.origins.now };
 
     fn add<T: RowTaker>(
         &self,
@@ -77,14 +91,18 @@ impl<'a> PerNumber for CloserSpinningFrom<'a> {
         bounds: &[u64],
         columns: &[Fragment],
     ) -> Result<(), AllocError> {
-        // the tasks of most processors use few of the resources
         let resource = ResourceId(number);
-        let is_spun_below = self.spun[number as usize];
-        if !is_spun_below && !is_origin(self.origins, self.processor, resource) {
+        let processor = self.there.processor;
+        let is_spun_below = self.there.spun[number as usize];
+        if self.leaves_out && self.there.lone[number as usize] {
+            return Ok(());
+        }
+        // the tasks of most processors use few of the resources
+        if !is_spun_below && !is_origin(self.origins, processor, resource) {
             return Ok(());
         }
         let row = CloserSpinningRow {
-            processor: self.processor,
+            processor,
             resource,
             is_spun_below,
         };
@@ -95,14 +113,15 @@ impl<'a> PerNumber for CloserSpinningFrom<'a> {
 /// The rows of each processor, with the resources that lower tasks use.
 #[derive(Drop)]
 pub(crate) struct CloserSpinningRows<'a> {
-    pub(crate) below: &'a [bool],
+    pub(crate) users: Users<'a>,
     pub(crate) origins: &'a [bool],
 }
 
 impl<'a> PerNumber for CloserSpinningRows<'a> {
     ghost rows_of = { λ k set i n. per (length set.resources) (closer_spinning_row set i (n + 1)) };
 
-    ghost fits = { λ k set i columns n. (n < set.processors) × (TellsUsedBelow set i k.below.now × AreOrigins set columns k.origins.now) };
+    ghost fits = { λ k set i columns n. (n < set.processors)
+        × (AreUsers set i k.users.below.now k.users.above.now × AreOrigins set columns k.origins.now) };
 
     fn add<T: RowTaker>(
         &self,
@@ -114,40 +133,40 @@ impl<'a> PerNumber for CloserSpinningRows<'a> {
         bounds: &[u64],
         columns: &[Fragment],
     ) -> Result<(), AllocError> {
-        // a set has few processors
+        // a set has few processors and resources
         let _processors = set.processors();
-        let processor = number + 1;
+        let resources = set.resources();
+        let there = spun_there(
+            alloc,
+            set,
+            i,
+            number + 1,
+            self.users.below,
+            self.users.above,
+        )?;
+        let leaves_out = leaves_lone_out(set, i, &there);
         let rows = CloserSpinningFrom {
-            processor,
-            spun: table_of(
-                alloc,
-                set,
-                i,
-                &SpunBelow {
-                    processor,
-                    below: self.below,
-                },
-            )?,
+            there,
+            leaves_out,
             origins: self.origins,
         };
-        let resources = set.resources();
         add_per_number(alloc, taker, &rows, set, resources, i, bounds, columns)
     }
 }
 
 /// Of a processor and several resources of a table: their requests from the analysed task's processor each spin for at most one from
-/// there, of lower tasks one of these or of another resource. The resources are all for which lower tasks may spin there, or all but one.
+/// there, of lower tasks one of these or of another resource.
 #[derive(Drop)]
 struct TogetherRow {
     processor: u32,
-    without: Option<ResourceId>,
+    group: Group,
     table: Vec<bool>,
 }
 
 impl RowKind for TogetherRow {
-    ghost row_of = { λ k set i. row_together set i k.processor k.without };
+    ghost row_of = { λ k set i. row_together set i k.processor k.group };
 
-    ghost over = { λ k set i c. AreTold set i k.processor k.without k.table.items };
+    ghost over = { λ k set i c. AreTold set i k.processor k.group k.table.items };
 
     fn coefficient(&self, set: &TaskSet, _i: TaskId, column: Fragment) -> u64 {
         let passes = self.table[column.resource.0 as usize];
@@ -160,7 +179,7 @@ impl RowKind for TogetherRow {
 }
 
 /// Adds the row of these resources behind those that the taker has, if they are several.
-fn add_together<T: RowTaker>(
+fn add_several<T: RowTaker>(
     alloc: Global,
     taker: &mut T,
     set: &TaskSet,
@@ -169,14 +188,13 @@ fn add_together<T: RowTaker>(
     columns: &[Fragment],
     row: &TogetherRow,
 ) -> Result<(), AllocError>
-    requires can { AreKnownAt set.now bounds.now i.0 columns.now }
-    requires table { Tells (length set.now.resources) (taken_together set.now i.0 row.now.processor row.now.without) row.now.table.items }
+    requires { CanAddSeveral set.now i.0 bounds.now columns.now row.now }
     ensures { OnOk result (T.takes taker.old (map column_seen columns.now)
-        (row_together set.now i.0 row.now.processor row.now.without ∷ []) bounds.now taker.new) }
+        (row_together set.now i.0 row.now.processor row.now.group ∷ []) bounds.now taker.new) }
 {
     // a set has at most 32 resources
     let _resources = set.resources();
-    if !are_several(&row.table) {
+    if how_many(&row.table) <= 1 {
         return Ok(());
     }
     let limit = LOWER_REQUESTS + upper_requests(set, i, &row.table, bounds);
@@ -184,16 +202,46 @@ fn add_together<T: RowTaker>(
     add_row_limited(alloc, taker, row, set, i, bounds, columns, all, limit)
 }
 
-/// The row of each processor of all resources for which lower tasks may spin there.
-#[derive(Drop)]
-pub(crate) struct LowerSpinningRows<'a> {
-    pub(crate) below: &'a [bool],
+/// Adds the row of the group behind those that the taker has, if its resources are several, and enough of them are used above.
+fn add_group<T: RowTaker>(
+    alloc: Global,
+    taker: &mut T,
+    set: &TaskSet,
+    i: TaskId,
+    bounds: &[u64],
+    columns: &[Fragment],
+    there: &SpunThere,
+    group: Group,
+) -> Result<(), AllocError>
+    requires can { AreKnownAt set.now bounds.now i.0 columns.now }
+    requires there { TellsThere set.now i.0 there.now }
+    requires known { HasGroup set.now group }
+    ensures { OnOk result (T.takes taker.old (map column_seen columns.now)
+        (row_together set.now i.0 there.now.processor group ∷ []) bounds.now taker.new) }
+{
+    if there.above < least_above(group) {
+        return Ok(());
+    }
+    let row = TogetherRow {
+        processor: there.processor,
+        group,
+        table: table_of(alloc, set, i, &InGroup { there, group })?,
+    };
+    add_several(alloc, taker, set, i, bounds, columns, &row)
 }
 
-impl<'a> PerNumber for LowerSpinningRows<'a> {
-    ghost rows_of = { λ k set i n. lower_spinning_row set i (n + 1) ∷ [] };
+/// The row of each processor of a group that names no resource.
+#[derive(Drop)]
+pub(crate) struct GroupRows<'a> {
+    pub(crate) users: Users<'a>,
+    pub(crate) group: Group,
+}
 
-    ghost fits = { λ k set i columns n. (n < set.processors) × TellsUsedBelow set i k.below.now };
+impl<'a> PerNumber for GroupRows<'a> {
+    ghost rows_of = { λ k set i n. row_together set i (n + 1) k.group ∷ [] };
+
+    ghost fits = { λ k set i columns n. (n < set.processors)
+        × (AreUsers set i k.users.below.now k.users.above.now × HasGroup set k.group) };
 
     fn add<T: RowTaker>(
         &self,
@@ -207,35 +255,29 @@ impl<'a> PerNumber for LowerSpinningRows<'a> {
     ) -> Result<(), AllocError> {
         // a set has few processors
         let _processors = set.processors();
-        let processor = number + 1;
-        let row = TogetherRow {
-            processor,
-            without: None,
-            table: table_of(
-                alloc,
-                set,
-                i,
-                &SpunBelow {
-                    processor,
-                    below: self.below,
-                },
-            )?,
-        };
-        add_together(alloc, taker, set, i, bounds, columns, &row)
+        let there = spun_there(
+            alloc,
+            set,
+            i,
+            number + 1,
+            self.users.below,
+            self.users.above,
+        )?;
+        add_group(alloc, taker, set, i, bounds, columns, &there, self.group)
     }
 }
 
-/// The rows of a processor for each resource: of all of them but that one.
+/// The rows of a processor for each resource that is used above, with what is taken beside it or in its place.
 #[derive(Drop)]
-struct OtherLowerSpinningFrom {
-    processor: u32,
-    spun: Vec<bool>,
+struct PairedFrom {
+    there: SpunThere,
+    pairing: Pairing,
 }
 
-impl PerNumber for OtherLowerSpinningFrom {
-    ghost rows_of = { λ k set i q. other_lower_spinning_row set i k.processor q ∷ [] };
+impl PerNumber for PairedFrom {
+    ghost rows_of = { λ k set i q. row_together set i k.there.processor (paired k.pairing q) ∷ [] };
 
-    ghost fits = { λ k set i columns q. (q < length set.resources) × TellsSpun set i k.processor k.spun.items };
+    ghost fits = { λ k set i columns q. (q < length set.resources) × TellsThere set i k.there };
 
     fn add<T: RowTaker>(
         &self,
@@ -248,38 +290,25 @@ impl PerNumber for OtherLowerSpinningFrom {
         columns: &[Fragment],
     ) -> Result<(), AllocError> {
         // lower tasks spin for few resources
-        if !self.spun[number as usize] {
+        if !is_paired(set, i, &self.there, self.pairing, number) {
             return Ok(());
         }
-        let without = ResourceId(number);
-        let row = TogetherRow {
-            processor: self.processor,
-            without: Some(without),
-            table: table_of(
-                alloc,
-                set,
-                i,
-                &SpunBeside {
-                    processor: self.processor,
-                    without,
-                    spun: &self.spun,
-                },
-            )?,
-        };
-        add_together(alloc, taker, set, i, bounds, columns, &row)
+        let group = paired(self.pairing, number);
+        add_group(alloc, taker, set, i, bounds, columns, &self.there, group)
     }
 }
 
 /// The rows of each processor.
 #[derive(Drop)]
-pub(crate) struct OtherLowerSpinningRows<'a> {
-    pub(crate) below: &'a [bool],
+pub(crate) struct PairedRows<'a> {
+    pub(crate) users: Users<'a>,
+    pub(crate) pairing: Pairing,
 }
 
-impl<'a> PerNumber for OtherLowerSpinningRows<'a> {
-    ghost rows_of = { λ k set i n. per (length set.resources) (other_lower_spinning_row set i (n + 1)) };
+impl<'a> PerNumber for PairedRows<'a> {
+    ghost rows_of = { λ k set i n. per (length set.resources) (λ q. row_together set i (n + 1) (paired k.pairing q)) };
 
-    ghost fits = { λ k set i columns n. (n < set.processors) × TellsUsedBelow set i k.below.now };
+    ghost fits = { λ k set i columns n. (n < set.processors) × AreUsers set i k.users.below.now k.users.above.now };
 
     fn add<T: RowTaker>(
         &self,
@@ -293,20 +322,18 @@ impl<'a> PerNumber for OtherLowerSpinningRows<'a> {
     ) -> Result<(), AllocError> {
         // a set has few processors
         let _processors = set.processors();
-        let processor = number + 1;
-        let rows = OtherLowerSpinningFrom {
-            processor,
-            spun: table_of(
+        let resources = set.resources();
+        let rows = PairedFrom {
+            there: spun_there(
                 alloc,
                 set,
                 i,
-                &SpunBelow {
-                    processor,
-                    below: self.below,
-                },
+                number + 1,
+                self.users.below,
+                self.users.above,
             )?,
+            pairing: self.pairing,
         };
-        let resources = set.resources();
         add_per_number(alloc, taker, &rows, set, resources, i, bounds, columns)
     }
 }

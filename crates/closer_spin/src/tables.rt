@@ -1,11 +1,12 @@
 //! Resources that pass a test, as tables, and sums over them.
 
-ghost use Rattle.std.specs.Prelude.{◌≡◌, ◌<◌, ◌≤◌, false, nat_lt, length, slice_index_or};
+ghost use Rattle.std.specs.Prelude.{◌≡◌, ◌<◌, ◌≤◌, false, length, slice_index_or};
 ghost use Rattle.number_laws.specs.Tests.{count_below};
 ghost use Rattle.spin_charging.specs.SpinPrograms.{is_used_below};
-ghost use Rattle.closer_spin_laws.specs.CloserSpinRows.{is_used_on, is_spun_below, is_spun_beside};
-ghost use Rattle.closer_spin.specs.Tables.{TellsUsedBelow, TellsSpun, AreTaskAndTable, IsUpperCount};
+ghost use Rattle.closer_spin_laws.specs.CloserSpinRows.{is_used_on, is_used_above, is_spun_below, is_spun_above, is_lone, is_set_apart};
+ghost use Rattle.closer_spin.specs.Tables.{TellsUsedBelow, TellsUsedAbove, TellsSpun, AreTaskAndTable, IsUpperCount};
 
+use blocking_columns::share_processor;
 use spin_protocol::{ResourceTest, higher_requests, is_used_below};
 use sporadic_model::{ResourceId, TaskId, TaskSet};
 
@@ -21,6 +22,35 @@ fn is_used_on(set: &TaskSet, processor: u32, q: ResourceId) -> bool
         }
     }
     false
+}
+
+/// Does `i`, or a higher task of its processor, use the resource?
+fn is_used_above(set: &TaskSet, i: TaskId, q: ResourceId) -> bool
+    requires task { i.0 < length set.now.tasks }
+    requires resource { q.0 < length set.now.resources }
+    ensures { result ≡ is_used_above set.now i.0 q.0 }
+{
+    let users = set.users(q);
+    for x in users {
+        if x.0 <= i.0 && share_processor(set, *x, i) {
+            return true;
+        }
+    }
+    false
+}
+
+/// The same as a test.
+#[derive(Drop)]
+pub(crate) struct UsedAbove;
+
+impl ResourceTest for UsedAbove {
+    ghost fits = { λ t set i. i < length set.tasks };
+
+    ghost passes = { λ t. is_used_above };
+
+    fn test(&self, set: &TaskSet, i: TaskId, q: ResourceId) -> bool {
+        is_used_above(set, i, q)
+    }
 }
 
 /// Does a lower task of `i`'s processor use the resource?
@@ -58,29 +88,70 @@ impl<'a> ResourceTest for SpunBelow<'a> {
     }
 }
 
-/// May a lower task of `i`'s processor spin for requests of both resources by tasks of the processor, where the table tells for which it
-/// may, and are they two?
+/// May such a task spin for it there, and is it used above? The tables tell for which resources lower tasks may spin, and which are used
+/// above.
 #[derive(Drop)]
-pub(crate) struct SpunBeside<'a> {
+pub(crate) struct SpunAbove<'a> {
     pub(crate) processor: u32,
-    pub(crate) without: ResourceId,
     pub(crate) spun: &'a [bool],
+    pub(crate) above: &'a [bool],
 }
 
-impl<'a> ResourceTest for SpunBeside<'a> {
-    ghost fits = { λ t set i. (t.without.0 < length set.resources) × TellsSpun set i t.processor t.spun.now };
+impl<'a> ResourceTest for SpunAbove<'a> {
+    ghost fits = { λ t set i. TellsSpun set i t.processor t.spun.now × TellsUsedAbove set i t.above.now };
 
-    ghost passes = { λ t set i. is_spun_beside set i t.processor t.without.0 };
+    ghost passes = { λ t set i. is_spun_above set i t.processor };
 
     fn test(&self, _set: &TaskSet, _i: TaskId, q: ResourceId) -> bool {
-        self.spun[self.without.0 as usize] && (self.spun[q.0 as usize] && q != self.without)
+        self.spun[q.0 as usize] && self.above[q.0 as usize]
     }
 }
 
-/// Do two resources of the table pass, or more?
-pub(crate) fn are_several(table: &[bool]) -> bool
+/// May only lower tasks spin for it there?
+#[derive(Drop)]
+pub(crate) struct Lone<'a> {
+    pub(crate) processor: u32,
+    pub(crate) spun: &'a [bool],
+    pub(crate) above: &'a [bool],
+}
+
+impl<'a> ResourceTest for Lone<'a> {
+    ghost fits = { λ t set i. TellsSpun set i t.processor t.spun.now × TellsUsedAbove set i t.above.now };
+
+    ghost passes = { λ t set i. is_lone set i t.processor };
+
+    fn test(&self, _set: &TaskSet, _i: TaskId, q: ResourceId) -> bool {
+        self.spun[q.0 as usize] && !self.above[q.0 as usize]
+    }
+}
+
+/// Have all resources for which lower tasks may spin but it a row? The tables tell which of them are used above and which are lone, and the
+/// numbers how many are used above, and whether they are many.
+#[derive(Drop)]
+pub(crate) struct SetApart<'a> {
+    pub(crate) processor: u32,
+    pub(crate) shared: &'a [bool],
+    pub(crate) lone: &'a [bool],
+    pub(crate) above: u32,
+    pub(crate) many: bool,
+}
+
+impl<'a> ResourceTest for SetApart<'a> {
+    ghost use Rattle.closer_spin.specs.Tables.{CanSetApart};
+
+    ghost fits = { λ t set i. CanSetApart set i t.processor t.shared.now t.lone.now t.above t.many };
+
+    ghost passes = { λ t set i. is_set_apart set i t.processor };
+
+    fn test(&self, _set: &TaskSet, _i: TaskId, q: ResourceId) -> bool {
+        (self.shared[q.0 as usize] && self.above > 1) || (self.lone[q.0 as usize] && !self.many)
+    }
+}
+
+/// How many resources of the table pass?
+pub(crate) fn how_many(table: &[bool]) -> u32
     requires { length table.now ≤ 32 }
-    ensures { result ≡ nat_lt 1 (count_below (length table.now) (λ q. slice_index_or table.now q false)) }
+    ensures { result ≡ count_below (length table.now) (λ q. slice_index_or table.now q false) }
 {
     let mut count = 0u32;
     for q in 0..table.len() {
@@ -88,7 +159,7 @@ pub(crate) fn are_several(table: &[bool]) -> bool
             count += 1;
         }
     }
-    count > 1
+    count
 }
 
 /// How many requests of the resources of the table do `i` and the higher tasks of its processor make while a job of `i` runs?

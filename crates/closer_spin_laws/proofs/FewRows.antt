@@ -1,6 +1,6 @@
 -- How many rows a program with the closer rows has at most.
 use Rattle.std.proofs.Common.{◌≡◌, ℕ, ◌+◌, ◌-◌, ◌<◌, ◌≤◌, ◌==◌, ◌&&◌, not, Bool, true, false, List, [], ◌∷◌, ◌++◌, length, arith}
-use Rattle.std.proofs.Common.{nat_lt, if◌then◌else◌}
+use Rattle.std.proofs.Common.{nat_lt, nat_le, refl, ◌||◌, if◌then◌else◌}
 use Rattle.std.specs.List.{All}
 use Rattle.std.proofs.lemmas.Bool.{and_parts, and_from, eqb-true, ltb-true}
 use Rattle.std.proofs.lemmas.List.Elements.{All-get_or, All-from_get_or}
@@ -25,8 +25,11 @@ use Rattle.program_laws.proofs.UsedResources.{pairs_few}
 use Rattle.program_laws.proofs.PlacedRows.{PlacedAt, count_below-placed, there_behind, height_is, columns_by_requests, columns_by_of_others}
 use Rattle.charge_laws.specs.Fractions.{no_column}
 use Rattle.spin_charging.specs.SpinPrograms.{blocks_by_spinning, is_spin_column, spin_columns, lower_request_row, is_from, own_spinning_row}
-use Rattle.closer_spin_laws.specs.CloserSpinRows.{is_used_on, is_spun_below, is_spun_beside, closer_spinning_row, other_lower_spinning_row}
-use Rattle.closer_spin_laws.specs.CloserSpinRows.{lower_spinning_row, is_of_slot, closer_spinning_rows, own_spinning_rows, together_rows}
+use Rattle.closer_spin_laws.specs.CloserSpinRows.{is_used_on, is_spun_below, is_spun_above, is_lone, are_many_spun, is_left_out}
+use Rattle.closer_spin_laws.specs.CloserSpinRows.{is_set_apart, is_spun_beside, is_spun_with}
+use Rattle.closer_spin_laws.specs.CloserSpinRows.{is_in_place, is_of_slot, used_above, closer_spinning_row, together_row}
+use Rattle.closer_spin_laws.specs.CloserSpinRows.{lower_spinning_row, other_lower_spinning_row, lone_spinning_with_row, lone_spinning_row}
+use Rattle.closer_spin_laws.specs.CloserSpinRows.{closer_spinning_rows, own_spinning_rows, together_rows, lone_spinning_rows}
 use Rattle.closer_spin_laws.specs.CloserSpinRows.{spin_closer_rows, spin_closer_program}
 
 -- A column of a user, of a task and a resource of the set, that has a coefficient in the row.
@@ -65,7 +68,8 @@ abbrev IsOfUsed : SetDef → ℕ → ℕ → ConstraintDef → Type 0
 IsOfUsed set k q row = ColumnIn set row → is_used_on set (k + 1) q ≡ true
 
 spinning_of : (set : SetDef) (i k q : ℕ) → IsOfUsed set k q (closer_spinning_row set i (k + 1) q)
-spinning_of set i k q a = by_class (is_preemption a.column.class) (flag-passes _ a.some) where
+spinning_of set i k q a = by_class (is_preemption a.column.class)
+    (and_parts _ _ (flag-passes (not (is_left_out set i (k + 1) q) && is_in_place set i (k + 1) q a.column) a.some)).1 where
   by_class : (p : Bool)
       → (if p then is_spun_below set i (k + 1) q && not (a.column.resource == q) else is_from set (k + 1) q a.column) ≡ true
       → is_used_on set (k + 1) q ≡ true
@@ -76,14 +80,36 @@ own_of : (set : SetDef) (i k q : ℕ) → IsOfUsed set k q (own_spinning_row set
 own_of set i k q a = used_from set (k + 1) q a.column
     (and_parts _ _ (flag-passes (is_from set (k + 1) q a.column && is_direct a.column.class) a.some)).0 a.user a.listed
 
+-- Where several resources have a row together, one of them passes.
+one_passes : (set : SetDef) (i k least : ℕ) (passes : ℕ → Bool) (c : ColumnDef) → 0 < (together_row set i k least passes).coefficient c
+    → (r : ℕ) × (r < length set.resources) × (passes r ≡ true)
+one_passes set i k least passes c some =
+    let several : (nat_lt 1 (count_below (length set.resources) passes) && nat_le least (used_above set i k)) ≡ true =
+    (and_parts _ _ (flag-passes ((nat_lt 1 (count_below (length set.resources) passes) && nat_le least (used_above set i k))
+    && is_of_slot set k passes c) some)).0 in
+    let more : nat_lt 1 (count_below (length set.resources) passes) ≡ true =
+    (and_parts (nat_lt 1 (count_below (length set.resources) passes)) (nat_le least (used_above set i k)) several).0 in
+    count_below-some (length set.resources) passes (omega (arith, ltb-true 1 (count_below (length set.resources) passes) more))
+
+-- What is set apart is spun for.
+apart_spun : (set : SetDef) (i k q : ℕ) → is_set_apart set i k q ≡ true → is_spun_below set i k q ≡ true
+apart_spun set i k q h = by_first (is_spun_above set i k q && nat_lt 1 (used_above set i k)) refl h where
+  by_first : (b : Bool) → (is_spun_above set i k q && nat_lt 1 (used_above set i k)) ≡ b
+      → (b || (is_lone set i k q && not (are_many_spun set i k))) ≡ true → is_spun_below set i k q ≡ true
+  by_first true first e = (and_parts _ _ (and_parts (is_spun_above set i k q) _ first).0).0
+  by_first false first e = (and_parts _ _ (and_parts (is_lone set i k q) _ e).0).0
+
 other_of : (set : SetDef) (i k q : ℕ) → IsOfUsed set k q (other_lower_spinning_row set i (k + 1) q)
 other_of set i k q a =
     let passes : ℕ → Bool = is_spun_beside set i (k + 1) q in
-    let several : nat_lt 1 (count_below (length set.resources) passes) ≡ true =
-    (and_parts _ _ (flag-passes (nat_lt 1 (count_below (length set.resources) passes) && is_of_slot set (k + 1) passes a.column) a.some)).0 in
-    let some : (r : ℕ) × (r < length set.resources) × (passes r ≡ true) =
-    count_below-some (length set.resources) passes (omega (arith, ltb-true 1 _ several)) in
-    spun_used set i (k + 1) q (and_parts (is_spun_below set i (k + 1) q) _ some.2).0
+    let some : (r : ℕ) × (r < length set.resources) × (passes r ≡ true) = one_passes set i (k + 1) 0 passes a.column a.some in
+    spun_used set i (k + 1) q (apart_spun set i (k + 1) q (and_parts (is_set_apart set i (k + 1) q) _ some.2).0)
+
+with_of : (set : SetDef) (i k q : ℕ) → IsOfUsed set k q (lone_spinning_with_row set i (k + 1) q)
+with_of set i k q a =
+    let passes : ℕ → Bool = is_spun_with set i (k + 1) q in
+    let some : (r : ℕ) × (r < length set.resources) × (passes r ≡ true) = one_passes set i (k + 1) 3 passes a.column a.some in
+    spun_used set i (k + 1) q (and_parts _ _ (and_parts (is_spun_above set i (k + 1) q) _ some.2).0).0
 
 -- The number of a task's processor, from 0 on.
 abbrev processor_number : SetDef → ℕ → ℕ
@@ -118,24 +144,27 @@ used_rows_few test set row accepted users of =
       pairs_few set accepted,
     )
 
-together_few : (set : SetDef) (i : ℕ) → IsAccepted set → length (rows_there (spin_columns set i) (together_rows set i)) ≤ 320
+together_few : (set : SetDef) (i : ℕ) → IsAccepted set → length (rows_there (spin_columns set i) (together_rows set i)) ≤ 576
 together_few set i accepted =
     let cs : List ColumnDef = spin_columns set i in
     let all = per set.processors (λ k. lower_spinning_row set i (k + 1)) in
     let others = per_pair set.processors (length set.resources) (λ k q. other_lower_spinning_row set i (k + 1) q) in
+    let with_one = per_pair set.processors (length set.resources) (λ k q. lone_spinning_with_row set i (k + 1) q) in
+    let users = columns_by_requests (blocks_by_spinning set i) set i in
     let f : Few set = few set accepted in
     omega (
       arith,
-      there_behind cs all others,
+      there_behind cs all (others ++ with_one),
+      there_behind cs others with_one,
       filter_shorter (holds_some cs) all,
       per_at_most set.processors (λ k. lower_spinning_row set i (k + 1)),
       f.processors,
-      used_rows_few (is_spin_column set i) set (λ k q. other_lower_spinning_row set i (k + 1) q) accepted
-          (columns_by_requests (blocks_by_spinning set i) set i) (other_of set i),
+      used_rows_few (is_spin_column set i) set (λ k q. other_lower_spinning_row set i (k + 1) q) accepted users (other_of set i),
+      used_rows_few (is_spin_column set i) set (λ k q. lone_spinning_with_row set i (k + 1) q) accepted users (with_of set i),
     )
 
 rows_at_most : (set : SetDef) (i : ℕ) → IsAccepted set → i < length set.tasks
-    → length (rows_there (spin_columns set i) (spin_closer_rows set i)) ≤ 1152
+    → length (rows_there (spin_columns set i) (spin_closer_rows set i)) ≤ 1472
 rows_at_most set i accepted here =
     let test : ColumnDef → Bool = is_spin_column set i in
     let cs : List ColumnDef = spin_columns set i in
@@ -144,12 +173,17 @@ rows_at_most set i accepted here =
     let spinning = closer_spinning_rows set i in
     let own = own_spinning_rows set i in
     let together = together_rows set i in
+    let lone = lone_spinning_rows set i in
     omega (
       arith,
-      there_behind cs (common_rows set i) (lower ++ (spinning ++ (own ++ together))),
-      there_behind cs lower (spinning ++ (own ++ together)),
-      there_behind cs spinning (own ++ together),
-      there_behind cs own together,
+      there_behind cs (common_rows set i) (lower ++ (own ++ (together ++ (spinning ++ lone)))),
+      there_behind cs lower (own ++ (together ++ (spinning ++ lone))),
+      there_behind cs own (together ++ (spinning ++ lone)),
+      there_behind cs together (spinning ++ lone),
+      there_behind cs spinning lone,
+      filter_shorter (holds_some cs) lone,
+      per_at_most set.processors (λ k. lone_spinning_row set i (k + 1)),
+      (few set accepted).processors,
       common_there test set i accepted here users (columns_by_of_others (blocks_by_spinning set i) set i),
       filter_shorter (holds_some cs) lower,
       used_rows_few test set (λ k q. closer_spinning_row set i (k + 1) q) accepted users (spinning_of set i),
@@ -158,6 +192,6 @@ rows_at_most set i accepted here =
     )
 
 pub spin_closer_height : (set : SetDef) (i : ℕ) (r : List ℕ) → IsAccepted set → i < length set.tasks
-    → height (spin_closer_program set i r) ≤ 1152
+    → height (spin_closer_program set i r) ≤ 1472
 spin_closer_height set i r accepted here =
     omega (arith, height_is set (spin_columns set i) (spin_closer_rows set i) r, rows_at_most set i accepted here)

@@ -33,7 +33,7 @@ spinning_met w bound n j window keeps = record {
   lower = lower_request_row_met w bound n j window keeps;
   spinning = λ k q a b. closer_spinning_row_met w bound n j (k + 1) q window keeps;
   own = λ k q a b. own_spinning_row_met w bound n j (k + 1) q window keeps;
-  together = λ k passes a. together_row_met w bound n j (k + 1) passes window keeps;
+  together = λ k least passes a. together_row_met w bound n j (k + 1) least passes window keeps;
 }
 
 rows_met : (w : Trace) (bound : ℕ → ℕ) (n j : ℕ) → Window spin_charge w bound n j → KeepsBefore spin_rule w n

@@ -31,8 +31,9 @@ use Rattle.program_laws.proofs.GivenPrograms.{limits_at_most, limits_stay, is_pr
 use Rattle.spin_charging.specs.SpinPrograms.{is_spin_column, spin_columns, lower_request_row, own_spinning_row, is_used_below}
 use Rattle.spin_charging.specs.SpinPrograms.{higher_requests, upper_requests}
 use Rattle.spin_charging.proofs.SpinPrograms.{higher_rise, higher_small}
-use Rattle.closer_spin_laws.specs.CloserSpinRows.{is_spun_below, is_spun_beside, closer_spinning_row, together_row, lower_spinning_row}
-use Rattle.closer_spin_laws.specs.CloserSpinRows.{other_lower_spinning_row, closer_spinning_rows, own_spinning_rows, together_rows}
+use Rattle.closer_spin_laws.specs.CloserSpinRows.{is_spun_below, is_spun_beside, is_spun_with, is_lone, closer_spinning_row, together_row}
+use Rattle.closer_spin_laws.specs.CloserSpinRows.{lower_spinning_row, other_lower_spinning_row, lone_spinning_with_row, lone_spinning_row}
+use Rattle.closer_spin_laws.specs.CloserSpinRows.{closer_spinning_rows, own_spinning_rows, together_rows, lone_spinning_rows}
 use Rattle.closer_spin_laws.specs.CloserSpinRows.{spin_closer_rows, spin_closer_program, spin_closer_source}
 
 -- Is P true of each kind of row that spin locks have of their own?
@@ -40,15 +41,27 @@ pub record EachSpinning (P : ConstraintDef → Type 0) (set : SetDef) (i : ℕ) 
   pub lower : P lower_request_row
   pub spinning : (k q : ℕ) → k < set.processors → q < length set.resources → P (closer_spinning_row set i (k + 1) q)
   pub own : (k q : ℕ) → k < set.processors → q < length set.resources → P (own_spinning_row set i (k + 1) q)
-  pub together : (k : ℕ) (passes : ℕ → Bool) → k < set.processors → P (together_row set i (k + 1) passes)
+  pub together : (k least : ℕ) (passes : ℕ → Bool) → k < set.processors → P (together_row set i (k + 1) least passes)
 
 together_each : (P : ConstraintDef → Type 0) (set : SetDef) (i : ℕ) → EachSpinning P set i → All P (together_rows set i)
 together_each P set i each =
     All-append P (per set.processors (λ k. lower_spinning_row set i (k + 1)))
-    (per_pair set.processors (length set.resources) (λ k q. other_lower_spinning_row set i (k + 1) q))
-    (all_per P set.processors (λ k. lower_spinning_row set i (k + 1)) (λ k a. each.together k (is_spun_below set i (k + 1)) a))
+    (others ++ with_one)
+    (all_per P set.processors (λ k. lower_spinning_row set i (k + 1)) (λ k a. each.together k 1 (is_spun_below set i (k + 1)) a))
+    (All-append P others with_one
     (all_per_pair P set.processors (length set.resources) (λ k q. other_lower_spinning_row set i (k + 1) q)
-    (λ k q a b. each.together k (is_spun_beside set i (k + 1) q) a))
+    (λ k q a b. each.together k 0 (is_spun_beside set i (k + 1) q) a))
+    (all_per_pair P set.processors (length set.resources) (λ k q. lone_spinning_with_row set i (k + 1) q)
+    (λ k q a b. each.together k 3 (is_spun_with set i (k + 1) q) a))) where
+      others : List ConstraintDef
+      others = per_pair set.processors (length set.resources) (λ k q. other_lower_spinning_row set i (k + 1) q)
+
+      with_one : List ConstraintDef
+      with_one = per_pair set.processors (length set.resources) (λ k q. lone_spinning_with_row set i (k + 1) q)
+
+lone_each : (P : ConstraintDef → Type 0) (set : SetDef) (i : ℕ) → EachSpinning P set i → All P (lone_spinning_rows set i)
+lone_each P set i each =
+    all_per P set.processors (λ k. lone_spinning_row set i (k + 1)) (λ k a. each.together k 0 (is_lone set i (k + 1)) a)
 
 -- Then it is true of all rows, where it is of those that every protocol has.
 pub spin_closer_each : (P : ConstraintDef → Type 0) (set : SetDef) (i : ℕ) → All P (common_rows set i) → EachSpinning P set i
@@ -56,13 +69,17 @@ pub spin_closer_each : (P : ConstraintDef → Type 0) (set : SetDef) (i : ℕ) �
 spin_closer_each P set i common each =
     All-append P (common_rows set i) (lower_request_row ∷ rest) common
     (All-cons P lower_request_row rest each.lower
-    (All-append P (closer_spinning_rows set i) (own_spinning_rows set i ++ together_rows set i)
-    (all_per_pair P set.processors (length set.resources) (λ k q. closer_spinning_row set i (k + 1) q) each.spinning)
-    (All-append P (own_spinning_rows set i) (together_rows set i)
+    (All-append P (own_spinning_rows set i) (together_rows set i ++ last)
     (all_per_pair P set.processors (length set.resources) (λ k q. own_spinning_row set i (k + 1) q) each.own)
-    (together_each P set i each)))) where
+    (All-append P (together_rows set i) last (together_each P set i each)
+    (All-append P (closer_spinning_rows set i) (lone_spinning_rows set i)
+    (all_per_pair P set.processors (length set.resources) (λ k q. closer_spinning_row set i (k + 1) q) each.spinning)
+    (lone_each P set i each))))) where
+      last : List ConstraintDef
+      last = closer_spinning_rows set i ++ lone_spinning_rows set i
+
       rest : List ConstraintDef
-      rest = closer_spinning_rows set i ++ (own_spinning_rows set i ++ together_rows set i)
+      rest = own_spinning_rows set i ++ (together_rows set i ++ last)
 
 -- The requests of i and of higher tasks rise with the jobs that can run, and are not many.
 upper_rise : (set : SetDef) (i : ℕ) (passes : ℕ → Bool) (r s : List ℕ) → i < length set.tasks → HasJobsAtMost set i r s
@@ -89,7 +106,7 @@ rises set i r s here h = record {
   lower = omega arith;
   spinning = λ k q a b. omega (arith, higher_rise set i q r s here h);
   own = λ k q a b. omega arith;
-  together = λ k passes a. omega (arith, upper_rise set i passes r s here h);
+  together = λ k least passes a. omega (arith, upper_rise set i passes r s here h);
 }
 
 rows_rise : (set : SetDef) (i : ℕ) (r s : List ℕ) → i < length set.tasks → HasJobsAtMost set i r s → All (Rises r s) (spin_closer_rows set i)
@@ -120,7 +137,7 @@ small set i r accepted within here = record {
     );
   };
   own = λ k q a b. record { coefficients = λ c. flag_small _; limit = omega (arith, count_small set i q accepted here) };
-  together = λ k passes a.
+  together = λ k least passes a.
       record { coefficients = λ c. flag_small _; limit = omega (arith, upper_small set i passes r accepted within here) };
 }
 
@@ -130,19 +147,24 @@ rows_to set i accepted =
     let m : ℕ = length set.resources in
     let each = per set.processors (λ k. lower_spinning_row set i (k + 1)) in
     let others = per_pair set.processors m (λ k q. other_lower_spinning_row set i (k + 1) q) in
-    let rest = own_spinning_rows set i ++ together_rows set i in
+    let with_one = per_pair set.processors m (λ k q. lone_spinning_with_row set i (k + 1) q) in
+    let last = closer_spinning_rows set i ++ lone_spinning_rows set i in
     let pairs : set.processors * m ≤ 64 * m = mul-le-mul_right m f.processors in
     omega (
       arith,
-      length-append (common_rows set i) (lower_request_row ∷ (closer_spinning_rows set i ++ rest)),
-      length-append (closer_spinning_rows set i) rest,
-      length-append (own_spinning_rows set i) (together_rows set i),
-      length-append each others,
+      length-append (common_rows set i) (lower_request_row ∷ (own_spinning_rows set i ++ (together_rows set i ++ last))),
+      length-append (own_spinning_rows set i) (together_rows set i ++ last),
+      length-append (together_rows set i) last,
+      length-append (closer_spinning_rows set i) (lone_spinning_rows set i),
+      length-append each (others ++ with_one),
+      length-append others with_one,
       common_few set i f,
       pair_at_most set.processors m (λ k q. closer_spinning_row set i (k + 1) q),
       pair_at_most set.processors m (λ k q. own_spinning_row set i (k + 1) q),
       per_at_most set.processors (λ k. lower_spinning_row set i (k + 1)),
       pair_at_most set.processors m (λ k q. other_lower_spinning_row set i (k + 1) q),
+      pair_at_most set.processors m (λ k q. lone_spinning_with_row set i (k + 1) q),
+      per_at_most set.processors (λ k. lone_spinning_row set i (k + 1)),
       pairs,
       f.resources,
       f.processors,
@@ -150,7 +172,8 @@ rows_to set i accepted =
 
 -- What stands behind the rows that every protocol has.
 abbrev spinning_behind : SetDef → ℕ → List ConstraintDef
-spinning_behind set i = lower_request_row ∷ (closer_spinning_rows set i ++ (own_spinning_rows set i ++ together_rows set i))
+spinning_behind set i = lower_request_row
+    ∷ (own_spinning_rows set i ++ (together_rows set i ++ (closer_spinning_rows set i ++ lone_spinning_rows set i)))
 
 pub spin_closer_is_program : (set : SetDef) (i : ℕ) (r : List ℕ) → IsAccepted set → i < length set.tasks → AreWithinDeadlines set r
     → IsProgram (spin_closer_program set i r)

@@ -1,5 +1,5 @@
 -- The ticks of a window meet the closer rows: each is the row of what is spun for and of lower requests that run, for some resources.
-use Rattle.std.proofs.Common.{◌≡◌, ℕ, ◌+◌, ◌<◌, ◌≤◌, ◌==◌, ◌&&◌, ◌||◌, not, Bool, true, false, length, refl, sym, ap, ◌∙◌, arith, inl, inr, nat_lt}
+use Rattle.std.proofs.Common.{◌≡◌, ℕ, ◌+◌, ◌<◌, ◌≤◌, ◌==◌, ◌&&◌, ◌||◌, not, Bool, true, false, length, refl, sym, ap, ◌∙◌, arith, inl, inr, nat_lt, nat_le}
 use Rattle.std.proofs.lemmas.Bool.{cases_Bool, both_ways, and_parts, eqb-true, not-true}
 use Rattle.number_laws.specs.Sums.{flag}
 use Rattle.number_laws.specs.Tests.{count_below}
@@ -18,13 +18,20 @@ use Rattle.spin_charging.specs.SpinPrograms.{is_used_below, higher_requests}
 use Rattle.spin_charging.proofs.SpinningParts.{Kinds}
 use Rattle.spin_charging.proofs.SpinningRow.{has_lower, counted_row, counted_row_met}
 use Rattle.spin_charging.proofs.SpunRows.{met_by}
-use Rattle.closer_spin_laws.specs.CloserSpinRows.{is_spun_below, is_of_slot, closer_spinning_row, together_row}
+use Rattle.closer_spin_laws.specs.CloserSpinRows.{is_spun_below, is_left_out, is_in_place, is_of_slot, used_above}
+use Rattle.closer_spin_laws.specs.CloserSpinRows.{closer_spinning_row, together_row}
+
+-- A test with one more counts no more.
+second : (a b : Bool) → flag (a && b) ≤ flag b
+second true b = omega arith
+second false b = omega arith
 
 -- Spinning.
 pub closer_spinning_row_met : (w : Trace) (bound : ℕ → ℕ) (n j k q : ℕ) → Window spin_charge w bound n j → KeepsBefore spin_rule w n
     → TicksMeet spin_charge w bound n j (closer_spinning_row w.set (task_of w j) k q)
 closer_spinning_row_met w bound n j k q window keeps =
-    met_by spin_charge w bound n j (closer_spinning_row w.set i k q) (counted_row w.set i kinds) (λ c. omega arith)
+    met_by spin_charge w bound n j (closer_spinning_row w.set i k q) (counted_row w.set i kinds)
+    (λ c. second (not (is_left_out w.set i k q)) (is_in_place w.set i k q c))
     (omega (arith, sum_below-only (length w.set.resources) q (λ r. count_of w.set i r + higher_requests w.set bound i r), lower))
     (counted_row_met w bound n j kinds window keeps apart) where
       i : ℕ
@@ -56,11 +63,12 @@ closer_spinning_row_met w bound n j k q window keeps =
       ]
 
 -- Several resources together.
-pub together_row_met : (w : Trace) (bound : ℕ → ℕ) (n j k : ℕ) (passes : ℕ → Bool) → Window spin_charge w bound n j
-    → KeepsBefore spin_rule w n → TicksMeet spin_charge w bound n j (together_row w.set (task_of w j) k passes)
-together_row_met w bound n j k passes window keeps =
-    met_by spin_charge w bound n j (together_row w.set i k passes) (counted_row w.set i kinds)
-    (λ c. second (nat_lt 1 (count_below (length w.set.resources) passes)) (is_of_slot w.set k passes c))
+pub together_row_met : (w : Trace) (bound : ℕ → ℕ) (n j k least : ℕ) (passes : ℕ → Bool) → Window spin_charge w bound n j
+    → KeepsBefore spin_rule w n → TicksMeet spin_charge w bound n j (together_row w.set (task_of w j) k least passes)
+together_row_met w bound n j k least passes window keeps =
+    met_by spin_charge w bound n j (together_row w.set i k least passes) (counted_row w.set i kinds)
+    (λ c. second (nat_lt 1 (count_below (length w.set.resources) passes) && nat_le least (used_above w.set i k))
+    (is_of_slot w.set k passes c))
     (omega (arith, flag-at_most (has_lower w.set i kinds)))
     (counted_row_met w bound n j kinds window keeps (λ r spun runs. both_ways (passes r) (not-true _ runs) spun)) where
       i : ℕ
@@ -68,7 +76,3 @@ together_row_met w bound n j k passes window keeps =
 
       kinds : Kinds
       kinds = record { processor = k; spun = passes; runs = λ r. not (passes r) }
-
-      second : (a b : Bool) → flag (a && b) ≤ flag b
-      second true b = omega arith
-      second false b = omega arith

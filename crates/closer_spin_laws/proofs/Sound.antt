@@ -1,7 +1,8 @@
 -- The programs with the closer rows analyse spin locks, so valid certificates over them are sound. And they raise no bound: each row of
 -- spin locks is dominated by one of theirs.
-use Rattle.std.proofs.Common.{ℕ, ◌+◌, ◌<◌, ◌≤◌, ◌==◌, ◌&&◌, ◌∷◌, ◌++◌, not, Bool, true, false, List, [], length, refl, arith, if◌then◌else◌}
+use Rattle.std.proofs.Common.{◌≡◌, ℕ, ◌+◌, ◌<◌, ◌≤◌, ◌==◌, ◌&&◌, ◌∷◌, ◌++◌, not, Bool, true, false, List, [], length, refl, inl, inr, arith, if◌then◌else◌}
 use Rattle.std.specs.List.{All, Contains}
+use Rattle.std.proofs.lemmas.Bool.{cases_Bool}
 use Rattle.std.proofs.lemmas.List.Elements.{All-weaker, All-contains_itself, Contains-append_left, Contains-append_right}
 use Rattle.number_laws.specs.Sums.{flag}
 use Rattle.program_form.specs.Certificate.{CertificateDef}
@@ -29,9 +30,10 @@ use Rattle.spin_charging.specs.SpinPrograms.{spin_columns, spin_rows, spin_sourc
 use Rattle.spin_charging.proofs.SpinPlacement.{spin_charges_blocked}
 use Rattle.spin_charging.proofs.SpinPrograms.{spin_each}
 use Rattle.spin_charging.proofs.SpinPoints.{spin_interferes_within}
-use Rattle.closer_spin_laws.specs.CloserSpinRows.{is_spun_below, closer_spinning_row, closer_spinning_rows, own_spinning_rows, together_rows}
-use Rattle.closer_spin_laws.specs.CloserSpinRows.{spin_closer_rows, spin_closer_source}
+use Rattle.closer_spin_laws.specs.CloserSpinRows.{is_spun_below, is_left_out, closer_spinning_row, lone_spinning_row, closer_spinning_rows}
+use Rattle.closer_spin_laws.specs.CloserSpinRows.{own_spinning_rows, together_rows, lone_spinning_rows, spin_closer_rows, spin_closer_source}
 use Rattle.closer_spin_laws.proofs.Dominated.{Dominates, IsDominated, itself_dominated, fitting_where_dominated}
+use Rattle.closer_spin_laws.proofs.Lone.{lone_dominates}
 use Rattle.closer_spin_laws.proofs.Points.{spin_closer_point}
 
 pub spin_closer_analyses : (set : SetDef) → IsFormed set → Analyses spin_rule is_shared_interference (spin_closer_source set)
@@ -52,9 +54,10 @@ spin_closer_sound set c values accepted valid are =
     (λ w t same kept. spin_sound_row w t kept) formed (spin_closer_analyses set formed) valid are
 
 -- Spinning counts no more than the row in its place, up to the same limit.
-spinning_dominates : (bounds : List ℕ) (set : SetDef) (i k q : ℕ) → Dominates bounds (closer_spinning_row set i k q) (spinning_row set i k q)
-spinning_dominates bounds set i k q = record {
-  coefficients = λ c. flags (is_preemption c.class) (is_spun_below set i k q && not (c.resource == q)) (is_from set k q c);
+spinning_dominates : (bounds : List ℕ) (set : SetDef) (i k q : ℕ) → is_left_out set i k q ≡ false
+    → Dominates bounds (closer_spinning_row set i k q) (spinning_row set i k q)
+spinning_dominates bounds set i k q other = record {
+  coefficients = λ c. rw other (flags (is_preemption c.class) (is_spun_below set i k q && not (c.resource == q)) (is_from set k q c));
   limit = omega arith;
 } where
   flags : (p a b : Bool) → flag (b && not p) ≤ flag (if p then a else b)
@@ -73,25 +76,36 @@ rows_dominated bounds set i =
     spin_each (IsDominated bounds rows) set i common
     (itself_dominated bounds rows lower_request_row (Contains-append_right (common_rows set i) (lower_request_row ∷ rest) lower_request_row
     (0, omega arith, refl)))
-    (λ k q a b. record {
-      row = closer_spinning_row set i (k + 1) q;
-      among = behind (closer_spinning_row set i (k + 1) q) (Contains-append_left (closer_spinning_rows set i) further
-          (closer_spinning_row set i (k + 1) q)
-          (pair_among set.processors (length set.resources) k q (λ m r. closer_spinning_row set i (m + 1) r) a b));
-      says = spinning_dominates bounds set i (k + 1) q;
-    })
+    (λ k q a b. elim (cases_Bool (is_left_out set i (k + 1) q)) [
+      | inl one ↦ record {
+        row = lone_spinning_row set i (k + 1);
+        among = last_among (lone_spinning_row set i (k + 1)) (Contains-append_right (closer_spinning_rows set i) (lone_spinning_rows set i)
+            (lone_spinning_row set i (k + 1)) (contains_collected set.processors k (λ m. lone_spinning_row set i (m + 1) ∷ [])
+            (lone_spinning_row set i (k + 1)) a (0, omega arith, refl)));
+        says = lone_dominates bounds set i (k + 1) q one;
+      }
+      | inr other ↦ record {
+        row = closer_spinning_row set i (k + 1) q;
+        among = last_among (closer_spinning_row set i (k + 1) q) (Contains-append_left (closer_spinning_rows set i) (lone_spinning_rows set i)
+            (closer_spinning_row set i (k + 1) q)
+            (pair_among set.processors (length set.resources) k q (λ m r. closer_spinning_row set i (m + 1) r) a b));
+        says = spinning_dominates bounds set i (k + 1) q other;
+      }
+    ])
     (λ k q a b. itself_dominated bounds rows (own_spinning_row set i (k + 1) q) (behind (own_spinning_row set i (k + 1) q)
-    (Contains-append_right (closer_spinning_rows set i) further (own_spinning_row set i (k + 1) q)
-    (Contains-append_left (own_spinning_rows set i) (together_rows set i) (own_spinning_row set i (k + 1) q)
-    (pair_among set.processors (length set.resources) k q (λ m r. own_spinning_row set i (m + 1) r) a b))))) where
+    (Contains-append_left (own_spinning_rows set i) further (own_spinning_row set i (k + 1) q)
+    (pair_among set.processors (length set.resources) k q (λ m r. own_spinning_row set i (m + 1) r) a b)))) where
       rows : List ConstraintDef
       rows = spin_closer_rows set i
 
+      last : List ConstraintDef
+      last = closer_spinning_rows set i ++ lone_spinning_rows set i
+
       further : List ConstraintDef
-      further = own_spinning_rows set i ++ together_rows set i
+      further = together_rows set i ++ last
 
       rest : List ConstraintDef
-      rest = closer_spinning_rows set i ++ further
+      rest = own_spinning_rows set i ++ further
 
       common : All (IsDominated bounds rows) (common_rows set i)
       common = All-weaker (Contains (common_rows set i)) (IsDominated bounds rows)
@@ -101,6 +115,10 @@ rows_dominated bounds set i =
       behind : (row : ConstraintDef) → Contains rest row → Contains rows row
       behind row among = Contains-append_right (common_rows set i) (lower_request_row ∷ rest) row
           (Contains-append_right (lower_request_row ∷ []) rest row among)
+
+      last_among : (row : ConstraintDef) → Contains last row → Contains rows row
+      last_among row among = behind row (Contains-append_right (own_spinning_rows set i) further row
+          (Contains-append_right (together_rows set i) last row among))
 
 -- What fits under spin locks fits with the closer rows, so no least bound with them is greater than one that fits under spin locks.
 pub spin_closer_fitting : (set : SetDef) (s : List ℕ) → AreFitting (spin_source set) s → AreFitting (spin_closer_source set) s

@@ -43,11 +43,11 @@ pub fn closer_spin_programs_are_accepted()
         → (spin_closer_program set i r).limits ≡ (spin_closer_program set i s).limits }
 {}
 
-/// Such a program has at most 1152 rows: of requests, of spinning, of own spinning and of other lower spinning one for each of 256
-/// request entries, of time one for each of 63 other tasks, of lower spinning one for each of 64 processors, and the one of lower
-/// requests.
+/// Such a program has at most 1472 rows: of requests, of spinning, of own spinning, of other lower spinning and of lone lower spinning with
+/// one, one for each of 256 request entries, of time one for each of 63 other tasks, of lower spinning and of lone lower spinning one for
+/// each of 64 processors, and the one of lower requests.
 pub fn closer_spin_rows_are_few()
-    ensures { (set : SetDef) (i : ℕ) (r : List ℕ) → IsAccepted set → i < length set.tasks → height (spin_closer_program set i r) ≤ 1152 }
+    ensures { (set : SetDef) (i : ℕ) (r : List ℕ) → IsAccepted set → i < length set.tasks → height (spin_closer_program set i r) ≤ 1472 }
 {}
 
 /// In a lawful schedule of an accepted set, under spin locks, take a job, and let each job whose release plus bound is less than that

@@ -1,0 +1,23 @@
+use Rattle.std.proofs.Common.{◌+◌, ◌++◌, map, length}
+use Rattle.blocking_columns.specs.ColumnDef.{column_seen}
+use Rattle.fragments.specs.Constraints.{per, per_pair}
+use Rattle.closer_spin_laws.specs.CloserSpinRows.{lower_spinning_row, other_lower_spinning_row, lone_spinning_with_row}
+use Rattle.closer_spin.proofs.programs.add_together_rows.Goals as goal
+
+pub returns : goal.returns
+returns g c =
+    let set = c.args.set.now in
+    let i = c.args.i.0 in
+    let m = length set.resources in
+    let bounds = c.args.bounds.now in
+    let seen = map column_seen c.args.columns.now in
+    let end = c.add_per_number-3.new.taker in
+    let behind = g.met.T.RowTaker.behind in
+    let all = per set.processors (λ k. lower_spinning_row set i (k + 1)) in
+    let others = per_pair set.processors m (λ k q. other_lower_spinning_row set i (k + 1) q) in
+    let lone = per_pair set.processors m (λ k q. lone_spinning_with_row set i (k + 1) q) in
+    let first = rw (c.processors-processors.ensures.value) at c.in_ok-add_per_number.ensures in
+    let second = rw (c.processors-processors.ensures.value) at c.in_ok-add_per_number-2.ensures in
+    let third = rw (c.processors-processors.ensures.value) at c.in_ok-add_per_number-3.ensures in
+    behind c.args.taker.now c.add_per_number.new.taker end seen all (others ++ lone) bounds first
+    (behind c.add_per_number.new.taker c.add_per_number-2.new.taker end seen others lone bounds second third)

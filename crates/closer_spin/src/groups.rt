@@ -1,0 +1,188 @@
+//! Resources for which lower tasks may spin, and which of them a row takes together.
+
+ghost use Rattle.std.specs.Prelude.{◌≡◌, ◌<◌, length, IfOk};
+ghost use Rattle.closer_spin_laws.specs.CloserSpinRows.{leaves_lone_out};
+ghost use Rattle.closer_spin.specs.Tables.{AreUsers};
+ghost use Rattle.closer_spin.specs.Groups.{TellsThere};
+ghost use Rattle.closer_spin.specs.Together.{taken_together, least_above, paired, is_paired};
+
+use crate::tables::{Lone, SetApart, SpunAbove, SpunBelow, how_many};
+use spin_protocol::{ResourceTest, table_of};
+use sporadic_model::{ResourceId, TaskId, TaskSet};
+use std::alloc::{AllocError, Global};
+
+/// Which resources a row takes together.
+#[derive(Clone, Copy, Debug, PartialEq, Eq)]
+pub enum Group {
+    /// All for which lower tasks may spin.
+    All,
+    /// All of them but this one.
+    Without(ResourceId),
+    /// Those for which only lower tasks may spin, and this one, which is used above.
+    LoneWith(ResourceId),
+    /// Those for which only lower tasks may spin.
+    Lone,
+}
+
+/// How many resources for which lower tasks may spin have to be used above, so that no other row says the same?
+pub(crate) fn least_above(group: Group) -> u32
+    ensures { result ≡ least_above group }
+{
+    match group {
+        Group::All => 1,
+        Group::Without(_) => 0,
+        Group::LoneWith(_) => 3,
+        Group::Lone => 0,
+    }
+}
+
+/// What a row of one resource takes beside it, or in its place.
+#[derive(Clone, Copy, Debug, PartialEq, Eq)]
+pub enum Pairing {
+    /// All others, in its place.
+    Others,
+    /// The lone ones, beside one that is used above.
+    Lone,
+}
+
+/// The resources that it takes.
+pub(crate) fn paired(pairing: Pairing, q: u32) -> Group
+    ensures { result ≡ paired pairing q }
+{
+    match pairing {
+        Pairing::Others => Group::Without(ResourceId(q)),
+        Pairing::Lone => Group::LoneWith(ResourceId(q)),
+    }
+}
+
+/// For which resources lower tasks may spin on a processor, counted from 1.
+#[derive(Drop)]
+pub(crate) struct SpunThere {
+    pub(crate) processor: u32,
+    pub(crate) spun: Vec<bool>,
+    /// Those of them that are used above.
+    pub(crate) shared: Vec<bool>,
+    /// The others.
+    pub(crate) lone: Vec<bool>,
+    /// Those of which all others have a row.
+    pub(crate) apart: Vec<bool>,
+    /// How many are used above.
+    pub(crate) above: u32,
+    /// Are they many?
+    pub(crate) many: bool,
+}
+
+/// How many resources for which lower tasks may spin are too many for a row of each lone one.
+const MANY: u32 = 8;
+
+/// They are told by tables of the resources that lower tasks use and of those that are used above.
+pub(crate) fn spun_there(
+    alloc: Global,
+    set: &TaskSet,
+    i: TaskId,
+    processor: u32,
+    below: &[bool],
+    above: &[bool],
+) -> Result<SpunThere, AllocError>
+    requires task { i.0 < length set.now.tasks }
+    requires users { AreUsers set.now i.0 below.now above.now }
+    ensures { IfOk result (λ t. (t.processor ≡ processor) × TellsThere set.now i.0 t) }
+{
+    // a set has at most 32 resources
+    let _resources = set.resources();
+    let spun = table_of(alloc, set, i, &SpunBelow { processor, below })?;
+    let shared = {
+        let test = SpunAbove {
+            processor,
+            spun: &spun,
+            above,
+        };
+        table_of(alloc, set, i, &test)?
+    };
+    let lone = {
+        let test = Lone {
+            processor,
+            spun: &spun,
+            above,
+        };
+        table_of(alloc, set, i, &test)?
+    };
+    let above = how_many(&shared);
+    let many = how_many(&spun) > MANY;
+    let apart = {
+        let test = SetApart {
+            processor,
+            shared: &shared,
+            lone: &lone,
+            above,
+            many,
+        };
+        table_of(alloc, set, i, &test)?
+    };
+    Ok(SpunThere {
+        processor,
+        spun,
+        shared,
+        lone,
+        apart,
+        above,
+        many,
+    })
+}
+
+/// Have lone resources no rows of their own there?
+pub(crate) fn leaves_lone_out(set: &TaskSet, i: TaskId, there: &SpunThere) -> bool
+    requires { TellsThere set.now i.0 there.now }
+    ensures { result ≡ leaves_lone_out set.now i.0 there.now.processor }
+{
+    // a set has at most 32 resources
+    let _resources = set.resources();
+    there.many && how_many(&there.lone) > 1
+}
+
+/// Has the pairing a row of this resource?
+pub(crate) fn is_paired(
+    set: &TaskSet,
+    i: TaskId,
+    there: &SpunThere,
+    pairing: Pairing,
+    q: u32,
+) -> bool
+    requires resource { q < length set.now.resources }
+    requires there { TellsThere set.now i.0 there.now }
+    ensures { result ≡ is_paired set.now i.0 there.now.processor pairing q }
+{
+    match pairing {
+        Pairing::Others => there.apart[q as usize],
+        Pairing::Lone => there.shared[q as usize],
+    }
+}
+
+/// Does a row of the group take the resource?
+#[derive(Drop)]
+pub(crate) struct InGroup<'a> {
+    pub(crate) there: &'a SpunThere,
+    pub(crate) group: Group,
+}
+
+impl<'a> ResourceTest for InGroup<'a> {
+    ghost use Rattle.closer_spin.specs.Groups.{IsGroupOf};
+
+    ghost fits = { λ t set i. IsGroupOf set i t.there.now t.group };
+
+    ghost passes = { λ t set i. taken_together set i t.there.now.processor t.group };
+
+    fn test(&self, _set: &TaskSet, _i: TaskId, q: ResourceId) -> bool {
+        let there = self.there;
+        match self.group {
+            Group::All => there.spun[q.0 as usize],
+            Group::Without(without) => {
+                there.apart[without.0 as usize] && (there.spun[q.0 as usize] && q != without)
+            }
+            Group::LoneWith(with) => {
+                there.shared[with.0 as usize] && (q == with || there.lone[q.0 as usize])
+            }
+            Group::Lone => there.lone[q.0 as usize],
+        }
+    }
+}
