@@ -1,6 +1,5 @@
 pub mod Rows
 pub mod Programs
 pub mod FewRows
-pub mod Dominated
 pub mod Points
 pub mod Sound

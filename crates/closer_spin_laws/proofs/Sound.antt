@@ -31,7 +31,7 @@ use Rattle.spin_charging.proofs.SpinPrograms.{spin_each}
 use Rattle.spin_charging.proofs.SpinPoints.{spin_interferes_within}
 use Rattle.closer_spin_laws.specs.CloserSpinRows.{is_spun_below, closer_spinning_row, closer_spinning_rows, own_spinning_rows, together_rows}
 use Rattle.closer_spin_laws.specs.CloserSpinRows.{spin_closer_rows, spin_closer_source}
-use Rattle.closer_spin_laws.proofs.Dominated.{Dominates, IsDominated, itself_dominated, fitting_where_dominated}
+use Rattle.closer_laws.proofs.Dominated.{Dominates, IsDominated, itself_dominated, fitting_where_dominated}
 use Rattle.closer_spin_laws.proofs.Points.{spin_closer_point}
 
 pub spin_closer_analyses : (set : SetDef) → IsFormed set → Analyses spin_rule is_shared_interference (spin_closer_source set)
