@@ -1,4 +1,4 @@
-use Rattle.std.proofs.Common.{◌++◌, map}
+use Rattle.std.proofs.Common.{map}
 use Rattle.blocking_columns.specs.ColumnDef.{column_seen}
 use Rattle.direct_constraints.specs.Rows.{common_rows}
 use Rattle.mpcp_window_laws.proofs.Programs.{behind, holders, holders_and_behind}
