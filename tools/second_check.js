@@ -596,8 +596,8 @@ var SecondCheck = (function () {
     KINDS_OF["spin-c"] = ["requests", "time", "lower_requests", "closer_spinning", "own_spinning", "lower_spinning", "other_lower_spinning"];
     KINDS_OF["dpcp-c"] = [...KINDS_OF["dpcp-w"], "home_tasks", "lower_home_tasks", "lower_preemption", "lower_home_waits"];
     KINDS_OF["dflp-c"] = [...KINDS_OF.dflp, "home_tasks", "lower_home_tasks", "lower_preemption"];
-    KINDS_OF["mpcp-c"] = [...KINDS_OF.mpcp, "shared_holdings", "holdings_by_resource", "away_holdings", "shared_intervals", "local_preemption"];
-    KINDS_OF["mpcp-c"].push("lower_waits", "direct_waits");
+    KINDS_OF["mpcp-c"] = ["requests", "time", "lower_holders", "shared_holdings", "holdings_by_resource", "away_holdings", "shared_intervals"];
+    KINDS_OF["mpcp-c"].push("local_preemption", "lower_waits", "direct_waits");
 
     // The rows of a kind, in rising order of whom each is for: its cells, each a column and how often that counts, and its limit.
     function rows_of(view, columns, { row, rows, times, limit }) {

@@ -627,7 +627,9 @@ KINDS["spin-c"] = (
     Shape.add_other_lower_spinning,
 )
 KINDS["mpcp-c"] = (
-    *KINDS["mpcp"],
+    Shape.add_requests,
+    Shape.add_time,
+    Shape.add_lower_holders,
     Shape.add_shared_holdings,
     Shape.add_holdings_by_resource,
     Shape.add_away_holdings,

@@ -77,6 +77,14 @@ holdings_in k set bounds i x some = λ j. sum_below (length set.resources) (λ q
     (higher_requests_in k set bounds i (is_beside (in_cycles k set) x) (is_beside set x) q some (λ l. beside_in k set l x) j
     + lower_holdings_in k set i x q j))
 
+pub lower_holders_in : (k : ℕ) (set : SetDef) (bounds : ℕ → ℕ) (i : ℕ) → 0 < k
+    → AreRescaled k bounds (per (length set.resources) (lower_holder_row set i))
+    (per (length set.resources) (lower_holder_row (in_cycles k set) i))
+lower_holders_in k set bounds i some =
+    each_per k bounds (length set.resources) (length set.resources) (lower_holder_row set i) (lower_holder_row (in_cycles k set) i) refl
+    (λ q b. counted_same k bounds (λ c. ((c.resource == q) && is_class Direct c.class) && nat_lt i c.task)
+    (λ c. ((c.resource == q) && is_class Direct c.class) && nat_lt i c.task) _ _ some refl (count_in k set i q))
+
 -- The rows that each protocol has of its own.
 protocol_in : (p : Protocol) (k : ℕ) (set : SetDef) (bounds : ℕ → ℕ) (i : ℕ) → 0 < k
     → AreRescaled k bounds (protocol_rows p set i) (protocol_rows p (in_cycles k set) i)
@@ -90,9 +98,7 @@ protocol_in protocol.FmlpPlus k set bounds i some = appended k bounds (per_pair 
 protocol_in protocol.Mpcp k set bounds i some = appended k bounds (per (length set.resources) (lower_holder_row set i))
     (per (length set.resources) (lower_holder_row (in_cycles k set) i))
     (per (length set.tasks) (holding_row set i)) (per (length (in_cycles k set).tasks) (holding_row (in_cycles k set) i))
-    (each_per k bounds (length set.resources) (length set.resources) (lower_holder_row set i) (lower_holder_row (in_cycles k set) i) refl
-    (λ q b. counted_same k bounds (λ c. ((c.resource == q) && is_class Direct c.class) && nat_lt i c.task)
-    (λ c. ((c.resource == q) && is_class Direct c.class) && nat_lt i c.task) _ _ some refl (count_in k set i q)))
+    (lower_holders_in k set bounds i some)
     (each_per k bounds (length set.tasks) (length (in_cycles k set).tasks) (holding_row set i) (holding_row (in_cycles k set) i)
     (tasks_in k set) (λ x a. counted_same k bounds (λ c. (c.task == x) && is_class Indirect c.class)
     (λ c. (c.task == x) && is_class Indirect c.class) _ _ some refl (holdings_in k set bounds i x some)))

@@ -11,7 +11,7 @@ use Rattle.blocking_columns.specs.declared.columns.Class.TheVariants.{Direct, In
 use Rattle.blocking_columns.specs.ColumnDef.{is_class}
 use Rattle.blocking_columns.specs.Columns.{is_lower_local, columns_of}
 use Rattle.fragments.specs.Constraints.{ConstraintDef, per, per_pair, per_where}
-use Rattle.program_laws.specs.Programs.{rows_of}
+use Rattle.direct_constraints.specs.Rows.{lower_holder_row, common_rows}
 use Rattle.closer_laws.specs.CloserRows.{local_preemption_row}
 use Rattle.closer_mpcp_laws.specs.CloserMpcpRows.{goes_first, goes_before, shared_holdings, is_away, has_lower_away, away_holdings}
 use Rattle.closer_mpcp_laws.specs.CloserMpcpRows.{shared_holding_row, resource_holding_row, away_row, shared_interval_row, lower_wait_row}
@@ -23,7 +23,7 @@ use Rattle.clock_laws.proofs.Sets.{tasks_in, count_in, users_in, one_processor_i
 use Rattle.clock_laws.proofs.Columns.{columns_scaled}
 use Rattle.clock_laws.proofs.Jobs.{fine, higher_requests_in}
 use Rattle.clock_laws.proofs.Rescaled.{AreRescaled, IsRescaledRow, counted, counted_same, appended, each_per, each_pair, each_where}
-use Rattle.clock_laws.proofs.BaseRows.{rows_in, lower_holdings_in}
+use Rattle.clock_laws.proofs.BaseRows.{common_in, lower_holders_in, lower_holdings_in}
 use Rattle.clock_laws.proofs.CloserRows.{shared_out_in, held_there_in, shared_requests_in, local_preemption_in}
 use Rattle.clock_laws.proofs.WaitWindows.{first_in, waits_fine, held_fine}
 use Rattle.clock_laws.proofs.Programs.{IsRescaled, programs_rescaled}
@@ -143,13 +143,18 @@ wait_rows_in k set bounds i some = each_pair k bounds i i (length set.resources)
 closer_rows_in : (k : ℕ) (set : SetDef) (bounds : ℕ → ℕ) (i : ℕ) → 0 < k
     → AreRescaled k bounds (mpcp_closer_rows set i) (mpcp_closer_rows (in_cycles k set) i)
 closer_rows_in k set bounds i some =
-    appended k bounds (rows_of protocol.Mpcp set i) (rows_of protocol.Mpcp cycles i)
+    appended k bounds (common_rows set i) (common_rows cycles i)
+    (per (length set.resources) (lower_holder_row set i) ++ (further_rows set (held_in_waits set i) i ++ wait_rows set i))
+    (per (length cycles.resources) (lower_holder_row cycles i) ++ (further_rows cycles (held_in_waits cycles i) i ++ wait_rows cycles i))
+    (common_in k set bounds i some)
+    (appended k bounds (per (length set.resources) (lower_holder_row set i))
+    (per (length cycles.resources) (lower_holder_row cycles i))
     (further_rows set (held_in_waits set i) i ++ wait_rows set i) (further_rows cycles (held_in_waits cycles i) i ++ wait_rows cycles i)
-    (rows_in protocol.Mpcp k set bounds i some)
+    (lower_holders_in k set bounds i some)
     (appended k bounds (further_rows set (held_in_waits set i) i) (further_rows cycles (held_in_waits cycles i) i) (wait_rows set i)
     (wait_rows cycles i)
     (further_in k set bounds (held_in_waits set i) (held_in_waits cycles i) i some (λ x r. held_fine k set bounds i x r some))
-    (wait_rows_in k set bounds i some)) where
+    (wait_rows_in k set bounds i some))) where
       cycles : SetDef
       cycles = in_cycles k set
 

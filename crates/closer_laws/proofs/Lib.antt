@@ -4,6 +4,7 @@ pub mod HolderRows
 pub mod Slots
 pub mod Granted
 pub mod LowerRows
+pub mod Dominated
 pub mod Programs
 pub mod Points
 pub mod Sound

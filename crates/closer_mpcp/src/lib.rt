@@ -1,4 +1,4 @@
-//! MPCP with the closer analysis: its programs have further rows behind those of MPCP.
+//! MPCP with the closer analysis: its programs have further rows behind those of MPCP, without MPCP's rows that these dominate.
 #![tactic(auto)]
 
 mod ceilings;

@@ -1,4 +1,5 @@
-//! What programs of the closer analysis are made of: the columns and rows of MPCP, and the closer rows behind them.
+//! What programs of the closer analysis are made of: the columns of MPCP, its rows of requests, of time and of lower holders, and the closer
+//! rows behind them.
 
 ghost use Rattle.std.specs.Prelude.{◌≡◌, ◌<◌, map, length, IfOk, OnOk};
 ghost use Rattle.sporadic_model.specs.declared.ids.Protocol.TheVariants as protocol;
@@ -11,13 +12,14 @@ ghost use Rattle.mpcp_window_laws.specs.WaitRows.{mpcp_closer_rows, mpcp_closer_
 ghost use Rattle.mpcp_window_laws.proofs.Programs.{mpcp_closer_is_program};
 
 use crate::rows::add_closer_rows;
+use direct_constraints::{add_common, add_own};
 use fragments::{Fragment, RowTaker, columns_stand_in_order, fragments};
 use program_form::Program;
 use protocol_programs::{ProgramParts, program_with};
 use sporadic_model::{Protocol, TaskId, TaskSet};
 use std::alloc::{AllocError, Global};
 
-/// Adds the rows of MPCP, and behind them the closer rows, behind those that the taker has.
+/// Adds the rows of requests, of time and of lower holders, and behind them the closer rows, behind those that the taker has.
 fn add_rows<T: RowTaker>(
     alloc: Global,
     taker: &mut T,
@@ -30,7 +32,8 @@ fn add_rows<T: RowTaker>(
     ensures { OnOk result (T.takes taker.old (map column_seen columns.now) (mpcp_closer_rows set.now i.0) bounds.now taker.new) }
 {
     columns_stand_in_order(set, Protocol::Mpcp, i, columns);
-    let places = protocol_programs::add_rows(
+    let places = add_common(alloc, taker, set, i, bounds, columns)?;
+    add_own(
         alloc,
         taker,
         set,
@@ -38,12 +41,13 @@ fn add_rows<T: RowTaker>(
         i,
         bounds,
         columns,
+        &places,
     )?;
     add_closer_rows(alloc, taker, set, i, bounds, columns, &places)?;
     Ok(())
 }
 
-/// The columns of MPCP, and its rows with the closer rows behind them.
+/// The columns of MPCP; its rows of requests, of time and of lower holders; and the closer rows behind them.
 #[derive(Clone, Copy, Debug, PartialEq, Eq)]
 pub struct CloserMpcpRows;
 
@@ -71,8 +75,8 @@ impl ProgramParts for CloserMpcpRows {
     ghost is_program = { λ p set i r served accepted here within. mpcp_closer_is_program set i r accepted here within };
 }
 
-/// The blocking program of task `i`, where these are the bounds, in ticks: the columns and rows of MPCP, and behind them the closer
-/// rows. It refuses for want of memory alone.
+/// The blocking program of task `i`, where these are the bounds, in ticks: the columns of MPCP, its rows of requests, of time and of lower
+/// holders, and behind them the closer rows. It refuses for want of memory alone.
 pub fn program(
     alloc: Global,
     set: &TaskSet,

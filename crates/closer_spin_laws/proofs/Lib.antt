@@ -1,7 +1,6 @@
 pub mod Rows
 pub mod Programs
 pub mod FewRows
-pub mod Dominated
 pub mod Lone
 pub mod Points
 pub mod Sound

@@ -16,7 +16,7 @@ use Rattle.blocking_columns.specs.Windows.{jobs_in, requests_in}
 use Rattle.spin_charging.specs.SpinPrograms.{is_from, is_used_below, spinning_row, higher_requests, upper_requests}
 use Rattle.closer_spin_laws.specs.CloserSpinRows.{is_used_on, is_spun_below, is_used_above, is_lone, is_left_out, leaves_lone_out, are_many_spun, is_of_slot, used_above}
 use Rattle.closer_spin_laws.specs.CloserSpinRows.{lone_spinning_row}
-use Rattle.closer_spin_laws.proofs.Dominated.{Dominates}
+use Rattle.closer_laws.proofs.Dominated.{Dominates}
 
 -- What is used below is used by a lower task, so the analysed task is one of the set.
 below_listed : (set : SetDef) (i q : ℕ) → is_used_below set i q ≡ true → i < length set.tasks

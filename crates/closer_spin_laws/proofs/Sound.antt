@@ -32,7 +32,7 @@ use Rattle.spin_charging.proofs.SpinPrograms.{spin_each}
 use Rattle.spin_charging.proofs.SpinPoints.{spin_interferes_within}
 use Rattle.closer_spin_laws.specs.CloserSpinRows.{is_spun_below, is_left_out, closer_spinning_row, lone_spinning_row, closer_spinning_rows}
 use Rattle.closer_spin_laws.specs.CloserSpinRows.{own_spinning_rows, together_rows, lone_spinning_rows, spin_closer_rows, spin_closer_source}
-use Rattle.closer_spin_laws.proofs.Dominated.{Dominates, IsDominated, itself_dominated, fitting_where_dominated}
+use Rattle.closer_laws.proofs.Dominated.{Dominates, IsDominated, itself_dominated, fitting_where_dominated}
 use Rattle.closer_spin_laws.proofs.Lone.{lone_dominates}
 use Rattle.closer_spin_laws.proofs.Points.{spin_closer_point}
 

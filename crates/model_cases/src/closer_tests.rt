@@ -183,10 +183,10 @@ const INSTEAD: SetRow = SetRow {
     ],
 };
 
-// Of the third task: the rows of requests and of time of the other three, and that of holdings. Three jobs of the second task run while its
-// job does, with 44 + 9 ticks. A wait takes up to 4 ticks: one for the first task's request, one for the second's, and two for one of the
-// fourth in place of that. One job of the second task runs in it. So the rows of shared holdings and of holdings by resource let one request
-// of the fourth task block. Behind them are the rows of away holdings and of direct waits.
+// Of the third task: the rows of requests and of time of the other three. Three jobs of the second task run while its job does, with 44 + 9
+// ticks. A wait takes up to 4 ticks: one for the first task's request, one for the second's, and two for one of the fourth in place of
+// that. One job of the second task runs in it. So the rows of shared holdings and of holdings by resource let one request of the fourth
+// task block. Behind them are the rows of away holdings and of direct waits.
 #[test]
 fn limits_what_is_held_in_waits(rt: HostRuntime) -> Result<(), Fail> {
     let alloc = rt.alloc();
@@ -197,7 +197,7 @@ fn limits_what_is_held_in_waits(rt: HostRuntime) -> Result<(), Fail> {
     }
     let program = closer_mpcp::program(alloc, &set, TaskId(2), bounds)?;
     assert_eq!(rt; program.columns(), 3);
-    assert!(rt; limits_are(&program, &[3, 3, 4, 9, 9, 13, 3, 1, 1, 4, 4, 4, 1, 1]));
+    assert!(rt; limits_are(&program, &[3, 3, 4, 9, 9, 13, 1, 1, 4, 4, 4, 1, 1]));
     Ok(())
 }
 

@@ -14,4 +14,5 @@ pub mod DirectWaitRow
 pub mod WorkedWindows
 pub mod Programs
 pub mod Points
+pub mod Dominating
 pub mod Sound

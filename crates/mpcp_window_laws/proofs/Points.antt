@@ -9,7 +9,6 @@ use Rattle.schedule_model.specs.Ranks.{mpcp}
 use Rattle.schedule_model.specs.Protocols.{shared_rule}
 use Rattle.schedule_model.specs.Keeping.{KeepsBefore}
 use Rattle.blocking_columns.specs.Columns.{is_column, columns_of}
-use Rattle.program_laws.proofs.RowKinds.{each_row}
 use Rattle.charge_laws.specs.Charges.{shared_charge}
 use Rattle.charge_laws.specs.Windows.{bound_end, EndedWithin}
 use Rattle.row_laws.specs.Meeting.{TicksMeet}
@@ -28,8 +27,7 @@ use Rattle.mpcp_window_laws.proofs.Programs.{mpcp_closer_each}
 rows_met : (w : Trace) (bound : ℕ → ℕ) (n j : ℕ) → Window shared_charge w bound n j → KeepsBefore (shared_rule mpcp) w n
     → EndedWithin w bound (bound_end w bound j) n → All (TicksMeet shared_charge w bound n j) (mpcp_closer_rows w.set (task_of w j))
 rows_met w bound n j window keeps ended =
-    mpcp_closer_each (TicksMeet shared_charge w bound n j) w.set i
-    (each_row (TicksMeet shared_charge w bound n j) protocol.Mpcp w.set i (mpcp_rows_met w bound n j window keeps))
+    mpcp_closer_each (TicksMeet shared_charge w bound n j) w.set i (mpcp_rows_met w bound n j window keeps)
     (further_rows_met w bound n j (held_in_waits w.set i) window keeps (λ x. higher_held_in_waits w bound n j x ended))
     (λ x q a b. direct_wait_row_met w bound n j x q window keeps ended (omega (arith, a, known))) where
       i : ℕ

@@ -1,5 +1,5 @@
 -- The programs of the closer analysis of MPCP are programs, rise with the bounds, and have few rows.
-use Rattle.std.proofs.Common.{◌++◌, ◌≡◌, ℕ, ◌<◌, ◌≤◌, List, length, arith}
+use Rattle.std.proofs.Common.{◌++◌, ◌≡◌, ℕ, ◌<◌, ◌≤◌, List, length, refl, arith}
 use Rattle.std.specs.List.{All, Contains}
 use Rattle.std.specs.Prelude.{slice_index}
 use Rattle.std.proofs.Math.Nat.{mul-le-mul_right}
@@ -18,22 +18,20 @@ use Rattle.program_sources.specs.Fitting.{ComesUpAbove}
 use Rattle.program_sources.proofs.RecurrenceLaws.{comes_up_above}
 use Rattle.blocking_columns.specs.ColumnDef.{ColumnDef}
 use Rattle.blocking_columns.specs.Columns.{is_column, columns_of}
-use Rattle.fragments.specs.Constraints.{ConstraintDef}
-use Rattle.blocking_columns.proofs.KnownColumns.{passing_known, columns_are_requests}
-use Rattle.direct_constraints.specs.Rows.{request_row}
+use Rattle.fragments.specs.Constraints.{ConstraintDef, per, holds_some}
+use Rattle.blocking_columns.proofs.KnownColumns.{passing_known, columns_are_requests, columns_are_of_others}
+use Rattle.direct_constraints.specs.Rows.{request_row, lower_holder_row, common_rows}
 use Rattle.indirect_constraints.specs.Rows.{is_beside}
-use Rattle.program_laws.specs.Programs.{rows_of}
 use Rattle.program_laws.specs.Written.{IsSmallRow, Rises, HasJobsAtMost, KeepsJobs}
-use Rattle.program_laws.proofs.Lists.{sum_at_most}
-use Rattle.program_laws.proofs.RowKinds.{each_row, all_per_pair}
+use Rattle.program_laws.proofs.Lists.{filter_shorter, sum_at_most}
+use Rattle.program_laws.proofs.RowKinds.{EachKind, common_each, all_per, all_per_pair}
 use Rattle.program_laws.proofs.RisingLimits.{jobs_rise, jobs_stay, limits_rise}
 use Rattle.program_laws.proofs.SmallNumbers.{rows_small, requests_small, flag_small}
-use Rattle.program_laws.proofs.CoveredColumns.{covered_by}
-use Rattle.program_laws.proofs.ListLengths.{Few, few, pair_at_most, rows_few}
-use Rattle.program_laws.proofs.FewRows.{first_rows_few, rows_at_most, turn_of}
+use Rattle.program_laws.proofs.CoveredColumns.{covered_by, request_row_among}
+use Rattle.program_laws.proofs.ListLengths.{Few, few, per_at_most, pair_at_most, common_few}
+use Rattle.program_laws.proofs.FewRows.{first_rows_few, common_there, turn_of}
 use Rattle.program_laws.proofs.PlacedRows.{there_behind, height_is}
 use Rattle.program_laws.proofs.GivenPrograms.{limits_at_most, limits_stay, is_program, written_where}
-use Rattle.closer_laws.proofs.Programs.{request_among}
 use Rattle.closer_mpcp_laws.specs.CloserMpcpRows.{further_rows}
 use Rattle.closer_mpcp_laws.proofs.FurtherRows.{EachFurther, further_each, further_rise, further_small, further_few, further_there}
 use Rattle.mpcp_window_laws.specs.KeptWindows.{KeepsWindows}
@@ -41,18 +39,26 @@ use Rattle.mpcp_window_laws.specs.WaitRows.{requests_in_waits, direct_wait_row, 
 use Rattle.mpcp_window_laws.specs.WaitRows.{mpcp_closer_rows, mpcp_closer_source, mpcp_closer_program}
 use Rattle.mpcp_window_laws.proofs.WaitLimits.{waits_rise, waits_stay, held_at_most}
 
--- The rows behind those of MPCP.
-abbrev behind : SetDef → ℕ → List ConstraintDef
+-- The rows that MPCP doesn't have, those of lower holders, and both together: the rows behind those that every protocol has.
+abbrev pub behind : SetDef → ℕ → List ConstraintDef
 behind set i = further_rows set (held_in_waits set i) i ++ wait_rows set i
 
--- Whatever is true of each row of MPCP, of each closer row and of each row of direct waits is true of all.
-pub mpcp_closer_each : (P : ConstraintDef → Type 0) (set : SetDef) (i : ℕ) → All P (rows_of protocol.Mpcp set i)
+abbrev pub holders : SetDef → ℕ → List ConstraintDef
+holders set i = per (length set.resources) (lower_holder_row set i)
+
+abbrev pub holders_and_behind : SetDef → ℕ → List ConstraintDef
+holders_and_behind set i = holders set i ++ behind set i
+
+-- Whatever is true of each kind of row of MPCP, of each closer row and of each row of direct waits is true of all.
+pub mpcp_closer_each : (P : ConstraintDef → Type 0) (set : SetDef) (i : ℕ) → EachKind P protocol.Mpcp set i
     → EachFurther P set (held_in_waits set i) i → ((x q : ℕ) → x < i → q < length set.resources → P (direct_wait_row set i x q))
     → All P (mpcp_closer_rows set i)
 mpcp_closer_each P set i rows further waits =
-    All-append P (rows_of protocol.Mpcp set i) (behind set i) rows
+    All-append P (common_rows set i) (holders_and_behind set i) (common_each P set i rows.request rows.time)
+    (All-append P (holders set i) (behind set i)
+    (all_per P (length set.resources) (lower_holder_row set i) (rows.lower_holder refl))
     (All-append P (further_rows set (held_in_waits set i) i) (wait_rows set i) (further_each P set (held_in_waits set i) i further)
-    (all_per_pair P i (length set.resources) (direct_wait_row set i) waits))
+    (all_per_pair P i (length set.resources) (direct_wait_row set i) waits)))
 
 -- Do no more requests run in each wait at the bounds r than at s?
 abbrev WaitsAtMost : SetDef → ℕ → List ℕ → List ℕ → Type 0
@@ -63,7 +69,7 @@ WaitsAtMost set i r s = (x q : ℕ) → x < i → q < length set.resources
 rows_rise : (set : SetDef) (i : ℕ) (r s : List ℕ) → i < length set.tasks → HasJobsAtMost set i r s → WaitsAtMost set i r s
     → All (Rises r s) (mpcp_closer_rows set i)
 rows_rise set i r s here jobs waits =
-    mpcp_closer_each (Rises r s) set i (each_row (Rises r s) protocol.Mpcp set i (limits_rise protocol.Mpcp set i r s here jobs))
+    mpcp_closer_each (Rises r s) set i (limits_rise protocol.Mpcp set i r s here jobs)
     (further_rise set (held_in_waits set i) i r s here jobs
     (λ x q a b. held_at_most set (slice_index r) (slice_index s) i x q (λ y l. waits y q l b)))
     (λ x q a b. waits x q a b)
@@ -111,8 +117,7 @@ wait_small set i x q r accepted within here l = record {
 closer_rows_small : (set : SetDef) (i : ℕ) (r : List ℕ) → IsAccepted set → AreWithinDeadlines set r → i < length set.tasks
     → All (IsSmallRow r) (mpcp_closer_rows set i)
 closer_rows_small set i r accepted within here =
-    mpcp_closer_each (IsSmallRow r) set i
-    (each_row (IsSmallRow r) protocol.Mpcp set i (rows_small protocol.Mpcp set i r accepted within here))
+    mpcp_closer_each (IsSmallRow r) set i (rows_small protocol.Mpcp set i r accepted within here)
     (further_small set (held_in_waits set i) i r accepted within here (λ x q a b. held_small set i x q r accepted within here))
     (λ x q a b. wait_small set i x q r accepted within here a)
 
@@ -121,9 +126,12 @@ closer_rows_few set i accepted here =
     let f : Few set = few set accepted in
     omega (
       arith,
-      length-append (rows_of protocol.Mpcp set i) (behind set i),
+      length-append (common_rows set i) (holders_and_behind set i),
+      length-append (holders set i) (behind set i),
       length-append (further_rows set (held_in_waits set i) i) (wait_rows set i),
-      rows_few protocol.Mpcp set i accepted,
+      common_few set i f,
+      per_at_most (length set.resources) (lower_holder_row set i),
+      f.resources,
       further_few set (held_in_waits set i) i f,
       pair_at_most i (length set.resources) (direct_wait_row set i),
       mul-le-mul_right (length set.resources) here,
@@ -133,7 +141,7 @@ closer_rows_few set i accepted here =
 -- The rows of requests are among them.
 among : (set : SetDef) (i x q : ℕ) → x < length set.tasks → q < length set.resources
     → Contains (mpcp_closer_rows set i) (request_row set i x q)
-among set i x q a b = request_among protocol.Mpcp set i (behind set i) x q a b
+among set i x q a b = request_row_among set i x q (holders_and_behind set i) a b
 
 pub mpcp_closer_is_program : (set : SetDef) (i : ℕ) (r : List ℕ) → IsAccepted set → i < length set.tasks → AreWithinDeadlines set r
     → IsProgram (mpcp_closer_program set i r)
@@ -153,17 +161,24 @@ mpcp_closer_covered set i r c within =
 pub mpcp_closer_above : (set : SetDef) → ComesUpAbove (mpcp_closer_source set)
 mpcp_closer_above set = comes_up_above (mpcp_closer_source set) (λ i r s here most. mpcp_closer_rises set i r s here most)
 
--- A program has at most 256 rows of direct waits, so at most 1404 rows. A row of direct waits counts the columns that a row of turns counts.
+-- A program has at most 32 rows of lower holders and 256 of direct waits, so at most 1054 rows. A row of direct waits counts the columns that
+-- a row of turns counts.
 pub mpcp_closer_height : (set : SetDef) (i : ℕ) (r : List ℕ) → IsAccepted set → i < length set.tasks
-    → height (mpcp_closer_program set i r) ≤ 1404
+    → height (mpcp_closer_program set i r) ≤ 1054
 mpcp_closer_height set i r accepted here =
     let cs : List ColumnDef = columns_of protocol.Mpcp set i in
+    let f : Few set = few set accepted in
     omega (
       arith,
       height_is set cs (mpcp_closer_rows set i) r,
-      there_behind cs (rows_of protocol.Mpcp set i) (behind set i),
+      there_behind cs (common_rows set i) (holders_and_behind set i),
+      there_behind cs (holders set i) (behind set i),
       there_behind cs (further_rows set (held_in_waits set i) i) (wait_rows set i),
-      rows_at_most protocol.Mpcp set i accepted here,
+      common_there (is_column protocol.Mpcp set i) set i accepted here (columns_are_requests protocol.Mpcp set i)
+          (columns_are_of_others protocol.Mpcp set i),
+      filter_shorter (holds_some cs) (holders set i),
+      per_at_most (length set.resources) (lower_holder_row set i),
+      f.resources,
       further_there set (held_in_waits set i) i accepted here,
       first_rows_few (is_column protocol.Mpcp set i) set i (direct_wait_row set i) accepted (columns_are_requests protocol.Mpcp set i)
           (omega (arith, here)) (λ x q. turn_of set i x q),

@@ -1,5 +1,5 @@
 -- The programs with closer rows analyse MPCP, so valid certificates over them are sound, and they raise no bound.
-use Rattle.std.proofs.Common.{ℕ, ◌++◌, List, length, arith}
+use Rattle.std.proofs.Common.{ℕ, List, length, arith}
 use Rattle.program_form.specs.Certificate.{CertificateDef}
 use Rattle.sporadic_model.specs.SetDef.{SetDef}
 use Rattle.sporadic_model.specs.Accepted.{IsAccepted, IsFormed}
@@ -15,16 +15,16 @@ use Rattle.program_sources.specs.Valid.{IsValid}
 use Rattle.blocking_columns.specs.Columns.{may_block, columns_of}
 use Rattle.charge_laws.specs.Charges.{shared_charge}
 use Rattle.program_laws.specs.Programs.{rows_of, source_of, interfering_cost}
-use Rattle.program_laws.proofs.MoreRows.{fitting_with_more}
 use Rattle.row_laws.proofs.ChargedTicks.{mpcp_is_charged}
 use Rattle.row_laws.proofs.InterferingCosts.{mpcp_interferes_within}
 use Rattle.soundness_laws.specs.Sound.{Sound}
 use Rattle.soundness_laws.specs.Analyses.{Analyses, AreValues}
 use Rattle.soundness_laws.proofs.Soundness.{sound_of}
 use Rattle.soundness_laws.proofs.Instances.{analyses_over}
-use Rattle.closer_mpcp_laws.specs.CloserMpcpRows.{further_rows}
-use Rattle.mpcp_window_laws.specs.WaitRows.{held_in_waits, wait_rows, mpcp_closer_rows, mpcp_closer_source}
+use Rattle.closer_laws.proofs.Dominated.{fitting_where_dominated}
+use Rattle.mpcp_window_laws.specs.WaitRows.{mpcp_closer_rows, mpcp_closer_source}
 use Rattle.mpcp_window_laws.proofs.Points.{mpcp_closer_point}
+use Rattle.mpcp_window_laws.proofs.Dominating.{mpcp_rows_dominated}
 
 pub mpcp_closer_analyses : (set : SetDef) → IsFormed set
     → Analyses (shared_rule mpcp) is_shared_interference (mpcp_closer_source set)
@@ -48,8 +48,8 @@ mpcp_closer_sound set c values accepted valid are =
 pub mpcp_closer_fitting : (set : SetDef) (s : List ℕ) → AreFitting (source_of protocol.Mpcp set) s
     → AreFitting (mpcp_closer_source set) s
 mpcp_closer_fitting set s fits =
-    fitting_with_more set (may_block protocol.Mpcp set) (rows_of protocol.Mpcp set)
-    (λ i. further_rows set (held_in_waits set i) i ++ wait_rows set i) (interfering_cost protocol.Mpcp set) s fits
+    fitting_where_dominated set (may_block protocol.Mpcp set) (rows_of protocol.Mpcp set) (mpcp_closer_rows set)
+    (interfering_cost protocol.Mpcp set) s (mpcp_rows_dominated s set) fits
 
 pub mpcp_closer_no_greater : (set : SetDef) (r s : List ℕ) → AreLeastFitting (mpcp_closer_source set) r
     → AreFitting (source_of protocol.Mpcp set) s → AtMost (length set.tasks) r s

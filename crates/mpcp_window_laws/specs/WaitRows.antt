@@ -10,9 +10,10 @@ use Rattle.blocking_columns.specs.declared.columns.Class.TheVariants.{Direct}
 use Rattle.blocking_columns.specs.ColumnDef.{is_class}
 use Rattle.blocking_columns.specs.Columns.{may_block, columns_of}
 use Rattle.blocking_columns.specs.Windows.{requests_during, requests_in}
-use Rattle.fragments.specs.Constraints.{ConstraintDef, counting, per_pair}
+use Rattle.fragments.specs.Constraints.{ConstraintDef, counting, per, per_pair}
+use Rattle.direct_constraints.specs.Rows.{common_rows, lower_holder_row}
 use Rattle.indirect_constraints.specs.Rows.{is_beside}
-use Rattle.program_laws.specs.Programs.{program_with, source_with, rows_of, interfering_cost}
+use Rattle.program_laws.specs.Programs.{program_with, source_with, interfering_cost}
 use Rattle.closer_mpcp_laws.specs.CloserMpcpRows.{further_rows}
 use Rattle.mpcp_window_laws.specs.MpcpWindows.{wait_window}
 
@@ -40,9 +41,12 @@ held_in_waits set i bounds x r = sum_below i (λ y. only_if (is_beside set x y) 
 abbrev pub wait_rows : SetDef → ℕ → List ConstraintDef
 wait_rows set i = per_pair i (length set.resources) (direct_wait_row set i)
 
--- The rows of a program: those of MPCP, then the closer ones, in which higher tasks hold what i waits for within its windows, then these.
+-- The rows of a program: requests, time and lower holders, as under MPCP; then the closer ones, in which higher tasks hold what i waits for
+-- within its windows; then these. MPCP's rows of intervals and of holdings aren't there, since those of shared intervals and of shared
+-- holdings say more.
 abbrev pub mpcp_closer_rows : SetDef → ℕ → List ConstraintDef
-mpcp_closer_rows set i = rows_of protocol.Mpcp set i ++ (further_rows set (held_in_waits set i) i ++ wait_rows set i)
+mpcp_closer_rows set i = common_rows set i
+    ++ (per (length set.resources) (lower_holder_row set i) ++ (further_rows set (held_in_waits set i) i ++ wait_rows set i))
 
 -- The source of these programs for a set. Requests may block as under MPCP, and interference is counted as there.
 abbrev pub mpcp_closer_source : SetDef → SourceDef

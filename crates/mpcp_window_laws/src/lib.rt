@@ -82,10 +82,11 @@ pub fn closer_programs_are_accepted()
         → HasLimitsAtMost (mpcp_closer_program set i r) (mpcp_closer_program set i s) }
 {}
 
-/// Such a program has at most 1404 rows: the 701 of MPCP, of holdings by resource and of direct waits one for each of 256 request entries,
-/// of shared holdings, away holdings and shared intervals one for each of 63 other tasks, and two more.
+/// Such a program has at most 1054 rows. Of requests, of holdings by resource and of direct waits there is one for each of 256 request
+/// entries. Of time, of shared holdings, of away holdings and of shared intervals there is one for each of 63 other tasks. Of lower holders
+/// there is one for each of 32 resources. And there are two more.
 pub fn closer_rows_are_few()
-    ensures { (set : SetDef) (i : ℕ) (r : List ℕ) → IsAccepted set → i < length set.tasks → height (mpcp_closer_program set i r) ≤ 1404 }
+    ensures { (set : SetDef) (i : ℕ) (r : List ℕ) → IsAccepted set → i < length set.tasks → height (mpcp_closer_program set i r) ≤ 1054 }
 {}
 
 /// Take a job in a lawful schedule of an accepted set, under MPCP. Let each job whose release plus bound is less than this job's, and lies
