@@ -101,6 +101,17 @@ def small_set(draw: random.Random) -> bytes:
     return json.dumps(set_of(processors, resources, *tasks)).encode()
 
 
+def wide_set(draw: random.Random) -> dict:
+    """A set of few tasks that request many resources, so that lower tasks may spin for more than eight."""
+    processors = draw.randint(2, 3)
+    resources = [resource(f"q{q}", draw.randint(1, processors)) for q in range(draw.randint(9, 13))]
+    tasks = []
+    for number in range(draw.randint(3, 6)):
+        chosen = draw.sample(resources, draw.choice([1, 2, draw.randint(8, len(resources))]))
+        tasks.append(task(f"t{number}", draw.randint(1, processors), draw.randint(300, 900), 20, *((one["name"], draw.randint(1, 4)) for one in chosen)))
+    return set_of(processors, resources, *tasks)
+
+
 def known_sets() -> list[bytes]:
     """The sets of examples/, and the texts of tests/cli/sets.py that are sets."""
     texts = [path.read_bytes() for path in sorted((TOP / "examples").glob("*.json"))]
@@ -111,7 +122,7 @@ def known_sets() -> list[bytes]:
 def generated_sets(draw: random.Random, count: int) -> list[bytes]:
     found = []
     for number in range(count):
-        larger = {5: lambda: generated(12, draw), 6: lambda: generated(24, draw), 7: lambda: generated_crowded(10, draw, 300)}.get(number % 8)
+        larger = {3: lambda: wide_set(draw), 5: lambda: generated(12, draw), 6: lambda: generated(24, draw), 7: lambda: generated_crowded(10, draw, 300)}.get(number % 8)
         found.append(json.dumps(larger()).encode() if larger else small_set(draw))
     return found
 

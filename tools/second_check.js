@@ -351,7 +351,8 @@ var SecondCheck = (function () {
     // What the columns and rows of task i's program ask of the set. Tasks and resources go by their places, from 0; a lower place is higher.
     class View {
         constructor(set, protocol, i) {
-            Object.assign(this, { set, protocol, i, me: set.tasks[i], bounds: [], waits: new Map(), is_spinning: protocol.startsWith("spin") });
+            Object.assign(this, { set, protocol, i, me: set.tasks[i], bounds: [], waits: new Map(), spun: new Map() });
+            this.is_spinning = protocol.startsWith("spin");
             this.all = set.tasks.map((_, x) => x);
             this.resources = set.resources.map((_, q) => q);
             this.own = this.resources.filter((q) => this.uses(i, q));
@@ -505,20 +506,36 @@ var SecondCheck = (function () {
         is_shared_out(x, q) { return this.all.some((y) => this.uses(y, q) && this.processor(y) !== this.processor(x)); }
         shared_out() { return this.own.filter((q) => this.is_shared_out(this.i, q)); }
 
-        // For which resources lower tasks of i's processor may spin while a task of processor k holds them; and their requests by i and by
-        // higher tasks there.
-        spun_below(k) {
-            const lower = this.beside(this.i).filter((y) => y > this.i), there = this.all.filter((x) => this.processor(x) === k);
-            const is_used = (q, among) => among.some((x) => this.uses(x, q));
-            return k === this.processor(this.i) ? [] : this.resources.filter((q) => is_used(q, lower) && is_used(q, there));
+        // For which resources lower tasks of i's processor may spin while a task of processor k holds them: all of these, those that i or a
+        // higher task there uses, and the lone ones, which no such task uses.
+        groups(k) {
+            if (!this.spun.has(k)) {
+                const lower = this.beside(this.i).filter((y) => y > this.i), there = this.all.filter((x) => this.processor(x) === k);
+                const upper = this.all.filter((x) => x <= this.i && this.is_local(x)), is_used = (q, among) => among.some((x) => this.uses(x, q));
+                const below = k === this.processor(this.i) ? [] : this.resources.filter((q) => is_used(q, lower) && is_used(q, there));
+                this.spun.set(k, { below, above: below.filter((q) => is_used(q, upper)), lone: below.filter((q) => !is_used(q, upper)) });
+            }
+            return this.spun.get(k);
         }
 
+        is_left_out(k, q) { const { below, lone } = this.groups(k); return lone.length > 1 && lone.includes(q) && below.length > MANY; }
         spins_above(among) { return sum_of(among, (q) => this.me.count[q] + this.holds(this.i, q, 0n)); }
 
-        // Which of these rows, each of several resources of one processor, a column of that processor or of a lower request stands in.
+        // The sets of resources of k that have a row together, each with whom it is for: all; all but one; the lone ones with another one; the lone ones.
+        all_spun(k) { const { below, above } = this.groups(k); return above.length > 0 ? [[below, k]] : []; }
+        but_one(k) {
+            const { below, above } = this.groups(k), apart = below.filter((q) => (above.includes(q) ? above.length > 1 : below.length <= MANY));
+            return apart.map((q) => [below.filter((r) => r !== q), k, q]);
+        }
+        lone_with_one(k) { const { above, lone } = this.groups(k); return above.length > 2 ? above.map((q) => [[q, ...lone], k, q]) : []; }
+        all_lone(k) { return [[this.groups(k).lone, k]]; }
+
+        spun_together(rows, q) { return 1n + this.spins_above(rows.find((row) => row[2] === q)[0]); }
+
+        // Which of these rows, of each processor some, a column of that processor or of a lower request stands in.
         together(column, rows) {
-            const is_in = ({ k, among }) => (is_open(column) ? this.processor(column.x) === k && among.includes(column.q) : !among.includes(column.q));
-            return rows.filter((row) => row.among.length > 1 && is_in(row)).map(({ whom }) => whom);
+            const is_in = ([among, k]) => (is_open(column) ? this.processor(column.x) === k && among.includes(column.q) : !among.includes(column.q));
+            return this.processors().flatMap(rows).filter((row) => row[0].length > 1 && is_in(row)).map(([, ...whom]) => whom);
         }
 
         processors() { return [...new Set(this.set.tasks.map((task) => Number(task.processor)))]; }
@@ -528,6 +545,8 @@ var SecondCheck = (function () {
     }
 
     const is_open = (column) => column.way !== PREEMPTION;
+    // Of more resources for which lower tasks may spin, a lone one has no rows of its own under "spin-c".
+    const MANY = 8;
 
     // Each kind of row: which row a column stands in, if any, or which ones, how often where that isn't once, and the limit of that row.
     const KINDS = {
@@ -554,17 +573,16 @@ var SecondCheck = (function () {
         local_waits: { row: (view, { q, way }) => way === DIRECT && !view.is_shared_out(view.i, q) && [0], limit: () => 0n },
         closer_spinning: {
             rows: (view, column) => (is_open(column) ? [[view.processor(column.x), column.q]]
-                : view.processors().flatMap((k) => view.spun_below(k).filter((q) => q !== column.q).map((q) => [k, q]))),
+                : view.processors().flatMap((k) => view.groups(k).below.filter((q) => q !== column.q).map((q) => [k, q]))).filter(([k, q]) => !view.is_left_out(k, q)),
             limit: (view, k, q) => view.me.count[q] + view.holds(view.i, q, 1n),
         },
-        lower_spinning: {
-            rows: (view, column) => view.together(column, view.processors().map((k) => ({ k, among: view.spun_below(k), whom: [k] }))),
-            limit: (view, k) => 1n + view.spins_above(view.spun_below(k)),
+        lower_spinning: { rows: (view, column) => view.together(column, (k) => view.all_spun(k)), limit: (view, k) => view.spun_together(view.all_spun(k)) },
+        other_lower_spinning: { rows: (view, column) => view.together(column, (k) => view.but_one(k)), limit: (view, k, q) => view.spun_together(view.but_one(k), q) },
+        lone_lower_spinning_with: {
+            rows: (view, column) => view.together(column, (k) => view.lone_with_one(k)),
+            limit: (view, k, q) => view.spun_together(view.lone_with_one(k), q),
         },
-        other_lower_spinning: {
-            rows: (view, column) => view.together(column, view.processors().flatMap((k) => view.spun_below(k).map((q, at, spun) => ({ k, among: spun.filter((r) => r !== q), whom: [k, q] })))),
-            limit: (view, k, q) => 1n + view.spins_above(view.spun_below(k).filter((r) => r !== q)),
-        },
+        lone_lower_spinning: { rows: (view, column) => view.together(column, (k) => view.all_lone(k)), limit: (view, k) => view.spun_together(view.all_lone(k)) },
         shared_holdings: { row: (view, { x, way }) => way === INDIRECT && [x], limit: (view, x) => view.shared_holds(x, view.resources.filter((q) => view.uses(x, q))) },
         holdings_by_resource: { row: (view, { x, q, way }) => way === INDIRECT && [x, q], limit: (view, x, q) => view.shared_holds(x, [q]) },
         away_holdings: { row: (view, column) => is_open(column) && [column.x], limit: (view, x) => view.runs_beside(x) },
@@ -593,7 +611,8 @@ var SecondCheck = (function () {
         spin: ["requests", "time", "lower_requests", "spinning", "own_spinning"],
     };
     KINDS_OF["fmlp+-c"] = [...KINDS_OF["fmlp+"], "holders", "other_holders", "lower_tasks", "local_preemption", "local_waits", "local_runners"];
-    KINDS_OF["spin-c"] = ["requests", "time", "lower_requests", "closer_spinning", "own_spinning", "lower_spinning", "other_lower_spinning"];
+    KINDS_OF["spin-c"] = ["requests", "time", "lower_requests", "own_spinning", "lower_spinning", "other_lower_spinning", "lone_lower_spinning_with"];
+    KINDS_OF["spin-c"].push("closer_spinning", "lone_lower_spinning");
     KINDS_OF["dpcp-c"] = [...KINDS_OF["dpcp-w"], "home_tasks", "lower_home_tasks", "lower_preemption", "lower_home_waits"];
     KINDS_OF["dflp-c"] = [...KINDS_OF.dflp, "home_tasks", "lower_home_tasks", "lower_preemption"];
     KINDS_OF["mpcp-c"] = ["requests", "time", "lower_holders", "shared_holdings", "holdings_by_resource", "away_holdings", "shared_intervals"];

@@ -14,6 +14,8 @@ from .protocols import AT_HOMES, PROTOCOLS
 Bounds = Sequence[int]
 # a row: the columns that it has, each with its coefficient
 Row = list[tuple[int, int]]
+# of more resources for which lower tasks may spin, one that isn't used above has no rows of its own in the closer analysis of spin locks
+MANY = 8
 
 
 class Column(NamedTuple):
@@ -393,9 +395,11 @@ class Shape:
     def add_closer_spinning(self) -> None:
         """Of a processor and a resource: one request for each that spins, or in place of the lower one a request of another resource that runs."""
         for k in self.processors:
-            spun = self.spun_below(k)
+            spun, lone = self.spun_below(k), self.lone_below(k)
+            left_out = lone if len(spun) > MANY and len(lone) > 1 else []
             for q in range(len(self.s.resources)):
-                self.add_closer_spinning_of(k, q, q in spun)
+                if q not in left_out:
+                    self.add_closer_spinning_of(k, q, q in spun)
 
     def add_closer_spinning_of(self, k: int, q: int, is_spun_below: bool) -> None:
         """The row of k and q."""
@@ -406,14 +410,28 @@ class Shape:
     def add_lower_spinning(self) -> None:
         """Of a processor: of all that lower local tasks spin for there, one request for each that spins, or a lower one of others that runs."""
         for k in self.processors:
-            self.add_together(k, self.spun_below(k))
+            if self.spun_above(k):
+                self.add_together(k, self.spun_below(k))
 
     def add_other_lower_spinning(self) -> None:
-        """Of a processor and a resource: the same of the others of these."""
+        """Of a processor and a resource: the same of the others of these, if others are used above, or the resource isn't and they aren't many."""
         for k in self.processors:
-            spun = self.spun_below(k)
-            for q in spun:
+            spun, above = self.spun_below(k), self.spun_above(k)
+            apart = [q for q in spun if (len(above) > 1 if q in above else len(spun) <= MANY)]
+            for q in apart:
                 self.add_together(k, [r for r in spun if r != q])
+
+    def add_lone_lower_spinning_with(self) -> None:
+        """Of a processor and a resource that is used above: the same of it and of those that aren't, where three or more are used above."""
+        for k in self.processors:
+            above = self.spun_above(k)
+            for q in above if len(above) > 2 else []:
+                self.add_together(k, [q, *self.lone_below(k)])
+
+    def add_lone_lower_spinning(self) -> None:
+        """Of a processor: the same of those that aren't used above."""
+        for k in self.processors:
+            self.add_together(k, self.lone_below(k))
 
     def add_together(self, k: int, resources: list[int]) -> None:
         """The row of these resources, which is there if they are two or more."""
@@ -428,6 +446,16 @@ class Shape:
         lower = [x for x in range(self.i + 1, s.n) if s.processor[x] == here]
         there = [x for x in range(s.n) if s.processor[x] == k != here]
         return [q for q in range(len(s.resources)) if any(q in s.count[x] for x in lower) and any(q in s.count[x] for x in there)]
+
+    def spun_above(self, k: int) -> list[int]:
+        """Those of them that i or a higher task of its processor requests."""
+        s, here = self.s, self.s.processor[self.i]
+        return [q for q in self.spun_below(k) if any(x <= self.i and s.processor[x] == here for x in s.users(q))]
+
+    def lone_below(self, k: int) -> list[int]:
+        """The others of them."""
+        above = self.spun_above(k)
+        return [q for q in self.spun_below(k) if q not in above]
 
     def add_holders(self) -> None:
         """Of a task: one request before each of i that its processor may hold up."""
@@ -621,10 +649,12 @@ KINDS["spin-c"] = (
     Shape.add_requests,
     Shape.add_time,
     Shape.add_lower_requests,
-    Shape.add_closer_spinning,
     Shape.add_own_spinning,
     Shape.add_lower_spinning,
     Shape.add_other_lower_spinning,
+    Shape.add_lone_lower_spinning_with,
+    Shape.add_closer_spinning,
+    Shape.add_lone_lower_spinning,
 )
 KINDS["mpcp-c"] = (
     Shape.add_requests,

@@ -3,6 +3,8 @@ from bounds import audited, bounded
 from setting import Case, runs_on
 from sets import FIVE, PAIR, certificate, old, resource, task, task_set, tied
 
+NINE = [f"q{number}" for number in range(1, 10)]
+
 # of each closer kind of rows a set in which one bound falls by that kind alone, or by that kind among them, with the bounds under spin
 # locks and by the closer analysis; and a lawful schedule that meets the smaller bound: its jobs, its rows, and what an audit says
 KINDS = {
@@ -12,10 +14,30 @@ KINDS = {
         "t1,0,1 q:3\nt2,1,4\nt3,0,1 q:3\n", "1,1,3,,\n3,1,,1,\n3,,3,3,\n4,,2,,\n",
         "kept 11\nt1 4 9 0 3 0 0 0\nt2 10 10 6 6 0 3 3\nt3 7 19 3 3 3 0 0\n"),
     "lower spinning": (
+        task_set(2, [resource("q"), resource("r")],
+                 task("t1", 1, 200, 3, ("q", 1)), task("t2", 1, 300, 6, ("q", 1), ("r", 1)), task("t3", 2, 300, 20, ("q", 5, 2), ("r", 5))),
+        [19, 24, 23], [14, 24, 23],
+        "t1,1,2 q:1\nt2,0,1 q:1\nt3,0,1 q:5 3 q:5\n", "1,2,3,,\n5,,3,3,\n1,2,3,2,\n2,1,3,,\n5,,3,3,\n1,1,,1,\n",
+        "kept 15\nt1 14 14 11 11 5 5 1\nt2 7 24 5 15 5 0 0\nt3 14 23 0 3 0 0 0\n"),
+    "lone lower spinning": (
         task_set(2, [resource("q"), resource("r")], task("t1", 1, 100, 3), task("t2", 1, 200, 5, ("q", 1), ("r", 1)), task("t3", 2, 200, 12, ("q", 5), ("r", 5))),
         [14, 18, 14], [9, 18, 14],
         "t1,1,3\nt2,0,1 q:1\nt3,0,1 q:5\n", "1,2,3,,\n5,,3,3,\n1,2,,2,\n3,1,,,\n",
         "kept 10\nt1 9 9 6 6 0 5 1\nt2 7 18 5 10 5 0 0\nt3 6 14 0 2 0 0 0\n"),
+    "lone lower spinning with one": (
+        task_set(2, [resource("q"), resource("r"), resource("s"), resource("u")],
+                 task("t1", 1, 900, 6, ("q", 1), ("r", 1), ("s", 1)), task("t2", 1, 1000, 8, ("q", 1), ("r", 1), ("s", 1), ("u", 1)),
+                 task("t3", 2, 1000, 40, ("q", 10, 2), ("r", 1), ("s", 1), ("u", 10))),
+        [39, 46, 45], [29, 46, 45],
+        "t1,1,1 q:1 1 r:1 1 s:1\nt2,0,1 q:1\nt3,0,1 q:10 2 q:10 2 r:1 2 s:1\n",
+        "1,2,3,,,,\n10,,3,3,,,\n1,2,3,2,,,\n1,1,3,,,,\n10,,3,3,,,\n1,1,3,1,,,\n1,1,3,,,,\n1,,3,,3,,\n1,1,3,,1,,\n1,1,3,,,,\n1,,3,,,3,\n1,1,,,,1,\n",
+        "kept 30\nt1 29 29 23 23 12 10 1\nt2 12 46 10 32 10 0 0\nt3 29 45 0 5 0 0 0\n"),
+    "lone lower spinning, with nine resources": (
+        task_set(2, [resource(name) for name in NINE],
+                 task("t1", 1, 900, 3), task("t2", 1, 1000, 20, *((name, 1) for name in NINE)), task("t3", 2, 1000, 60, *zip(NINE, range(1, 10)))),
+        [49, 68, 69], [13, 68, 69],
+        "t1,1,3\nt2,0,1 q9:1\nt3,0,1 q9:9\n", "1,2,3,,,,,,,,,\n9,,3,,,,,,,,,3\n1,2,,,,,,,,,,2\n3,1,,,,,,,,,,\n",
+        "kept 14\nt1 13 13 10 10 0 9 1\nt2 11 68 9 45 9 0 0\nt3 10 69 0 9 0 0 0\n"),
     "other lower spinning": (
         task_set(2, [resource("q"), resource("r"), resource("s")],
                  task("t1", 1, 200, 3), task("t2", 1, 300, 15, ("q", 1), ("r", 1), ("s", 10)), task("t3", 2, 300, 25, ("q", 10), ("r", 10), ("s", 1))),
@@ -24,9 +46,9 @@ KINDS = {
         "kept 15\nt1 14 14 11 11 0 10 1\nt2 12 39 10 21 10 0 0\nt3 11 37 0 12 0 0 0\n"),
 }
 
-LOWER, _, BOUNDS, *_ = KINDS["lower spinning"]
+LOWER, _, BOUNDS, *_ = KINDS["lone lower spinning"]
 REST = [[5, 5, 0, 0, 0, 0, 0], [1, 1, 0, 0, 0, 0, 0]]
-# of the higher task: four rows of requests, two of time, lower requests, closer spinning of q and of r, lower spinning
+# of the higher task: four rows of requests, two of time, lower requests, closer spinning of q and of r, lone lower spinning
 LOWER_CERTIFICATE = certificate("spin-c", BOUNDS, [[0, 0, 0, 0, 0, 0, 1, 0, 0, 5], *REST], LOWER)
 TIGHT = LOWER.replace('"cost": 3,', '"cost": 3, "deadline": 12,')
 TIGHTER = LOWER.replace('"cost": 3,', '"cost": 3, "deadline": 8,')
@@ -44,12 +66,12 @@ ANALYSES = [
 ]
 
 CERTIFICATES = [
-    run("a certificate by lower spinning", "check spin-c", "valid\n", cert=LOWER_CERTIFICATE),
+    run("a certificate by lone lower spinning", "check spin-c", "valid\n", cert=LOWER_CERTIFICATE),
     run("not under spin locks", "check spin", "refused cert otherprotocol\n", 3, cert=LOWER_CERTIFICATE),
     run("nor with the word of spin locks", "check spin", "invalid dualsize t1\n", 1, cert=LOWER_CERTIFICATE.replace("spin-c", "spin")),
     run("what closer spinning shows without it", "check spin-c", "valid\n",
         cert=certificate("spin-c", [13, 18, 14], [[0, 0, 0, 0, 0, 0, 0, 5, 5, 0], *REST], LOWER)),
-    run("no bound below what lower spinning lets be", "check spin-c", "invalid small t1\n", 1,
+    run("no bound below what lone lower spinning lets be", "check spin-c", "invalid small t1\n", 1,
         cert=certificate("spin-c", [8, 18, 14], [[0, 0, 0, 0, 0, 0, 1, 0, 0, 5], *REST], LOWER)),
     run("a dual that leaves spinning to lower requests", "check spin-c", "invalid cover t1 3\n", 1,
         cert=certificate("spin-c", BOUNDS, [[0, 0, 0, 0, 0, 0, 5, 0, 0, 0], *REST], LOWER)),
