@@ -1,11 +1,11 @@
 -- What a table says of its test: how many pass, and what sums over those that pass are.
 use Rattle.std.proofs.Common.{◌≡◌, ℕ, ◌+◌, ◌<◌, ◌==◌, ◌&&◌, ◌||◌, not, if◌then◌else◌, Bool, true, false, List, length, refl, ap, ◌∙◌, inl, inr}
 use Rattle.std.proofs.Common.{nat_lt, nat_le}
-use Rattle.std.specs.Prelude.{slice_index_or}
+use Rattle.std.specs.Prelude.{slice_index, slice_index_or}
 use Rattle.std.specs.List.{Contains}
 use Rattle.std.proofs.lemmas.Bool.{cases_Bool, both_ways, and_parts, not-true}
 use Rattle.std.proofs.lemmas.List.Elements.{All-contains_itself}
-use Rattle.number_laws.specs.Sums.{only_if}
+use Rattle.number_laws.specs.Sums.{sum_below, only_if}
 use Rattle.number_laws.specs.Tests.{count_below}
 use Rattle.number_laws.proofs.SumLaws.{sum_below-agree}
 use Rattle.number_laws.proofs.CountLaws.{flag-passes, count_below-agree, count_below-none}
@@ -31,14 +31,17 @@ told_many n test table told =
     ap (λ m. count_below m (λ q. slice_index_or table q false)) told.one_each
     ∙ count_below-agree n (λ q. slice_index_or table q false) test told.each
 
-pub told_requests : (set : SetDef) (bounds : ℕ → ℕ) (i : ℕ) (test : ℕ → Bool) (table : List Bool)
+-- Sums over those that are told are the requests of those that pass.
+pub told_requests : (set : SetDef) (bounds : ℕ → ℕ) (i : ℕ) (test : ℕ → Bool) (table : List Bool) (requests : List ℕ)
     → Tells (length set.resources) test table
-    → upper_requests set bounds i (λ q. slice_index_or table q false) ≡ upper_requests set bounds i test
-told_requests set bounds i test table told =
-    sum_below-agree (length set.resources)
-    (λ q. only_if (slice_index_or table q false) (count_of set i q + higher_requests set bounds i q))
+    → ((q : ℕ) → q < length set.resources → slice_index requests q ≡ count_of set i q + higher_requests set bounds i q)
+    → sum_below (length table) (λ q. only_if (slice_index_or table q false) (slice_index requests q)) ≡ upper_requests set bounds i test
+told_requests set bounds i test table requests told are =
+    ap (λ m. sum_below m (λ q. only_if (slice_index_or table q false) (slice_index requests q))) told.one_each
+    ∙ sum_below-agree (length set.resources)
+    (λ q. only_if (slice_index_or table q false) (slice_index requests q))
     (λ q. only_if (test q) (count_of set i q + higher_requests set bounds i q))
-    (λ q l. ap (λ b. only_if b (count_of set i q + higher_requests set bounds i q)) (told.each q l))
+    (λ q l. ap (λ b. only_if b (slice_index requests q)) (told.each q l) ∙ ap (λ n. only_if (test q) n) (are q l))
 
 -- Where they aren't several, or too few are used above, the row of these resources together isn't there.
 pub together_missing : (set : SetDef) (i k least : ℕ) (test : ℕ → Bool) (cs : List ColumnDef)
