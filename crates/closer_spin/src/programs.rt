@@ -1,6 +1,6 @@
 //! What the closer programs are made of: the columns of spin locks, and rows that say more.
 
-ghost use Rattle.std.specs.Prelude.{◌<◌, ◌++◌, map, OnOk};
+ghost use Rattle.std.specs.Prelude.{◌≡◌, ◌<◌, ◌++◌, map, OnOk};
 ghost use Rattle.schedule_model.specs.Protocols.{EachSetSuits};
 ghost use Rattle.blocking_columns.specs.ColumnDef.{column_seen};
 ghost use Rattle.spin_charging.specs.SpinPrograms.{spin_columns};
@@ -10,12 +10,13 @@ ghost use Rattle.blocking_columns.specs.Given.{AreInOrderAt, AreKnownAt};
 ghost use Rattle.closer_spin.specs.Closer.{CanMakeRowsWith};
 
 use crate::groups::{Group, Pairing, spun_everywhere};
+use crate::own::add_own_rows;
 use crate::rows::{Known, add_closer_rows, add_groups, add_pairs};
 use crate::tables::{UsedAbove, UsedBelow, requests_above};
 use direct_constraints::add_common;
 use fragments::{Fragment, RowTaker};
 use protocol_programs::ProgramParts;
-use spin_protocol::{add_lower_requests, add_own_spinning, origins_of, spin_fragments, table_of};
+use spin_protocol::{add_lower_requests, origins_of, spin_fragments, table_of};
 use sporadic_model::{TaskId, TaskSet};
 use std::alloc::{AllocError, Global};
 
@@ -81,12 +82,13 @@ fn add_rows<T: RowTaker>(
     bounds: &[u64],
     columns: &[Fragment],
 ) -> Result<(), AllocError>
-    requires { AreInOrderAt set.now bounds.now i.0 columns.now }
+    requires ordered { AreInOrderAt set.now bounds.now i.0 columns.now }
+    requires columns { map column_seen columns.now ≡ spin_columns set.now i.0 }
     ensures { OnOk result (T.takes taker.old (map column_seen columns.now) (spin_closer_rows set.now i.0) bounds.now taker.new) }
 {
     add_common(alloc, taker, set, i, bounds, columns)?;
     add_lower_requests(alloc, taker, set, i, bounds, columns)?;
-    add_own_spinning(alloc, taker, set, i, bounds, columns)?;
+    add_own_rows(alloc, taker, set, i, bounds, columns)?;
     add_closer_part(alloc, taker, set, i, bounds, columns)?;
     Ok(())
 }

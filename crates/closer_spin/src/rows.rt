@@ -144,11 +144,12 @@ impl RowKind for TogetherRow {
     ghost over = { λ k set i c. AreTold set i k.processor k.group k.table.items };
 
     fn coefficient(&self, set: &TaskSet, _i: TaskId, column: Fragment) -> u64 {
-        let passes = self.table[column.resource.0 as usize];
+        let q = column.resource.0 as usize;
         if column.class.is_preemption() {
-            one_if(!passes)
+            one_if(!self.table[q])
         } else {
-            one_if(set.processor(column.task) == self.processor && passes)
+            // most columns are of other processors
+            one_if(set.processor(column.task) == self.processor && self.table[q])
         }
     }
 }
