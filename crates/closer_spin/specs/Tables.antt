@@ -1,10 +1,9 @@
 -- Tables that tell of resources.
-use Rattle.std.specs.Prelude.{◌≡◌, ℕ, ◌<◌, ◌≤◌, Bool, false, List, length, slice_index, slice_index_or}
+use Rattle.std.specs.Prelude.{◌≡◌, ℕ, ◌+◌, ◌<◌, ◌≤◌, Bool, false, List, length, slice_index, slice_index_or}
+use Rattle.number_laws.specs.Sums.{sum_below, only_if}
 use Rattle.sporadic_model.specs.SetDef.{SetDef}
-use Rattle.sporadic_model.specs.Bounds.{AreWithinDeadlines}
-use Rattle.blocking_columns.specs.declared.columns.Fragment.{Fragment}
-use Rattle.spin_charging.specs.SpinPrograms.{is_used_below, upper_requests}
-use Rattle.blocking_columns.specs.Given.{AreKnownAt}
+use Rattle.sporadic_model.specs.Users.{count_of}
+use Rattle.spin_charging.specs.SpinPrograms.{is_used_below, higher_requests}
 use Rattle.spin_protocol.specs.Tables.{Tells}
 use Rattle.closer_spin_laws.specs.CloserSpinRows.{is_spun_below, is_spun_above, is_used_above, is_lone, used_above, are_many_spun}
 
@@ -35,18 +34,20 @@ pub record CanSetApart (set : SetDef) (i k : ℕ) (shared lone : List Bool) (abo
   pub lone_is : Tells (length set.resources) (is_lone set i k) lone
   pub counts : IsCounted set i k above many
 
--- Can rows of task i be made at these bounds, over these columns, with such tables?
-pub record CanMakeRowsWith (set : SetDef) (i : ℕ) (bounds : List ℕ) (columns : List Fragment) (below above : List Bool) : Type 0 where
-  pub can : AreKnownAt set bounds i columns
-  pub users : AreUsers set i below above
+-- By resource, how many requests of it i and the higher tasks of its processor make while a job of i runs.
+pub record AreUpper (set : SetDef) (bounds : List ℕ) (i : ℕ) (requests : List ℕ) : Type 0 where
+  pub one_each : length requests ≡ length set.resources
+  pub each : (q : ℕ) → q < length set.resources
+      → slice_index requests q ≡ count_of set i q + higher_requests set (slice_index bounds) i q
+  pub most : (q : ℕ) → q < length set.resources → slice_index requests q ≤ 128000000001000
 
--- Is i a task of the set, has each task a bound, at most its deadline, and each resource an entry in the table?
-pub record AreTaskAndTable (set : SetDef) (bounds : List ℕ) (i : ℕ) (entries : List Bool) : Type 0 where
-  pub task : i < length set.tasks
-  pub within : AreWithinDeadlines set bounds
-  pub table : length entries ≡ length set.resources
+-- Have the tables an entry for each of few resources, and are the numbers small?
+pub record CanSum (table : List Bool) (requests : List ℕ) : Type 0 where
+  pub one_each : length requests ≡ length table
+  pub few : length table ≤ 32
+  pub most : (q : ℕ) → q < length table → slice_index requests q ≤ 128000000001000
 
--- Is this how many requests i and the higher tasks of its processor make of the resources of the table, while a job of i runs?
-pub record IsUpperCount (set : SetDef) (bounds : List ℕ) (i : ℕ) (table : List Bool) (number : ℕ) : Type 0 where
-  pub value : number ≡ upper_requests set (slice_index bounds) i (λ q. slice_index_or table q false)
-  pub most : number ≤ 4096000000032000
+-- Is this the sum of those that pass?
+pub record IsSumPassing (table : List Bool) (requests : List ℕ) (total : ℕ) : Type 0 where
+  pub value : total ≡ sum_below (length table) (λ q. only_if (slice_index_or table q false) (slice_index requests q))
+  pub most : total ≤ 4096000000032000

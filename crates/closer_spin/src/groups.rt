@@ -1,9 +1,9 @@
 //! Resources for which lower tasks may spin, and which of them a row takes together.
 
-ghost use Rattle.std.specs.Prelude.{◌≡◌, ◌<◌, length, IfOk};
-ghost use Rattle.closer_spin_laws.specs.CloserSpinRows.{leaves_lone_out};
+ghost use Rattle.std.specs.Prelude.{◌≡◌, ◌<◌, ◌≤◌, ◌&&◌, false, nat_lt, length, slice_index_or, IfOk};
+ghost use Rattle.number_laws.specs.Tests.{count_below};
 ghost use Rattle.closer_spin.specs.Tables.{AreUsers};
-ghost use Rattle.closer_spin.specs.Groups.{TellsThere};
+ghost use Rattle.closer_spin.specs.Groups.{TellsThere, TellEverywhere};
 ghost use Rattle.closer_spin.specs.Together.{taken_together, least_above, paired, is_paired};
 
 use crate::tables::{Lone, SetApart, SpunAbove, SpunBelow, how_many};
@@ -68,12 +68,20 @@ pub(crate) struct SpunThere {
     pub(crate) apart: Vec<bool>,
     /// How many are used above.
     pub(crate) above: u32,
-    /// Are they many?
-    pub(crate) many: bool,
+    /// Have lone ones no rows of their own?
+    pub(crate) leaves_out: bool,
 }
 
 /// How many resources for which lower tasks may spin are too many for a row of each lone one.
 const MANY: u32 = 8;
+
+/// Are they many, and several of them lone?
+fn are_left_out(many: bool, lone: &[bool]) -> bool
+    requires { length lone.now ≤ 32 }
+    ensures { result ≡ many && nat_lt 1 (count_below (length lone.now) (λ q. slice_index_or lone.now q false)) }
+{
+    many && how_many(lone) > 1
+}
 
 /// They are told by tables of the resources that lower tasks use and of those that are used above.
 pub(crate) fn spun_there(
@@ -119,6 +127,7 @@ pub(crate) fn spun_there(
         };
         table_of(alloc, set, i, &test)?
     };
+    let leaves_out = are_left_out(many, &lone);
     Ok(SpunThere {
         processor,
         spun,
@@ -126,18 +135,30 @@ pub(crate) fn spun_there(
         lone,
         apart,
         above,
-        many,
+        leaves_out,
     })
 }
 
-/// Have lone resources no rows of their own there?
-pub(crate) fn leaves_lone_out(set: &TaskSet, i: TaskId, there: &SpunThere) -> bool
-    requires { TellsThere set.now i.0 there.now }
-    ensures { result ≡ leaves_lone_out set.now i.0 there.now.processor }
+/// The same of each processor.
+pub(crate) fn spun_everywhere(
+    alloc: Global,
+    set: &TaskSet,
+    i: TaskId,
+    below: &[bool],
+    above: &[bool],
+) -> Result<Vec<SpunThere>, AllocError>
+    requires task { i.0 < length set.now.tasks }
+    requires users { AreUsers set.now i.0 below.now above.now }
+    ensures { IfOk result (λ everywhere. TellEverywhere set.now i.0 everywhere.items) }
 {
-    // a set has at most 32 resources
-    let _resources = set.resources();
-    there.many && how_many(&there.lone) > 1
+    // a set has few processors
+    let processors = set.processors();
+    let mut everywhere = Vec::with_capacity(alloc, processors as usize)?;
+    for k in 0..processors {
+        let there = spun_there(alloc, set, i, k + 1, below, above)?;
+        everywhere.push(there)?;
+    }
+    Ok(everywhere)
 }
 
 /// Has the pairing a row of this resource?

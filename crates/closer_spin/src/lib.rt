@@ -5,6 +5,7 @@
 #![tactic(auto)]
 
 mod groups;
+mod own;
 mod programs;
 mod protocol;
 mod rows;

@@ -2,36 +2,21 @@
 
 ghost use Rattle.std.specs.Prelude.{◌≡◌, ◌<◌, ◌+◌, [], ◌∷◌, false, map, length, OnOk};
 ghost use Rattle.blocking_columns.specs.ColumnDef.{column_seen};
-ghost use Rattle.blocking_columns.specs.Given.{AreKnownAt};
-ghost use Rattle.fragments.specs.Constraints.{per};
-ghost use Rattle.closer_spin_laws.specs.CloserSpinRows.{is_spun_below, is_left_out, closer_spinning_row};
-ghost use Rattle.spin_protocol.specs.Origins.{AreOrigins};
-ghost use Rattle.spin_protocol.specs.Tables.{Tells};
-ghost use Rattle.closer_spin.specs.Tables.{AreUsers};
-ghost use Rattle.closer_spin.specs.Groups.{TellsThere, HasGroup};
-ghost use Rattle.closer_spin.specs.Closer.{CanAddSeveral};
-ghost use Rattle.closer_spin.specs.Together.{taken_together, row_together, paired, AreTold};
+ghost use Rattle.fragments.specs.Constraints.{per, per_pair};
+ghost use Rattle.closer_spin_laws.specs.CloserSpinRows.{is_spun_below, is_left_out, closer_spinning_row, closer_spinning_rows};
+ghost use Rattle.closer_spin.specs.Groups.{HasGroup};
+ghost use Rattle.closer_spin.specs.Closer.{CanMakeRowsWith, CanAddThere, CanAddOne, CanAddSeveral};
+ghost use Rattle.closer_spin.specs.Together.{row_together, paired, AreTold};
 
-use crate::groups::{
-    Group, InGroup, Pairing, SpunThere, is_paired, least_above, leaves_lone_out, paired, spun_there,
-};
-use crate::tables::{how_many, upper_requests};
-use fragments::{
-    Constraint, Fragment, PerNumber, RowKind, RowTaker, add_per_number, add_row, add_row_limited,
-};
-use spin_protocol::{is_from, is_origin, one_if, spinning_requests, table_of};
+use crate::groups::{Group, InGroup, Pairing, SpunThere, is_paired, least_above, paired};
+use crate::tables::{how_many, sum_passing};
+use fragments::{Fragment, RowKind, RowTaker, add_row_limited};
+use spin_protocol::{is_from, is_origin, one_if, table_of};
 use sporadic_model::{ResourceId, TaskId, TaskSet};
 use std::alloc::{AllocError, Global};
 
 /// How many requests of lower tasks are open at a job's release.
 const LOWER_REQUESTS: u64 = 1;
-
-/// Which resources lower tasks use, and which are used above, as tables.
-#[derive(Clone, Copy)]
-pub(crate) struct Users<'a> {
-    pub(crate) below: &'a [bool],
-    pub(crate) above: &'a [bool],
-}
 
 /// Of a processor, counted from 1, and a resource: each request of it from the analysed task's processor spins for at most one from
 /// there. Where lower tasks may spin so, a lower request of another resource stands in the place of theirs.
@@ -59,99 +44,89 @@ impl RowKind for CloserSpinningRow {
     }
 }
 
-impl Constraint for CloserSpinningRow {
-    fn limit(&self, set: &TaskSet, i: TaskId, bounds: &[u64]) -> u64 {
-        spinning_requests(set, i, self.resource, bounds)
-    }
-}
-
-/// The rows of a processor for each resource, with the resources for which lower tasks may spin there, whether lone ones are left out, and
-/// the table of where the columns come from.
-#[derive(Drop)]
-struct CloserSpinningFrom<'a> {
-    there: SpunThere,
-    leaves_out: bool,
-    origins: &'a [bool],
-}
-
-impl<'a> PerNumber for CloserSpinningFrom<'a> {
-    ghost use Rattle.closer_spin.specs.Closer.{CanMakeCloser};
-
-    ghost rows_of = { λ k set i q. closer_spinning_row set i k.there.processor q ∷ [] };
-
-    ghost fits = { λ k set i columns q. CanMakeCloser set i k.there k.leaves_out q columns k.origins.now };
-
-    fn add<T: RowTaker>(
-        &self,
-        alloc: Global,
-        taker: &mut T,
-        set: &TaskSet,
-        i: TaskId,
-        number: u32,
-        bounds: &[u64],
-        columns: &[Fragment],
-    ) -> Result<(), AllocError> {
-        let resource = ResourceId(number);
-        let processor = self.there.processor;
-        let is_spun_below = self.there.spun[number as usize];
-        if self.leaves_out && self.there.lone[number as usize] {
-            return Ok(());
-        }
-        // the tasks of most processors use few of the resources
-        if !is_spun_below && !is_origin(self.origins, processor, resource) {
-            return Ok(());
-        }
-        let row = CloserSpinningRow {
-            processor,
-            resource,
-            is_spun_below,
-        };
-        add_row(alloc, taker, &row, set, i, bounds, columns)
-    }
-}
-
-/// The rows of each processor, with the resources that lower tasks use.
-#[derive(Drop)]
-pub(crate) struct CloserSpinningRows<'a> {
-    pub(crate) users: Users<'a>,
+/// What the rows are formed from: for which resources lower tasks may spin on each processor, which ones lower tasks use, how many
+/// requests of each `i` and higher tasks make, and where the columns come from.
+#[derive(Clone, Copy)]
+pub(crate) struct Known<'a> {
+    pub(crate) everywhere: &'a [SpunThere],
+    pub(crate) below: &'a [bool],
+    pub(crate) requests: &'a [u64],
     pub(crate) origins: &'a [bool],
 }
 
-impl<'a> PerNumber for CloserSpinningRows<'a> {
-    ghost rows_of = { λ k set i n. per (length set.resources) (closer_spinning_row set i (n + 1)) };
-
-    ghost fits = { λ k set i columns n. (n < set.processors)
-        × (AreUsers set i k.users.below.now k.users.above.now × AreOrigins set columns k.origins.now) };
-
-    fn add<T: RowTaker>(
-        &self,
-        alloc: Global,
-        taker: &mut T,
-        set: &TaskSet,
-        i: TaskId,
-        number: u32,
-        bounds: &[u64],
-        columns: &[Fragment],
-    ) -> Result<(), AllocError> {
-        // a set has few processors and resources
-        let _processors = set.processors();
-        let resources = set.resources();
-        let there = spun_there(
-            alloc,
-            set,
-            i,
-            number + 1,
-            self.users.below,
-            self.users.above,
-        )?;
-        let leaves_out = leaves_lone_out(set, i, &there);
-        let rows = CloserSpinningFrom {
-            there,
-            leaves_out,
-            origins: self.origins,
-        };
-        add_per_number(alloc, taker, &rows, set, resources, i, bounds, columns)
+/// Adds the row of spinning of a processor and a resource behind those that the taker has.
+fn add_closer<T: RowTaker>(
+    alloc: Global,
+    taker: &mut T,
+    set: &TaskSet,
+    i: TaskId,
+    bounds: &[u64],
+    columns: &[Fragment],
+    known: Known<'_>,
+    there: &SpunThere,
+    q: u32,
+) -> Result<(), AllocError>
+    requires { CanAddOne set.now i.0 bounds.now columns.now known there.now q }
+    ensures { OnOk result (T.takes taker.old (map column_seen columns.now)
+        (closer_spinning_row set.now i.0 there.now.processor q ∷ []) bounds.now taker.new) }
+{
+    let is_spun_below = there.spun[q as usize];
+    if there.leaves_out && there.lone[q as usize] {
+        return Ok(());
     }
+    let resource = ResourceId(q);
+    // the tasks of most processors use few of the resources
+    if !is_spun_below && !is_origin(known.origins, there.processor, resource) {
+        return Ok(());
+    }
+    let row = CloserSpinningRow {
+        processor: there.processor,
+        resource,
+        is_spun_below,
+    };
+    let limit = known.requests[q as usize] + one_if(known.below[q as usize]);
+    let all = (0, columns.len());
+    add_row_limited(alloc, taker, &row, set, i, bounds, columns, all, limit)
+}
+
+/// The same of each resource.
+fn add_closer_there<T: RowTaker>(
+    alloc: Global,
+    taker: &mut T,
+    set: &TaskSet,
+    i: TaskId,
+    bounds: &[u64],
+    columns: &[Fragment],
+    known: Known<'_>,
+    there: &SpunThere,
+) -> Result<(), AllocError>
+    requires { CanAddThere set.now i.0 bounds.now columns.now known there.now }
+    ensures { OnOk result (T.takes taker.old (map column_seen columns.now)
+        (per (length set.now.resources) (closer_spinning_row set.now i.0 there.now.processor)) bounds.now taker.new) }
+{
+    for q in 0..set.resources() {
+        add_closer(alloc, taker, set, i, bounds, columns, known, there, q)?;
+    }
+    Ok(())
+}
+
+/// The same of each processor.
+pub(crate) fn add_closer_rows<T: RowTaker>(
+    alloc: Global,
+    taker: &mut T,
+    set: &TaskSet,
+    i: TaskId,
+    bounds: &[u64],
+    columns: &[Fragment],
+    known: Known<'_>,
+) -> Result<(), AllocError>
+    requires { CanMakeRowsWith set.now i.0 bounds.now columns.now known }
+    ensures { OnOk result (T.takes taker.old (map column_seen columns.now) (closer_spinning_rows set.now i.0) bounds.now taker.new) }
+{
+    for there in known.everywhere {
+        add_closer_there(alloc, taker, set, i, bounds, columns, known, there)?;
+    }
+    Ok(())
 }
 
 /// Of a processor and several resources of a table: their requests from the analysed task's processor each spin for at most one from
@@ -169,11 +144,12 @@ impl RowKind for TogetherRow {
     ghost over = { λ k set i c. AreTold set i k.processor k.group k.table.items };
 
     fn coefficient(&self, set: &TaskSet, _i: TaskId, column: Fragment) -> u64 {
-        let passes = self.table[column.resource.0 as usize];
+        let q = column.resource.0 as usize;
         if column.class.is_preemption() {
-            one_if(!passes)
+            one_if(!self.table[q])
         } else {
-            one_if(set.processor(column.task) == self.processor && passes)
+            // most columns are of other processors
+            one_if(set.processor(column.task) == self.processor && self.table[q])
         }
     }
 }
@@ -186,9 +162,10 @@ fn add_several<T: RowTaker>(
     i: TaskId,
     bounds: &[u64],
     columns: &[Fragment],
+    requests: &[u64],
     row: &TogetherRow,
 ) -> Result<(), AllocError>
-    requires { CanAddSeveral set.now i.0 bounds.now columns.now row.now }
+    requires { CanAddSeveral set.now i.0 bounds.now columns.now requests.now row.now }
     ensures { OnOk result (T.takes taker.old (map column_seen columns.now)
         (row_together set.now i.0 row.now.processor row.now.group ∷ []) bounds.now taker.new) }
 {
@@ -197,7 +174,7 @@ fn add_several<T: RowTaker>(
     if how_many(&row.table) <= 1 {
         return Ok(());
     }
-    let limit = LOWER_REQUESTS + upper_requests(set, i, &row.table, bounds);
+    let limit = LOWER_REQUESTS + sum_passing(&row.table, requests);
     let all = (0, columns.len());
     add_row_limited(alloc, taker, row, set, i, bounds, columns, all, limit)
 }
@@ -210,12 +187,12 @@ fn add_group<T: RowTaker>(
     i: TaskId,
     bounds: &[u64],
     columns: &[Fragment],
+    known: Known<'_>,
     there: &SpunThere,
     group: Group,
 ) -> Result<(), AllocError>
-    requires can { AreKnownAt set.now bounds.now i.0 columns.now }
-    requires there { TellsThere set.now i.0 there.now }
-    requires known { HasGroup set.now group }
+    requires there { CanAddThere set.now i.0 bounds.now columns.now known there.now }
+    requires group { HasGroup set.now group }
     ensures { OnOk result (T.takes taker.old (map column_seen columns.now)
         (row_together set.now i.0 there.now.processor group ∷ []) bounds.now taker.new) }
 {
@@ -227,113 +204,99 @@ fn add_group<T: RowTaker>(
         group,
         table: table_of(alloc, set, i, &InGroup { there, group })?,
     };
-    add_several(alloc, taker, set, i, bounds, columns, &row)
+    add_several(alloc, taker, set, i, bounds, columns, known.requests, &row)
 }
 
-/// The row of each processor of a group that names no resource.
-#[derive(Drop)]
-pub(crate) struct GroupRows<'a> {
-    pub(crate) users: Users<'a>,
-    pub(crate) group: Group,
-}
-
-impl<'a> PerNumber for GroupRows<'a> {
-    ghost rows_of = { λ k set i n. row_together set i (n + 1) k.group ∷ [] };
-
-    ghost fits = { λ k set i columns n. (n < set.processors)
-        × (AreUsers set i k.users.below.now k.users.above.now × HasGroup set k.group) };
-
-    fn add<T: RowTaker>(
-        &self,
-        alloc: Global,
-        taker: &mut T,
-        set: &TaskSet,
-        i: TaskId,
-        number: u32,
-        bounds: &[u64],
-        columns: &[Fragment],
-    ) -> Result<(), AllocError> {
-        // a set has few processors
-        let _processors = set.processors();
-        let there = spun_there(
-            alloc,
-            set,
-            i,
-            number + 1,
-            self.users.below,
-            self.users.above,
-        )?;
-        add_group(alloc, taker, set, i, bounds, columns, &there, self.group)
+/// Adds the row of each processor of a group that names no resource.
+pub(crate) fn add_groups<T: RowTaker>(
+    alloc: Global,
+    taker: &mut T,
+    set: &TaskSet,
+    i: TaskId,
+    bounds: &[u64],
+    columns: &[Fragment],
+    known: Known<'_>,
+    group: Group,
+) -> Result<(), AllocError>
+    requires rows { CanMakeRowsWith set.now i.0 bounds.now columns.now known }
+    requires group { HasGroup set.now group }
+    ensures { OnOk result (T.takes taker.old (map column_seen columns.now)
+        (per set.now.processors (λ k. row_together set.now i.0 (k + 1) group)) bounds.now taker.new) }
+{
+    for there in known.everywhere {
+        add_group(alloc, taker, set, i, bounds, columns, known, there, group)?;
     }
+    Ok(())
 }
 
-/// The rows of a processor for each resource that is used above, with what is taken beside it or in its place.
-#[derive(Drop)]
-struct PairedFrom {
-    there: SpunThere,
+/// Adds the row of a resource behind those that the taker has, with what is taken beside it or in its place.
+fn add_paired<T: RowTaker>(
+    alloc: Global,
+    taker: &mut T,
+    set: &TaskSet,
+    i: TaskId,
+    bounds: &[u64],
+    columns: &[Fragment],
+    known: Known<'_>,
+    there: &SpunThere,
     pairing: Pairing,
-}
-
-impl PerNumber for PairedFrom {
-    ghost rows_of = { λ k set i q. row_together set i k.there.processor (paired k.pairing q) ∷ [] };
-
-    ghost fits = { λ k set i columns q. (q < length set.resources) × TellsThere set i k.there };
-
-    fn add<T: RowTaker>(
-        &self,
-        alloc: Global,
-        taker: &mut T,
-        set: &TaskSet,
-        i: TaskId,
-        number: u32,
-        bounds: &[u64],
-        columns: &[Fragment],
-    ) -> Result<(), AllocError> {
-        // lower tasks spin for few resources
-        if !is_paired(set, i, &self.there, self.pairing, number) {
-            return Ok(());
-        }
-        let group = paired(self.pairing, number);
-        add_group(alloc, taker, set, i, bounds, columns, &self.there, group)
+    q: u32,
+) -> Result<(), AllocError>
+    requires there { CanAddThere set.now i.0 bounds.now columns.now known there.now }
+    requires resource { q < length set.now.resources }
+    ensures { OnOk result (T.takes taker.old (map column_seen columns.now)
+        (row_together set.now i.0 there.now.processor (paired pairing q) ∷ []) bounds.now taker.new) }
+{
+    // lower tasks spin for few resources
+    if !is_paired(set, i, there, pairing, q) {
+        return Ok(());
     }
+    let group = paired(pairing, q);
+    add_group(alloc, taker, set, i, bounds, columns, known, there, group)
 }
 
-/// The rows of each processor.
-#[derive(Drop)]
-pub(crate) struct PairedRows<'a> {
-    pub(crate) users: Users<'a>,
-    pub(crate) pairing: Pairing,
-}
-
-impl<'a> PerNumber for PairedRows<'a> {
-    ghost rows_of = { λ k set i n. per (length set.resources) (λ q. row_together set i (n + 1) (paired k.pairing q)) };
-
-    ghost fits = { λ k set i columns n. (n < set.processors) × AreUsers set i k.users.below.now k.users.above.now };
-
-    fn add<T: RowTaker>(
-        &self,
-        alloc: Global,
-        taker: &mut T,
-        set: &TaskSet,
-        i: TaskId,
-        number: u32,
-        bounds: &[u64],
-        columns: &[Fragment],
-    ) -> Result<(), AllocError> {
-        // a set has few processors
-        let _processors = set.processors();
-        let resources = set.resources();
-        let rows = PairedFrom {
-            there: spun_there(
-                alloc,
-                set,
-                i,
-                number + 1,
-                self.users.below,
-                self.users.above,
-            )?,
-            pairing: self.pairing,
-        };
-        add_per_number(alloc, taker, &rows, set, resources, i, bounds, columns)
+/// The same of each resource.
+fn add_pairs_there<T: RowTaker>(
+    alloc: Global,
+    taker: &mut T,
+    set: &TaskSet,
+    i: TaskId,
+    bounds: &[u64],
+    columns: &[Fragment],
+    known: Known<'_>,
+    there: &SpunThere,
+    pairing: Pairing,
+) -> Result<(), AllocError>
+    requires { CanAddThere set.now i.0 bounds.now columns.now known there.now }
+    ensures { OnOk result (T.takes taker.old (map column_seen columns.now)
+        (per (length set.now.resources) (λ q. row_together set.now i.0 there.now.processor (paired pairing q))) bounds.now taker.new) }
+{
+    for q in 0..set.resources() {
+        add_paired(
+            alloc, taker, set, i, bounds, columns, known, there, pairing, q,
+        )?;
     }
+    Ok(())
+}
+
+/// The same of each processor.
+pub(crate) fn add_pairs<T: RowTaker>(
+    alloc: Global,
+    taker: &mut T,
+    set: &TaskSet,
+    i: TaskId,
+    bounds: &[u64],
+    columns: &[Fragment],
+    known: Known<'_>,
+    pairing: Pairing,
+) -> Result<(), AllocError>
+    requires { CanMakeRowsWith set.now i.0 bounds.now columns.now known }
+    ensures { OnOk result (T.takes taker.old (map column_seen columns.now)
+        (per_pair set.now.processors (length set.now.resources) (λ k q. row_together set.now i.0 (k + 1) (paired pairing q)))
+        bounds.now taker.new) }
+{
+    for there in known.everywhere {
+        add_pairs_there(alloc, taker, set, i, bounds, columns, known, there, pairing)?;
+    }
+    Ok(())
 }

@@ -1,14 +1,16 @@
 //! Resources that pass a test, as tables, and sums over them.
 
-ghost use Rattle.std.specs.Prelude.{◌≡◌, ◌<◌, ◌≤◌, false, length, slice_index_or};
+ghost use Rattle.std.specs.Prelude.{◌≡◌, ◌<◌, ◌≤◌, false, length, slice_index_or, IfOk};
 ghost use Rattle.number_laws.specs.Tests.{count_below};
+ghost use Rattle.sporadic_model.specs.Bounds.{AreWithinDeadlines};
 ghost use Rattle.spin_charging.specs.SpinPrograms.{is_used_below};
 ghost use Rattle.closer_spin_laws.specs.CloserSpinRows.{is_used_on, is_used_above, is_spun_below, is_spun_above, is_lone, is_set_apart};
-ghost use Rattle.closer_spin.specs.Tables.{TellsUsedBelow, TellsUsedAbove, TellsSpun, AreTaskAndTable, IsUpperCount};
+ghost use Rattle.closer_spin.specs.Tables.{TellsUsedBelow, TellsUsedAbove, TellsSpun, AreUpper, CanSum, IsSumPassing};
 
 use blocking_columns::share_processor;
 use spin_protocol::{ResourceTest, higher_requests, is_used_below};
 use sporadic_model::{ResourceId, TaskId, TaskSet};
+use std::alloc::{AllocError, Global};
 
 /// Does a task of the processor use the resource?
 fn is_used_on(set: &TaskSet, processor: u32, q: ResourceId) -> bool
@@ -162,17 +164,36 @@ pub(crate) fn how_many(table: &[bool]) -> u32
     count
 }
 
-/// How many requests of the resources of the table do `i` and the higher tasks of its processor make while a job of `i` runs?
-pub(crate) fn upper_requests(set: &TaskSet, i: TaskId, table: &[bool], bounds: &[u64]) -> u64
-    requires { AreTaskAndTable set.now bounds.now i.0 table.now }
-    ensures { IsUpperCount set.now bounds.now i.0 table.now result }
+/// By resource, how many requests of it `i` and the higher tasks of its processor make while a job of `i` runs.
+pub(crate) fn requests_above(
+    alloc: Global,
+    set: &TaskSet,
+    i: TaskId,
+    bounds: &[u64],
+) -> Result<Vec<u64>, AllocError>
+    requires task { i.0 < length set.now.tasks }
+    requires within { AreWithinDeadlines set.now bounds.now }
+    ensures { IfOk result (λ requests. AreUpper set.now bounds.now i.0 requests.items) }
 {
-    // a set has at most 64 tasks and 32 resources, so the sum fits
+    // a set has at most 64 tasks and 32 resources, so each number fits
     let _tasks = set.tasks();
-    let mut total = 0;
+    let mut requests = Vec::with_capacity(alloc, set.resources() as usize)?;
     for q in 0..set.resources() {
-        if table[q as usize] {
-            total += set.count(i, ResourceId(q)) + higher_requests(set, i, ResourceId(q), bounds);
+        let number = set.count(i, ResourceId(q)) + higher_requests(set, i, ResourceId(q), bounds);
+        requests.push(number)?;
+    }
+    Ok(requests)
+}
+
+/// How many requests of the resources that pass are these, by resource?
+pub(crate) fn sum_passing(table: &[bool], requests: &[u64]) -> u64
+    requires { CanSum table.now requests.now }
+    ensures { IsSumPassing table.now requests.now result }
+{
+    let mut total = 0;
+    for q in 0..table.len() {
+        if table[q] {
+            total += requests[q];
         }
     }
     total

@@ -70,11 +70,11 @@ IsOfUsed set k q row = ColumnIn set row → is_used_on set (k + 1) q ≡ true
 spinning_of : (set : SetDef) (i k q : ℕ) → IsOfUsed set k q (closer_spinning_row set i (k + 1) q)
 spinning_of set i k q a = by_class (is_preemption a.column.class)
     (and_parts _ _ (flag-passes (not (is_left_out set i (k + 1) q) && is_in_place set i (k + 1) q a.column) a.some)).1 where
-  by_class : (p : Bool)
-      → (if p then is_spun_below set i (k + 1) q && not (a.column.resource == q) else is_from set (k + 1) q a.column) ≡ true
-      → is_used_on set (k + 1) q ≡ true
-  by_class true h = spun_used set i (k + 1) q (and_parts _ _ h).0
-  by_class false h = used_from set (k + 1) q a.column h a.user a.listed
+      by_class : (p : Bool)
+          → (if p then is_spun_below set i (k + 1) q && not (a.column.resource == q) else is_from set (k + 1) q a.column) ≡ true
+          → is_used_on set (k + 1) q ≡ true
+      by_class true h = spun_used set i (k + 1) q (and_parts _ _ h).0
+      by_class false h = used_from set (k + 1) q a.column h a.user a.listed
 
 own_of : (set : SetDef) (i k q : ℕ) → IsOfUsed set k q (own_spinning_row set i (k + 1) q)
 own_of set i k q a = used_from set (k + 1) q a.column

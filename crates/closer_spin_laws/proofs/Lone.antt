@@ -40,12 +40,12 @@ no_higher : (set : SetDef) (bounds : ℕ → ℕ) (i q : ℕ) → i < length set
     → higher_requests set bounds i q ≡ 0
 no_higher set bounds i q here none =
     sum_below-zero i (λ h. only_if (have_one_processor set h i) (requests_in set bounds i h q)) (λ h l. by_place h l (have_one_processor set h i) refl)
-    where
-      by_place : (h : ℕ) → h < i → (b : Bool) → have_one_processor set h i ≡ b → only_if b (requests_in set bounds i h q) ≡ 0
-      by_place h l false away = refl
-      by_place h l true beside =
-          ap (λ c. c * jobs_in set bounds i h) (unused_by set i q h here none (omega (arith, l)) beside)
-          ∙ zero-mul (jobs_in set bounds i h)
+  where
+    by_place : (h : ℕ) → h < i → (b : Bool) → have_one_processor set h i ≡ b → only_if b (requests_in set bounds i h q) ≡ 0
+    by_place h l false away = refl
+    by_place h l true beside =
+        ap (λ c. c * jobs_in set bounds i h) (unused_by set i q h here none (omega (arith, l)) beside)
+        ∙ zero-mul (jobs_in set bounds i h)
 
 -- So the analysed task and higher ones request nothing of what is lone.
 none_above : (set : SetDef) (bounds : ℕ → ℕ) (i k : ℕ) → i < length set.tasks → upper_requests set bounds i (is_lone set i k) ≡ 0

@@ -11,16 +11,13 @@ returns g c =
     let i = c.args.i.0 in
     let bounds = c.args.bounds.now in
     let seen = map column_seen c.args.columns.now in
-    let end = c.add_last_rows.new.taker in
+    let end = c.add_closer_part.new.taker in
     let behind = g.met.T.RowTaker.behind in
-    let last = closer_spinning_rows set i ++ lone_spinning_rows set i in
-    let further = together_rows set i ++ last in
+    let further = together_rows set i ++ (closer_spinning_rows set i ++ lone_spinning_rows set i) in
     let rest = own_spinning_rows set i ++ further in
     behind c.args.taker.now c.add_common.new.taker end seen (common_rows set i) (lower_request_row ∷ rest) bounds
     c.in_ok-add_common.ensures.rows
     (behind c.add_common.new.taker c.add_lower_requests.new.taker end seen (lower_request_row ∷ []) rest bounds
     c.in_ok-add_lower_requests.ensures
-    (behind c.add_lower_requests.new.taker c.add_own_spinning.new.taker end seen (own_spinning_rows set i) further bounds
-    c.in_ok-add_own_spinning.ensures
-    (behind c.add_own_spinning.new.taker c.add_together_rows.new.taker end seen (together_rows set i) last bounds
-    c.in_ok-add_together_rows.ensures c.in_ok-add_last_rows.ensures)))
+    (behind c.add_lower_requests.new.taker c.add_own_rows.new.taker end seen (own_spinning_rows set i) further bounds
+    c.in_ok-add_own_rows.ensures c.in_ok-add_closer_part.ensures))

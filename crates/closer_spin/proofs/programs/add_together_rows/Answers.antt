@@ -11,13 +11,10 @@ returns g c =
     let m = length set.resources in
     let bounds = c.args.bounds.now in
     let seen = map column_seen c.args.columns.now in
-    let end = c.add_per_number-3.new.taker in
+    let end = c.add_pairs-2.new.taker in
     let behind = g.met.T.RowTaker.behind in
     let all = per set.processors (λ k. lower_spinning_row set i (k + 1)) in
     let others = per_pair set.processors m (λ k q. other_lower_spinning_row set i (k + 1) q) in
     let lone = per_pair set.processors m (λ k q. lone_spinning_with_row set i (k + 1) q) in
-    let first = rw (c.processors-processors.ensures.value) at c.in_ok-add_per_number.ensures in
-    let second = rw (c.processors-processors.ensures.value) at c.in_ok-add_per_number-2.ensures in
-    let third = rw (c.processors-processors.ensures.value) at c.in_ok-add_per_number-3.ensures in
-    behind c.args.taker.now c.add_per_number.new.taker end seen all (others ++ lone) bounds first
-    (behind c.add_per_number.new.taker c.add_per_number-2.new.taker end seen others lone bounds second third)
+    behind c.args.taker.now c.add_groups.new.taker end seen all (others ++ lone) bounds c.in_ok-add_groups.ensures
+    (behind c.add_groups.new.taker c.add_pairs.new.taker end seen others lone bounds c.in_ok-add_pairs.ensures c.in_ok-add_pairs-2.ensures)

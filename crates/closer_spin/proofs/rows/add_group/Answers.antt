@@ -20,7 +20,7 @@ returns-then-there-least_above g c =
       | inl most ↦ absurd (omega (
         arith,
         leb-true (least_above group) (used_above set i k) most,
-        c.requires.there.counts.above_is,
+        c.requires.there.there.above_is,
         c.least_above.ensures,
         c.if-there-least_above.true,
       ))

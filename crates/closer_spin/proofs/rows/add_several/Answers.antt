@@ -49,6 +49,6 @@ add_row_limited-requires-clause-limit g c =
     let set = c.args.set.now in
     let i = c.args.i.0 in
     let row = c.args.row.now in
-    let told = rw c.deref-2.ensures.value at c.upper_requests-limit.ensures.value in
-    ap (λ n. 1 + n)
-    (told ∙ told_requests set (slice_index c.args.bounds.now) i (taken_together set i row.processor row.group) row.table.items c.requires.table)
+    let summed = rw c.deref-2.ensures.value at c.sum_passing-limit.ensures.value in
+    ap (λ n. 1 + n) (summed ∙ told_requests set (slice_index c.args.bounds.now) i (taken_together set i row.processor row.group)
+    row.table.items c.args.requests.now c.requires.table c.requires.requests.each)

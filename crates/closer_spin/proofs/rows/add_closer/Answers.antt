@@ -1,27 +1,29 @@
-use Rattle.std.proofs.Common.{◌≡◌, ◌<◌, rules, true, false, map, length, sym, ◌∙◌}
-use Rattle.std.specs.Prelude.{slice_index_or}
+use Rattle.std.proofs.Common.{◌≡◌, ◌<◌, ◌+◌, rules, true, false, map, length, sym, ap, ◌∙◌}
+use Rattle.std.specs.Prelude.{slice_index, slice_index_or}
 use Rattle.std.proofs.lemmas.Bool.{and_from}
 use Rattle.std.proofs.lemmas.List.{get_or_default}
+use Rattle.number_laws.specs.Sums.{flag}
 use Rattle.blocking_columns.specs.ColumnDef.{column_seen}
 use Rattle.closer_spin_laws.specs.CloserSpinRows.{is_spun_below, is_lone, leaves_lone_out, closer_spinning_row}
 use Rattle.spin_protocol.specs.Origins.{origin_place}
 use Rattle.spin_protocol.proofs.NoneFrom.{none_from}
 use Rattle.closer_spin.proofs.Told.{closer_only, lone_missing}
-use Rattle.closer_spin.proofs.rows.CloserSpinningFromPerNumber.add.Goals as goal
+use Rattle.closer_spin.proofs.rows.add_closer.Goals as goal
 
 pub returns-then-index : goal.returns-then-index
 returns-then-index g c =
     let set = c.args.set.now in
     let i = c.args.i.0 in
-    let k = c.args.self.now.there.processor in
-    let q = c.args.number in
+    let there = c.requires.there.there in
+    let k = c.args.there.now.processor in
+    let q = c.args.q in
     let cs = map column_seen c.args.columns.now in
-    let table = c.args.self.now.there.lone.items in
-    let within : q < length table = rw (c.requires.fits.there.lone_is.one_each) c.requires.fits.resource in
+    let table = c.args.there.now.lone.items in
+    let within : q < length table = rw (there.lone_is.one_each) c.requires.resource in
     let is : slice_index_or table q true ≡ true = search rules in
     let told : slice_index_or table q false ≡ true = get_or_default table q false true within ∙ is in
-    let lone : is_lone set i k q ≡ true = sym (c.requires.fits.there.lone_is.each q c.requires.fits.resource) ∙ told in
-    let leaves : leaves_lone_out set i k ≡ true = sym c.requires.fits.leaves_is ∙ c.if-self.true in
+    let lone : is_lone set i k q ≡ true = sym (there.lone_is.each q c.requires.resource) ∙ told in
+    let leaves : leaves_lone_out set i k ≡ true = sym there.leaves_is ∙ c.if-there.true in
     g.met.T.RowTaker.missing c.args.taker.now cs (closer_spinning_row set i k q) c.args.bounds.now
     (lone_missing set i k q cs (and_from _ _ lone leaves))
 
@@ -29,13 +31,14 @@ pub returns-then-not-is_origin : goal.returns-then-not-is_origin
 returns-then-not-is_origin g c =
     let set = c.args.set.now in
     let i = c.args.i.0 in
-    let k = c.args.self.now.there.processor in
-    let q = c.args.number in
-    let table = c.args.self.now.origins.now in
+    let there = c.requires.there.there in
+    let k = c.args.there.now.processor in
+    let q = c.args.q in
+    let table = c.args.known.origins.now in
     let row = closer_spinning_row set i k q in
-    let told : slice_index_or c.args.self.now.there.spun.items q false ≡ false = search rules in
-    let unspun : is_spun_below set i k q ≡ false = sym (c.requires.fits.there.spun_is.each q c.requires.fits.resource) ∙ told in
+    let told : slice_index_or c.args.there.now.spun.items q false ≡ false = search rules in
+    let unspun : is_spun_below set i k q ≡ false = sym (there.spun_is.each q c.requires.resource) ∙ told in
     let fails : c.is_origin.result ≡ false = search rules in
     let free : slice_index_or table (origin_place k q) false ≡ false = sym c.is_origin.ensures ∙ fails in
     g.met.T.RowTaker.missing c.args.taker.now (map column_seen c.args.columns.now) row c.args.bounds.now
-    (none_from set c.args.columns.now table k q row c.requires.fits.origins_are (closer_only set i k q unspun) free)
+    (none_from set c.args.columns.now table k q row c.requires.there.rows.origins (closer_only set i k q unspun) free)

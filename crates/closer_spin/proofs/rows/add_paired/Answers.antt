@@ -2,15 +2,15 @@ use Rattle.std.proofs.Common.{◌≡◌, rules, false, map, sym, ◌∙◌}
 use Rattle.blocking_columns.specs.ColumnDef.{column_seen}
 use Rattle.closer_spin.specs.Together.{row_together, paired, is_paired}
 use Rattle.closer_spin.proofs.Told.{none_paired}
-use Rattle.closer_spin.proofs.rows.PairedFromPerNumber.add.Goals as goal
+use Rattle.closer_spin.proofs.rows.add_paired.Goals as goal
 
 pub returns-then-not-is_paired : goal.returns-then-not-is_paired
 returns-then-not-is_paired g c =
     let set = c.args.set.now in
     let i = c.args.i.0 in
-    let k = c.args.self.now.there.processor in
-    let pairing = c.args.self.now.pairing in
-    let q = c.args.number in
+    let k = c.args.there.now.processor in
+    let pairing = c.args.pairing in
+    let q = c.args.q in
     let cs = map column_seen c.args.columns.now in
     let fails : c.is_paired.result ≡ false = search rules in
     let unspun : is_paired set i k pairing q ≡ false = sym c.is_paired.ensures ∙ fails in
