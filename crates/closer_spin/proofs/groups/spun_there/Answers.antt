@@ -1,6 +1,6 @@
-use Rattle.std.proofs.Common.{◌≡◌, ◌&&◌, refl, length, ap, ◌∙◌, nat_lt}
+use Rattle.std.proofs.Common.{◌&&◌, refl, length, ap, ◌∙◌, nat_lt}
 use Rattle.number_laws.specs.Tests.{count_below}
-use Rattle.closer_spin_laws.specs.CloserSpinRows.{is_spun_below, is_spun_above, is_lone, are_many_spun}
+use Rattle.closer_spin_laws.specs.CloserSpinRows.{is_spun_below, is_spun_above, is_lone}
 use Rattle.closer_spin.proofs.Told.{told_many}
 use Rattle.closer_spin.proofs.groups.spun_there.Goals as goal
 

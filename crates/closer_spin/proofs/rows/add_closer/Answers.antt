@@ -1,8 +1,7 @@
-use Rattle.std.proofs.Common.{◌≡◌, ◌<◌, ◌+◌, rules, true, false, map, length, sym, ap, ◌∙◌}
-use Rattle.std.specs.Prelude.{slice_index, slice_index_or}
+use Rattle.std.proofs.Common.{◌≡◌, ◌<◌, rules, true, false, map, length, sym, ◌∙◌}
+use Rattle.std.specs.Prelude.{slice_index_or}
 use Rattle.std.proofs.lemmas.Bool.{and_from}
 use Rattle.std.proofs.lemmas.List.{get_or_default}
-use Rattle.number_laws.specs.Sums.{flag}
 use Rattle.blocking_columns.specs.ColumnDef.{column_seen}
 use Rattle.closer_spin_laws.specs.CloserSpinRows.{is_spun_below, is_lone, leaves_lone_out, closer_spinning_row}
 use Rattle.spin_protocol.specs.Origins.{origin_place}
