@@ -524,7 +524,7 @@ var SecondCheck = (function () {
         // The sets of resources of k that have a row together, each with whom it is for: all; all but one; the lone ones with another one; the lone ones.
         all_spun(k) { const { below, above } = this.groups(k); return above.length > 0 ? [[below, k]] : []; }
         but_one(k) {
-            const { below, above } = this.groups(k), apart = below.filter((q) => (above.includes(q) ? above.length > 1 : below.length <= MANY));
+            const { below, above } = this.groups(k), apart = below.filter((q) => below.length <= MANY && (!above.includes(q) || above.length > 1));
             return apart.map((q) => [below.filter((r) => r !== q), k, q]);
         }
         lone_with_one(k) { const { above, lone } = this.groups(k); return above.length > 2 ? above.map((q) => [[q, ...lone], k, q]) : []; }
@@ -545,7 +545,7 @@ var SecondCheck = (function () {
     }
 
     const is_open = (column) => column.way !== PREEMPTION;
-    // Of more resources for which lower tasks may spin, a lone one has no rows of its own under "spin-c".
+    // If lower tasks may spin for more resources, "spin-c" has no rows that leave one out, and lone ones have none of their own.
     const MANY = 8;
 
     // Each kind of row: which row a column stands in, if any, or which ones, how often where that isn't once, and the limit of that row.

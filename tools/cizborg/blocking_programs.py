@@ -14,7 +14,7 @@ from .protocols import AT_HOMES, PROTOCOLS
 Bounds = Sequence[int]
 # a row: the columns that it has, each with its coefficient
 Row = list[tuple[int, int]]
-# of more resources for which lower tasks may spin, one that isn't used above has no rows of its own in the closer analysis of spin locks
+# if lower tasks may spin for more resources, the closer analysis of spin locks has no rows that leave one out, and lone ones have none of their own
 MANY = 8
 
 
@@ -414,11 +414,11 @@ class Shape:
                 self.add_together(k, self.spun_below(k))
 
     def add_other_lower_spinning(self) -> None:
-        """Of a processor and a resource: the same of the others of these, if others are used above, or the resource isn't and they aren't many."""
+        """Of a processor and a resource: the same of the others of these, if they aren't many. If it is used above, another one has to be."""
         for k in self.processors:
             spun, above = self.spun_below(k), self.spun_above(k)
-            apart = [q for q in spun if (len(above) > 1 if q in above else len(spun) <= MANY)]
-            for q in apart:
+            apart = [q for q in spun if q not in above or len(above) > 1]
+            for q in apart if len(spun) <= MANY else []:
                 self.add_together(k, [r for r in spun if r != q])
 
     def add_lone_lower_spinning_with(self) -> None:

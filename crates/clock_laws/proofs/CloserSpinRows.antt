@@ -53,8 +53,8 @@ used_above_count_in : (k : ℕ) (set : SetDef) → used_above (in_cycles k set) 
 used_above_count_in k set = λ j i m. count_below (length set.resources) (spun_above_in k set j i m)
 
 apart_in : (k : ℕ) (set : SetDef) → is_set_apart (in_cycles k set) ≡ is_set_apart set
-apart_in k set = λ j i m q. (spun_above_in k set j i m q && nat_lt 1 (used_above_count_in k set j i m))
-    || (lone_in k set j i m q && not (many_spun_in k set j i m))
+apart_in k set = λ j i m q. not (many_spun_in k set j i m)
+    && ((spun_above_in k set j i m q && nat_lt 1 (used_above_count_in k set j i m)) || lone_in k set j i m q)
 
 spun_beside_in : (k : ℕ) (set : SetDef) → is_spun_beside (in_cycles k set) ≡ is_spun_beside set
 spun_beside_in k set = λ j i m q r. apart_in k set j i m q && (spun_below_in k set j i m r && not (r == q))

@@ -146,7 +146,7 @@ impl<'a> ResourceTest for SetApart<'a> {
     ghost passes = { λ t set i. is_set_apart set i t.processor };
 
     fn test(&self, _set: &TaskSet, _i: TaskId, q: ResourceId) -> bool {
-        (self.shared[q.0 as usize] && self.above > 1) || (self.lone[q.0 as usize] && !self.many)
+        !self.many && ((self.shared[q.0 as usize] && self.above > 1) || self.lone[q.0 as usize])
     }
 }
 

@@ -93,11 +93,11 @@ one_passes set i k least passes c some =
 
 -- What is set apart is spun for.
 apart_spun : (set : SetDef) (i k q : ℕ) → is_set_apart set i k q ≡ true → is_spun_below set i k q ≡ true
-apart_spun set i k q h = by_first (is_spun_above set i k q && nat_lt 1 (used_above set i k)) refl h where
+apart_spun set i k q h = by_first (is_spun_above set i k q && nat_lt 1 (used_above set i k)) refl (and_parts (not (are_many_spun set i k)) _ h).1 where
   by_first : (b : Bool) → (is_spun_above set i k q && nat_lt 1 (used_above set i k)) ≡ b
-      → (b || (is_lone set i k q && not (are_many_spun set i k))) ≡ true → is_spun_below set i k q ≡ true
+      → (b || is_lone set i k q) ≡ true → is_spun_below set i k q ≡ true
   by_first true first e = (and_parts _ _ (and_parts (is_spun_above set i k q) _ first).0).0
-  by_first false first e = (and_parts _ _ (and_parts (is_lone set i k q) _ e).0).0
+  by_first false first e = (and_parts _ _ e).0
 
 other_of : (set : SetDef) (i k q : ℕ) → IsOfUsed set k q (other_lower_spinning_row set i (k + 1) q)
 other_of set i k q a =

@@ -39,7 +39,7 @@ is_spun_above set i k q = is_spun_below set i k q && is_used_above set i q
 abbrev pub is_lone : SetDef → ℕ → ℕ → ℕ → Bool
 is_lone set i k q = is_spun_below set i k q && not (is_used_above set i q)
 
--- Are there more than eight resources for which lower tasks may spin? Then a row for each lone one would take long and say little.
+-- Are there more than eight resources for which lower tasks may spin? Then rows that leave out one each would take long and say little.
 abbrev pub are_many_spun : SetDef → ℕ → ℕ → Bool
 are_many_spun set i k = nat_lt 8 (count_below (length set.resources) (is_spun_below set i k))
 
@@ -83,10 +83,10 @@ together_row set i k least passes = counting
 abbrev pub lower_spinning_row : SetDef → ℕ → ℕ → ConstraintDef
 lower_spinning_row set i k = together_row set i k 1 (is_spun_below set i k)
 
--- Have all of them but q a row? If q is used above, and another one is too. If q is lone, and they aren't many.
+-- Have all of them but q a row? If they aren't many, and q is lone, or used above as another one is too.
 abbrev pub is_set_apart : SetDef → ℕ → ℕ → ℕ → Bool
 is_set_apart set i k q =
-    (is_spun_above set i k q && nat_lt 1 (used_above set i k)) || (is_lone set i k q && not (are_many_spun set i k))
+    not (are_many_spun set i k) && ((is_spun_above set i k q && nat_lt 1 (used_above set i k)) || is_lone set i k q)
 
 -- Other lower spinning: all of them but q.
 abbrev pub is_spun_beside : SetDef → ℕ → ℕ → ℕ → ℕ → Bool
