@@ -10,8 +10,8 @@ use Rattle.blocking_columns.specs.ColumnDef.{is_class}
 use Rattle.fragments.specs.Constraints.{ConstraintDef, per, per_pair}
 use Rattle.direct_constraints.specs.Rows.{common_rows}
 use Rattle.spin_charging.specs.SpinPrograms.{blocks_by_spinning, lower_request_row, is_from, own_spinning_row, spin_columns}
-use Rattle.closer_spin_laws.specs.CloserSpinRows.{is_used_on, is_used_above, is_spun_below, is_spun_above, is_lone, are_many_spun, is_left_out}
-use Rattle.closer_spin_laws.specs.CloserSpinRows.{is_in_place, is_set_apart, is_spun_beside, is_spun_with, is_of_slot, used_above}
+use Rattle.closer_spin_laws.specs.CloserSpinRows.{is_used_on, is_used_above, is_spun_below, is_spun_above, is_lone, are_many, are_many_spun, is_left_out}
+use Rattle.closer_spin_laws.specs.CloserSpinRows.{is_in_place, are_few_above, is_set_apart, is_spun_beside, is_spun_with, is_of_slot, used_above}
 use Rattle.closer_spin_laws.specs.CloserSpinRows.{closer_spinning_row, together_row, lower_spinning_row, other_lower_spinning_row}
 use Rattle.closer_spin_laws.specs.CloserSpinRows.{lone_spinning_with_row, lone_spinning_row, closer_spinning_rows, own_spinning_rows}
 use Rattle.closer_spin_laws.specs.CloserSpinRows.{together_rows, lone_spinning_rows, spin_closer_rows, spin_closer_source}
@@ -43,7 +43,7 @@ spun_with_in : (k : ℕ) (set : SetDef) → is_spun_with (in_cycles k set) ≡ i
 spun_with_in k set = λ j i m q r. spun_above_in k set j i m q && ((r == q) || lone_in k set j i m r)
 
 many_spun_in : (k : ℕ) (set : SetDef) → are_many_spun (in_cycles k set) ≡ are_many_spun set
-many_spun_in k set = λ j i m. nat_lt 8 (count_below (length set.resources) (spun_below_in k set j i m))
+many_spun_in k set = λ j i m. are_many (count_below (length set.resources) (spun_below_in k set j i m))
 
 left_out_in : (k : ℕ) (set : SetDef) → is_left_out (in_cycles k set) ≡ is_left_out set
 left_out_in k set = λ j i m q. lone_in k set j i m q
@@ -52,9 +52,12 @@ left_out_in k set = λ j i m q. lone_in k set j i m q
 used_above_count_in : (k : ℕ) (set : SetDef) → used_above (in_cycles k set) ≡ used_above set
 used_above_count_in k set = λ j i m. count_below (length set.resources) (spun_above_in k set j i m)
 
+few_above_in : (k : ℕ) (set : SetDef) → are_few_above (in_cycles k set) ≡ are_few_above set
+few_above_in k set = λ j i m. nat_lt 1 (used_above_count_in k set j i m) && not (are_many (used_above_count_in k set j i m))
+
 apart_in : (k : ℕ) (set : SetDef) → is_set_apart (in_cycles k set) ≡ is_set_apart set
-apart_in k set = λ j i m q. not (many_spun_in k set j i m)
-    && ((spun_above_in k set j i m q && nat_lt 1 (used_above_count_in k set j i m)) || lone_in k set j i m q)
+apart_in k set = λ j i m q. (spun_above_in k set j i m q && few_above_in k set j i m)
+    || (lone_in k set j i m q && not (many_spun_in k set j i m))
 
 spun_beside_in : (k : ℕ) (set : SetDef) → is_spun_beside (in_cycles k set) ≡ is_spun_beside set
 spun_beside_in k set = λ j i m q r. apart_in k set j i m q && (spun_below_in k set j i m r && not (r == q))
@@ -105,20 +108,20 @@ all_together_in k set bounds i some = appended k bounds
       with_one s = per_pair set.processors (length set.resources) (λ m q. lone_spinning_with_row s i (m + 1) q)
 
 last_in : (k : ℕ) (set : SetDef) (bounds : ℕ → ℕ) (i : ℕ) → 0 < k
-    → AreRescaled k bounds (closer_spinning_rows set i ++ lone_spinning_rows set i)
-    (closer_spinning_rows (in_cycles k set) i ++ lone_spinning_rows (in_cycles k set) i)
-last_in k set bounds i some = appended k bounds (closer_spinning_rows set i) (closer_spinning_rows (in_cycles k set) i)
-    (lone_spinning_rows set i) (lone_spinning_rows (in_cycles k set) i)
-    (each_pair k bounds set.processors set.processors (length set.resources) (λ m q. closer_spinning_row set i (m + 1) q)
-    (λ m q. closer_spinning_row (in_cycles k set) i (m + 1) q) refl (λ m q a b. closer_spin_in k set bounds i (m + 1) q some))
+    → AreRescaled k bounds (lone_spinning_rows set i ++ closer_spinning_rows set i)
+    (lone_spinning_rows (in_cycles k set) i ++ closer_spinning_rows (in_cycles k set) i)
+last_in k set bounds i some = appended k bounds (lone_spinning_rows set i) (lone_spinning_rows (in_cycles k set) i)
+    (closer_spinning_rows set i) (closer_spinning_rows (in_cycles k set) i)
     (each_per k bounds set.processors set.processors (λ m. lone_spinning_row set i (m + 1))
     (λ m. lone_spinning_row (in_cycles k set) i (m + 1)) refl
     (λ m a. together_in k set bounds i (m + 1) 0 (is_lone set i (m + 1)) (is_lone (in_cycles k set) i (m + 1)) some
     (λ j. lone_in k set j i (m + 1))))
+    (each_pair k bounds set.processors set.processors (length set.resources) (λ m q. closer_spinning_row set i (m + 1) q)
+    (λ m q. closer_spinning_row (in_cycles k set) i (m + 1) q) refl (λ m q a b. closer_spin_in k set bounds i (m + 1) q some))
 
 -- What stands behind the rows of own spinning.
 abbrev further_of : SetDef → ℕ → List ConstraintDef
-further_of set i = together_rows set i ++ (closer_spinning_rows set i ++ lone_spinning_rows set i)
+further_of set i = together_rows set i ++ (lone_spinning_rows set i ++ closer_spinning_rows set i)
 
 own_in : (k : ℕ) (set : SetDef) (bounds : ℕ → ℕ) (i : ℕ) → 0 < k
     → AreRescaled k bounds (own_spinning_rows set i ++ further_of set i)
@@ -127,8 +130,8 @@ own_in k set bounds i some = appended k bounds (own_spinning_rows set i) (own_sp
     (further_of (in_cycles k set) i)
     (each_pair k bounds set.processors set.processors (length set.resources) (λ m q. own_spinning_row set i (m + 1) q)
     (λ m q. own_spinning_row (in_cycles k set) i (m + 1) q) refl (λ m q a b. own_spin_in k set bounds i (m + 1) q some))
-    (appended k bounds (together_rows set i) (together_rows (in_cycles k set) i) (closer_spinning_rows set i ++ lone_spinning_rows set i)
-    (closer_spinning_rows (in_cycles k set) i ++ lone_spinning_rows (in_cycles k set) i) (all_together_in k set bounds i some)
+    (appended k bounds (together_rows set i) (together_rows (in_cycles k set) i) (lone_spinning_rows set i ++ closer_spinning_rows set i)
+    (lone_spinning_rows (in_cycles k set) i ++ closer_spinning_rows (in_cycles k set) i) (all_together_in k set bounds i some)
     (last_in k set bounds i some))
 
 closer_rows_in : (k : ℕ) (set : SetDef) (bounds : ℕ → ℕ) (i : ℕ) → 0 < k

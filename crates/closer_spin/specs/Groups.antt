@@ -2,11 +2,18 @@
 use Rattle.std.specs.Prelude.{◌≡◌, ℕ, ◌+◌, ◌<◌, List, length, slice_index_or}
 use Rattle.sporadic_model.specs.SetDef.{SetDef}
 use Rattle.closer_spin.specs.declared.groups.SpunThere.{SpunThere}
+use Rattle.closer_spin.specs.declared.groups.SpunTables.{SpunTables}
 use Rattle.closer_spin.specs.declared.groups.Group.{Group}
 use Rattle.closer_spin.specs.declared.groups.Group.TheVariants as group
 use Rattle.closer_spin_laws.specs.CloserSpinRows.{is_spun_above, is_lone, is_set_apart, used_above, leaves_lone_out}
 use Rattle.spin_protocol.specs.Tables.{Tells}
 use Rattle.closer_spin.specs.Tables.{TellsSpun}
+
+-- Do the tables say for which resources lower tasks may spin on processor k, which of them are used above, and which are lone?
+pub record AreSpunTables (set : SetDef) (i k : ℕ) (t : SpunTables) : Type 0 where
+  pub spun_is : TellsSpun set i k t.spun.items
+  pub shared_is : Tells (length set.resources) (is_spun_above set i k) t.shared.items
+  pub lone_is : Tells (length set.resources) (is_lone set i k) t.lone.items
 
 -- Does the value say for which resources lower tasks may spin on its processor?
 pub record TellsThere (set : SetDef) (i : ℕ) (t : SpunThere) : Type 0 where

@@ -5,7 +5,7 @@ use Rattle.sporadic_model.specs.SetDef.{SetDef}
 use Rattle.sporadic_model.specs.Users.{count_of}
 use Rattle.spin_charging.specs.SpinPrograms.{is_used_below, higher_requests}
 use Rattle.spin_protocol.specs.Tables.{Tells}
-use Rattle.closer_spin_laws.specs.CloserSpinRows.{is_spun_below, is_spun_above, is_used_above, is_lone, used_above, are_many_spun}
+use Rattle.closer_spin_laws.specs.CloserSpinRows.{is_spun_below, is_spun_above, is_used_above, is_lone, are_few_above, are_many_spun}
 
 -- Does the table say of each resource whether a lower task of i's processor uses it? Whether i or a higher one does? And whether a lower one
 -- may spin there for a request of it by a task of processor k?
@@ -23,16 +23,13 @@ pub record AreUsers (set : SetDef) (i : ℕ) (below above : List Bool) : Type 0 
   pub below_is : TellsUsedBelow set i below
   pub above_is : TellsUsedAbove set i above
 
--- Is this how many of the resources for which lower tasks may spin are used above, and does it say whether they are many?
-pub record IsCounted (set : SetDef) (i k above : ℕ) (many : Bool) : Type 0 where
-  pub above_is : above ≡ used_above set i k
-  pub many_is : many ≡ are_many_spun set i k
-
--- Do the tables tell which are used above and which are lone, and are they counted?
-pub record CanSetApart (set : SetDef) (i k : ℕ) (shared lone : List Bool) (above : ℕ) (many : Bool) : Type 0 where
+-- Do the tables tell which of the resources for which lower tasks may spin are used above and which are lone, and is it known whether few
+-- are used above, and whether they are many?
+pub record CanSetApart (set : SetDef) (i k : ℕ) (shared lone : List Bool) (few_above many : Bool) : Type 0 where
   pub shared_is : Tells (length set.resources) (is_spun_above set i k) shared
   pub lone_is : Tells (length set.resources) (is_lone set i k) lone
-  pub counts : IsCounted set i k above many
+  pub few_is : few_above ≡ are_few_above set i k
+  pub many_is : many ≡ are_many_spun set i k
 
 -- By resource, how many requests of it i and the higher tasks of its processor make while a job of i runs.
 pub record AreUpper (set : SetDef) (bounds : List ℕ) (i : ℕ) (requests : List ℕ) : Type 0 where

@@ -1,9 +1,10 @@
 //! Resources for which lower tasks may spin, and which of them a row takes together.
 
-ghost use Rattle.std.specs.Prelude.{◌≡◌, ◌<◌, ◌≤◌, ◌&&◌, false, nat_lt, length, slice_index_or, IfOk};
+ghost use Rattle.std.specs.Prelude.{◌≡◌, ◌<◌, ◌≤◌, ◌&&◌, not, false, nat_lt, length, slice_index_or, IfOk};
 ghost use Rattle.number_laws.specs.Tests.{count_below};
 ghost use Rattle.closer_spin.specs.Tables.{AreUsers};
-ghost use Rattle.closer_spin.specs.Groups.{TellsThere, TellEverywhere};
+ghost use Rattle.closer_spin_laws.specs.CloserSpinRows.{are_many};
+ghost use Rattle.closer_spin.specs.Groups.{AreSpunTables, TellsThere, TellEverywhere};
 ghost use Rattle.closer_spin.specs.Together.{taken_together, least_above, paired, is_paired};
 
 use crate::tables::{Lone, SetApart, SpunAbove, SpunBelow, how_many};
@@ -72,8 +73,22 @@ pub(crate) struct SpunThere {
     pub(crate) leaves_out: bool,
 }
 
-/// How many resources for which lower tasks may spin are too many for a row of each lone one.
-const MANY: u32 = 8;
+/// How many resources have a row each that leaves it out, at most. With more of them programs would take long to solve.
+const MOST_SET_APART: u32 = 10;
+
+/// Are they too many for that?
+fn are_many(number: u32) -> bool
+    ensures { result ≡ are_many number }
+{
+    number > MOST_SET_APART
+}
+
+/// Are several used above, and not many?
+fn are_few_above(above: u32) -> bool
+    ensures { result ≡ nat_lt 1 above && not (are_many above) }
+{
+    above > 1 && !are_many(above)
+}
 
 /// Are they many, and several of them lone?
 fn are_left_out(many: bool, lone: &[bool]) -> bool
@@ -83,21 +98,29 @@ fn are_left_out(many: bool, lone: &[bool]) -> bool
     many && how_many(lone) > 1
 }
 
+/// Tables of the resources for which lower tasks may spin on a processor.
+#[derive(Drop)]
+struct SpunTables {
+    spun: Vec<bool>,
+    /// Those of them that are used above.
+    shared: Vec<bool>,
+    /// The others.
+    lone: Vec<bool>,
+}
+
 /// They are told by tables of the resources that lower tasks use and of those that are used above.
-pub(crate) fn spun_there(
+fn spun_tables(
     alloc: Global,
     set: &TaskSet,
     i: TaskId,
     processor: u32,
     below: &[bool],
     above: &[bool],
-) -> Result<SpunThere, AllocError>
+) -> Result<SpunTables, AllocError>
     requires task { i.0 < length set.now.tasks }
     requires users { AreUsers set.now i.0 below.now above.now }
-    ensures { IfOk result (λ t. (t.processor ≡ processor) × TellsThere set.now i.0 t) }
+    ensures { IfOk result (λ t. AreSpunTables set.now i.0 processor t) }
 {
-    // a set has at most 32 resources
-    let _resources = set.resources();
     let spun = table_of(alloc, set, i, &SpunBelow { processor, below })?;
     let shared = {
         let test = SpunAbove {
@@ -115,24 +138,43 @@ pub(crate) fn spun_there(
         };
         table_of(alloc, set, i, &test)?
     };
-    let above = how_many(&shared);
-    let many = how_many(&spun) > MANY;
+    Ok(SpunTables { spun, shared, lone })
+}
+
+/// The same with what they say of the rows.
+pub(crate) fn spun_there(
+    alloc: Global,
+    set: &TaskSet,
+    i: TaskId,
+    processor: u32,
+    below: &[bool],
+    above: &[bool],
+) -> Result<SpunThere, AllocError>
+    requires task { i.0 < length set.now.tasks }
+    requires users { AreUsers set.now i.0 below.now above.now }
+    ensures { IfOk result (λ t. (t.processor ≡ processor) × TellsThere set.now i.0 t) }
+{
+    // a set has at most 32 resources
+    let _resources = set.resources();
+    let tables = spun_tables(alloc, set, i, processor, below, above)?;
+    let above = how_many(&tables.shared);
+    let many = are_many(how_many(&tables.spun));
     let apart = {
         let test = SetApart {
             processor,
-            shared: &shared,
-            lone: &lone,
-            above,
-            many,
+            shared: &tables.shared,
+            lone: &tables.lone,
+            are_few_above: are_few_above(above),
+            are_many: many,
         };
         table_of(alloc, set, i, &test)?
     };
-    let leaves_out = are_left_out(many, &lone);
+    let leaves_out = are_left_out(many, &tables.lone);
     Ok(SpunThere {
         processor,
-        spun,
-        shared,
-        lone,
+        spun: tables.spun,
+        shared: tables.shared,
+        lone: tables.lone,
         apart,
         above,
         leaves_out,

@@ -42,7 +42,7 @@ fn add_together_rows<T: RowTaker>(
     Ok(())
 }
 
-/// Adds the rows of several resources together, those of spinning, and those of resources for which only lower tasks may spin, behind
+/// Adds the rows of several resources together, those of resources for which only lower tasks may spin, and those of spinning, behind
 /// those that the taker has.
 fn add_closer_part<T: RowTaker>(
     alloc: Global,
@@ -54,7 +54,7 @@ fn add_closer_part<T: RowTaker>(
 ) -> Result<(), AllocError>
     requires { AreKnownAt set.now bounds.now i.0 columns.now }
     ensures { OnOk result (T.takes taker.old (map column_seen columns.now)
-        (together_rows set.now i.0 ++ (closer_spinning_rows set.now i.0 ++ lone_spinning_rows set.now i.0)) bounds.now taker.new) }
+        (together_rows set.now i.0 ++ (lone_spinning_rows set.now i.0 ++ closer_spinning_rows set.now i.0)) bounds.now taker.new) }
 {
     let below = table_of(alloc, set, i, &UsedBelow)?;
     let above = table_of(alloc, set, i, &UsedAbove)?;
@@ -68,8 +68,8 @@ fn add_closer_part<T: RowTaker>(
         origins: &origins,
     };
     add_together_rows(alloc, taker, set, i, bounds, columns, known)?;
-    add_closer_rows(alloc, taker, set, i, bounds, columns, known)?;
     add_groups(alloc, taker, set, i, bounds, columns, known, Group::Lone)?;
+    add_closer_rows(alloc, taker, set, i, bounds, columns, known)?;
     Ok(())
 }
 

@@ -127,26 +127,27 @@ impl<'a> ResourceTest for Lone<'a> {
     }
 }
 
-/// Have all resources for which lower tasks may spin but it a row? The tables tell which of them are used above and which are lone, and the
-/// numbers how many are used above, and whether they are many.
+/// Have all resources for which lower tasks may spin but it a row? The tables tell which of them are used above and which are lone. The other
+/// two say whether several but not many are used above, and whether they are many in all.
 #[derive(Drop)]
 pub(crate) struct SetApart<'a> {
     pub(crate) processor: u32,
     pub(crate) shared: &'a [bool],
     pub(crate) lone: &'a [bool],
-    pub(crate) above: u32,
-    pub(crate) many: bool,
+    pub(crate) are_few_above: bool,
+    pub(crate) are_many: bool,
 }
 
 impl<'a> ResourceTest for SetApart<'a> {
     ghost use Rattle.closer_spin.specs.Tables.{CanSetApart};
 
-    ghost fits = { λ t set i. CanSetApart set i t.processor t.shared.now t.lone.now t.above t.many };
+    ghost fits = { λ t set i. CanSetApart set i t.processor t.shared.now t.lone.now t.are_few_above t.are_many };
 
     ghost passes = { λ t set i. is_set_apart set i t.processor };
 
     fn test(&self, _set: &TaskSet, _i: TaskId, q: ResourceId) -> bool {
-        !self.many && ((self.shared[q.0 as usize] && self.above > 1) || self.lone[q.0 as usize])
+        (self.shared[q.0 as usize] && self.are_few_above)
+            || (self.lone[q.0 as usize] && !self.are_many)
     }
 }
 

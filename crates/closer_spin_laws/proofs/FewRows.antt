@@ -26,7 +26,7 @@ use Rattle.program_laws.proofs.PlacedRows.{PlacedAt, count_below-placed, there_b
 use Rattle.charge_laws.specs.Fractions.{no_column}
 use Rattle.spin_charging.specs.SpinPrograms.{blocks_by_spinning, is_spin_column, spin_columns, lower_request_row, is_from, own_spinning_row}
 use Rattle.closer_spin_laws.specs.CloserSpinRows.{is_used_on, is_spun_below, is_spun_above, is_lone, are_many_spun, is_left_out}
-use Rattle.closer_spin_laws.specs.CloserSpinRows.{is_set_apart, is_spun_beside, is_spun_with}
+use Rattle.closer_spin_laws.specs.CloserSpinRows.{are_few_above, is_set_apart, is_spun_beside, is_spun_with}
 use Rattle.closer_spin_laws.specs.CloserSpinRows.{is_in_place, is_of_slot, used_above, closer_spinning_row, together_row}
 use Rattle.closer_spin_laws.specs.CloserSpinRows.{lower_spinning_row, other_lower_spinning_row, lone_spinning_with_row, lone_spinning_row}
 use Rattle.closer_spin_laws.specs.CloserSpinRows.{closer_spinning_rows, own_spinning_rows, together_rows, lone_spinning_rows}
@@ -93,11 +93,11 @@ one_passes set i k least passes c some =
 
 -- What is set apart is spun for.
 apart_spun : (set : SetDef) (i k q : ℕ) → is_set_apart set i k q ≡ true → is_spun_below set i k q ≡ true
-apart_spun set i k q h = by_first (is_spun_above set i k q && nat_lt 1 (used_above set i k)) refl (and_parts (not (are_many_spun set i k)) _ h).1 where
-  by_first : (b : Bool) → (is_spun_above set i k q && nat_lt 1 (used_above set i k)) ≡ b
-      → (b || is_lone set i k q) ≡ true → is_spun_below set i k q ≡ true
+apart_spun set i k q h = by_first (is_spun_above set i k q && are_few_above set i k) refl h where
+  by_first : (b : Bool) → (is_spun_above set i k q && are_few_above set i k) ≡ b
+      → (b || (is_lone set i k q && not (are_many_spun set i k))) ≡ true → is_spun_below set i k q ≡ true
   by_first true first e = (and_parts _ _ (and_parts (is_spun_above set i k q) _ first).0).0
-  by_first false first e = (and_parts _ _ e).0
+  by_first false first e = (and_parts _ _ (and_parts (is_lone set i k q) _ e).0).0
 
 other_of : (set : SetDef) (i k q : ℕ) → IsOfUsed set k q (other_lower_spinning_row set i (k + 1) q)
 other_of set i k q a =
@@ -176,11 +176,11 @@ rows_at_most set i accepted here =
     let lone = lone_spinning_rows set i in
     omega (
       arith,
-      there_behind cs (common_rows set i) (lower ++ (own ++ (together ++ (spinning ++ lone)))),
-      there_behind cs lower (own ++ (together ++ (spinning ++ lone))),
-      there_behind cs own (together ++ (spinning ++ lone)),
-      there_behind cs together (spinning ++ lone),
-      there_behind cs spinning lone,
+      there_behind cs (common_rows set i) (lower ++ (own ++ (together ++ (lone ++ spinning)))),
+      there_behind cs lower (own ++ (together ++ (lone ++ spinning))),
+      there_behind cs own (together ++ (lone ++ spinning)),
+      there_behind cs together (lone ++ spinning),
+      there_behind cs lone spinning,
       filter_shorter (holds_some cs) lone,
       per_at_most set.processors (λ k. lone_spinning_row set i (k + 1)),
       (few set accepted).processors,

@@ -72,11 +72,10 @@ spin_closer_each P set i common each =
     (All-append P (own_spinning_rows set i) (together_rows set i ++ last)
     (all_per_pair P set.processors (length set.resources) (λ k q. own_spinning_row set i (k + 1) q) each.own)
     (All-append P (together_rows set i) last (together_each P set i each)
-    (All-append P (closer_spinning_rows set i) (lone_spinning_rows set i)
-    (all_per_pair P set.processors (length set.resources) (λ k q. closer_spinning_row set i (k + 1) q) each.spinning)
-    (lone_each P set i each))))) where
+    (All-append P (lone_spinning_rows set i) (closer_spinning_rows set i) (lone_each P set i each)
+    (all_per_pair P set.processors (length set.resources) (λ k q. closer_spinning_row set i (k + 1) q) each.spinning))))) where
       last : List ConstraintDef
-      last = closer_spinning_rows set i ++ lone_spinning_rows set i
+      last = lone_spinning_rows set i ++ closer_spinning_rows set i
 
       rest : List ConstraintDef
       rest = own_spinning_rows set i ++ (together_rows set i ++ last)
@@ -148,14 +147,14 @@ rows_to set i accepted =
     let each = per set.processors (λ k. lower_spinning_row set i (k + 1)) in
     let others = per_pair set.processors m (λ k q. other_lower_spinning_row set i (k + 1) q) in
     let with_one = per_pair set.processors m (λ k q. lone_spinning_with_row set i (k + 1) q) in
-    let last = closer_spinning_rows set i ++ lone_spinning_rows set i in
+    let last = lone_spinning_rows set i ++ closer_spinning_rows set i in
     let pairs : set.processors * m ≤ 64 * m = mul-le-mul_right m f.processors in
     omega (
       arith,
       length-append (common_rows set i) (lower_request_row ∷ (own_spinning_rows set i ++ (together_rows set i ++ last))),
       length-append (own_spinning_rows set i) (together_rows set i ++ last),
       length-append (together_rows set i) last,
-      length-append (closer_spinning_rows set i) (lone_spinning_rows set i),
+      length-append (lone_spinning_rows set i) (closer_spinning_rows set i),
       length-append each (others ++ with_one),
       length-append others with_one,
       common_few set i f,
@@ -173,7 +172,7 @@ rows_to set i accepted =
 -- What stands behind the rows that every protocol has.
 abbrev spinning_behind : SetDef → ℕ → List ConstraintDef
 spinning_behind set i = lower_request_row
-    ∷ (own_spinning_rows set i ++ (together_rows set i ++ (closer_spinning_rows set i ++ lone_spinning_rows set i)))
+    ∷ (own_spinning_rows set i ++ (together_rows set i ++ (lone_spinning_rows set i ++ closer_spinning_rows set i)))
 
 pub spin_closer_is_program : (set : SetDef) (i : ℕ) (r : List ℕ) → IsAccepted set → i < length set.tasks → AreWithinDeadlines set r
     → IsProgram (spin_closer_program set i r)

@@ -79,14 +79,14 @@ rows_dominated bounds set i =
     (λ k q a b. elim (cases_Bool (is_left_out set i (k + 1) q)) [
       | inl one ↦ record {
         row = lone_spinning_row set i (k + 1);
-        among = last_among (lone_spinning_row set i (k + 1)) (Contains-append_right (closer_spinning_rows set i) (lone_spinning_rows set i)
+        among = last_among (lone_spinning_row set i (k + 1)) (Contains-append_left (lone_spinning_rows set i) (closer_spinning_rows set i)
             (lone_spinning_row set i (k + 1)) (contains_collected set.processors k (λ m. lone_spinning_row set i (m + 1) ∷ [])
             (lone_spinning_row set i (k + 1)) a (0, omega arith, refl)));
         says = lone_dominates bounds set i (k + 1) q one;
       }
       | inr other ↦ record {
         row = closer_spinning_row set i (k + 1) q;
-        among = last_among (closer_spinning_row set i (k + 1) q) (Contains-append_left (closer_spinning_rows set i) (lone_spinning_rows set i)
+        among = last_among (closer_spinning_row set i (k + 1) q) (Contains-append_right (lone_spinning_rows set i) (closer_spinning_rows set i)
             (closer_spinning_row set i (k + 1) q)
             (pair_among set.processors (length set.resources) k q (λ m r. closer_spinning_row set i (m + 1) r) a b));
         says = spinning_dominates bounds set i (k + 1) q other;
@@ -99,7 +99,7 @@ rows_dominated bounds set i =
       rows = spin_closer_rows set i
 
       last : List ConstraintDef
-      last = closer_spinning_rows set i ++ lone_spinning_rows set i
+      last = lone_spinning_rows set i ++ closer_spinning_rows set i
 
       further : List ConstraintDef
       further = together_rows set i ++ last

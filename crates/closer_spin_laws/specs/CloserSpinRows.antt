@@ -39,9 +39,13 @@ is_spun_above set i k q = is_spun_below set i k q && is_used_above set i q
 abbrev pub is_lone : SetDef → ℕ → ℕ → ℕ → Bool
 is_lone set i k q = is_spun_below set i k q && not (is_used_above set i q)
 
--- Are there more than eight resources for which lower tasks may spin? Then rows that leave out one each would take long and say little.
+-- Are so many resources too many for a row each that leaves it out? Such rows take long, and say little beside the others.
+abbrev pub are_many : ℕ → Bool
+are_many n = nat_lt 10 n
+
+-- Are those many for which lower tasks may spin?
 abbrev pub are_many_spun : SetDef → ℕ → ℕ → Bool
-are_many_spun set i k = nat_lt 8 (count_below (length set.resources) (is_spun_below set i k))
+are_many_spun set i k = are_many (count_below (length set.resources) (is_spun_below set i k))
 
 -- And are several of them lone, so that these have a row together?
 abbrev pub leaves_lone_out : SetDef → ℕ → ℕ → Bool
@@ -83,10 +87,13 @@ together_row set i k least passes = counting
 abbrev pub lower_spinning_row : SetDef → ℕ → ℕ → ConstraintDef
 lower_spinning_row set i k = together_row set i k 1 (is_spun_below set i k)
 
--- Have all of them but q a row? If they aren't many, and q is lone, or used above as another one is too.
+-- Are several of them used above, and not many?
+abbrev pub are_few_above : SetDef → ℕ → ℕ → Bool
+are_few_above set i k = nat_lt 1 (used_above set i k) && not (are_many (used_above set i k))
+
+-- Have all of them but q a row? If q is one of few that are used above, or if q is lone and they aren't many.
 abbrev pub is_set_apart : SetDef → ℕ → ℕ → ℕ → Bool
-is_set_apart set i k q =
-    not (are_many_spun set i k) && ((is_spun_above set i k q && nat_lt 1 (used_above set i k)) || is_lone set i k q)
+is_set_apart set i k q = (is_spun_above set i k q && are_few_above set i k) || (is_lone set i k q && not (are_many_spun set i k))
 
 -- Other lower spinning: all of them but q.
 abbrev pub is_spun_beside : SetDef → ℕ → ℕ → ℕ → ℕ → Bool
@@ -122,10 +129,10 @@ abbrev pub lone_spinning_rows : SetDef → ℕ → List ConstraintDef
 lone_spinning_rows set i = per set.processors (λ k. lone_spinning_row set i (k + 1))
 
 -- The rows of task i: requests, time, lower requests, own spinning, lower spinning, other lower spinning, lone lower spinning with one,
--- spinning, lone lower spinning.
+-- lone lower spinning, spinning.
 abbrev pub spin_closer_rows : SetDef → ℕ → List ConstraintDef
 spin_closer_rows set i = common_rows set i ++ (lower_request_row
-    ∷ (own_spinning_rows set i ++ (together_rows set i ++ (closer_spinning_rows set i ++ lone_spinning_rows set i))))
+    ∷ (own_spinning_rows set i ++ (together_rows set i ++ (lone_spinning_rows set i ++ closer_spinning_rows set i))))
 
 -- The source of these programs for a set: requests may block as under spin locks, and interference is counted as there.
 abbrev pub spin_closer_source : SetDef → SourceDef

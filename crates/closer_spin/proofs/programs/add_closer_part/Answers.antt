@@ -9,11 +9,11 @@ returns g c =
     let i = c.args.i.0 in
     let bounds = c.args.bounds.now in
     let seen = map column_seen c.args.columns.now in
-    let end = c.add_groups.new.taker in
+    let end = c.add_closer_rows.new.taker in
     let behind = g.met.T.RowTaker.behind in
     let spinning = closer_spinning_rows set i in
     let lone = lone_spinning_rows set i in
-    behind c.args.taker.now c.add_together_rows.new.taker end seen (together_rows set i) (spinning ++ lone) bounds
+    behind c.args.taker.now c.add_together_rows.new.taker end seen (together_rows set i) (lone ++ spinning) bounds
     c.in_ok-add_together_rows.ensures
-    (behind c.add_together_rows.new.taker c.add_closer_rows.new.taker end seen spinning lone bounds
-    c.in_ok-add_closer_rows.ensures c.in_ok-add_groups.ensures)
+    (behind c.add_together_rows.new.taker c.add_groups.new.taker end seen lone spinning bounds
+    c.in_ok-add_groups.ensures c.in_ok-add_closer_rows.ensures)

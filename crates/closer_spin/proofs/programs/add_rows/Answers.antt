@@ -13,7 +13,7 @@ returns g c =
     let seen = map column_seen c.args.columns.now in
     let end = c.add_closer_part.new.taker in
     let behind = g.met.T.RowTaker.behind in
-    let further = together_rows set i ++ (closer_spinning_rows set i ++ lone_spinning_rows set i) in
+    let further = together_rows set i ++ (lone_spinning_rows set i ++ closer_spinning_rows set i) in
     let rest = own_spinning_rows set i ++ further in
     behind c.args.taker.now c.add_common.new.taker end seen (common_rows set i) (lower_request_row ∷ rest) bounds
     c.in_ok-add_common.ensures.rows
