@@ -1,23 +1,21 @@
 -- What a table says of its test: how many pass, and what sums over those that pass are.
-use Rattle.std.proofs.Common.{◌≡◌, ℕ, ◌+◌, ◌<◌, ◌==◌, ◌&&◌, ◌||◌, not, if◌then◌else◌, Bool, true, false, List, length, refl, ap, ◌∙◌, subst, inl, inr}
+use Rattle.std.proofs.Common.{◌≡◌, ℕ, ◌+◌, ◌<◌, ◌==◌, ◌&&◌, ◌||◌, not, if◌then◌else◌, Bool, true, false, List, length, refl, ap, ◌∙◌, inl, inr}
 use Rattle.std.proofs.Common.{nat_lt, nat_le}
 use Rattle.std.specs.Prelude.{slice_index, slice_index_or}
 use Rattle.std.specs.List.{Contains}
-use Rattle.std.proofs.lemmas.Bool.{cases_Bool, both_ways, and_parts, not-true, eqb-true}
+use Rattle.std.proofs.lemmas.Bool.{cases_Bool, both_ways, and_parts, not-true}
 use Rattle.std.proofs.lemmas.List.Elements.{All-contains_itself}
 use Rattle.number_laws.specs.Sums.{sum_below, only_if}
 use Rattle.number_laws.specs.Tests.{count_below}
 use Rattle.number_laws.proofs.SumLaws.{sum_below-agree}
 use Rattle.number_laws.proofs.CountLaws.{flag-passes, count_below-agree, count_below-none}
 use Rattle.sporadic_model.specs.SetDef.{SetDef}
-use Rattle.sporadic_model.specs.Users.{count_of, is_user}
-use Rattle.blocking_columns.specs.declared.columns.Class.{Class}
+use Rattle.sporadic_model.specs.Users.{count_of}
 use Rattle.blocking_columns.specs.declared.columns.Class.TheVariants as class
 use Rattle.blocking_columns.specs.ColumnDef.{ColumnDef, is_class}
 use Rattle.fragments.specs.Constraints.{holds_some}
-use Rattle.blocking_columns.proofs.KnownColumns.{passing_pass}
 use Rattle.program_laws.proofs.FewRows.{held}
-use Rattle.spin_charging.specs.SpinPrograms.{blocks_by_spinning, is_from, is_spin_column, spin_columns, own_spinning_row, higher_requests, upper_requests}
+use Rattle.spin_charging.specs.SpinPrograms.{is_from, higher_requests, upper_requests}
 use Rattle.closer_spin_laws.specs.CloserSpinRows.{is_spun_below, is_lone, is_left_out, is_in_place, is_spun_beside}
 use Rattle.closer_spin_laws.specs.CloserSpinRows.{is_spun_with, is_of_slot, used_above, together_row, closer_spinning_row}
 use Rattle.spin_protocol.proofs.NoneFrom.{IsOnlyFrom}
@@ -95,28 +93,6 @@ closer_only set i k q unspun c some =
           let spun : (is_spun_below set i k q && not (c.resource == q)) ≡ true = rw (preempts) at passes in
           absurd (both_ways (is_spun_below set i k q) unspun (and_parts _ _ spun).0)
     ]
-
--- Only what i requests blocks it directly.
-direct_used : (set : SetDef) (i x r : ℕ) (k : Class) → is_class class.Direct k ≡ true → blocks_by_spinning set i x r k ≡ true
-    → is_user set r i ≡ true
-direct_used set i x r class.Direct d b = (and_parts _ _ b).1
-direct_used set i x r class.Indirect d b = absurd (cc)
-direct_used set i x r class.Preemption d b = absurd (cc)
-
--- So what it doesn't request has no row of own spinning.
-pub own_missing : (set : SetDef) (i k q : ℕ) → is_user set q i ≡ false → holds_some (spin_columns set i) (own_spinning_row set i k q) ≡ false
-own_missing set i k q unused = elim (cases_Bool (holds_some (spin_columns set i) (own_spinning_row set i k q))) [
-  | inr none ↦ none
-  | inl h ↦
-      let c : (c : ColumnDef) × (is_spin_column set i c ≡ true) × (0 < (own_spinning_row set i k q).coefficient c) =
-      held (λ c. is_spin_column set i c ≡ true) (spin_columns set i) (own_spinning_row set i k q) (passing_pass (is_spin_column set i) set) h in
-      let counted = and_parts _ _ (flag-passes (is_from set k q c.0 && is_class class.Direct c.0.class) c.2) in
-      let same : c.0.resource ≡ q = eqb-true _ _ (and_parts _ _ counted.0).1 in
-      let blocks : blocks_by_spinning set i c.0.task c.0.resource c.0.class ≡ true = (and_parts _ _ c.1).1 in
-      let used : is_user set q i ≡ true =
-      subst (λ r. is_user set r i ≡ true) same (direct_used set i c.0.task c.0.resource c.0.class counted.1 blocks) in
-      absurd (both_ways (is_user set q i) unused used)
-]
 
 -- Nothing passes two tests of which the second fails.
 pub too_few : (several enough : Bool) → enough ≡ false → (several && enough) ≡ false

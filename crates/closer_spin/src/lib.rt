@@ -5,7 +5,6 @@
 #![tactic(auto)]
 
 mod groups;
-mod own;
 mod programs;
 mod protocol;
 mod rows;

@@ -10,13 +10,12 @@ ghost use Rattle.blocking_columns.specs.Given.{AreInOrderAt, AreKnownAt};
 ghost use Rattle.closer_spin.specs.Closer.{CanMakeRowsWith};
 
 use crate::groups::{Group, Pairing, spun_everywhere};
-use crate::own::add_own_rows;
 use crate::rows::{Known, add_closer_rows, add_groups, add_pairs};
 use crate::tables::{UsedAbove, UsedBelow, requests_above};
 use direct_constraints::add_common;
 use fragments::{Fragment, RowTaker};
 use protocol_programs::ProgramParts;
-use spin_protocol::{add_lower_requests, origins_of, spin_fragments, table_of};
+use spin_protocol::{add_lower_requests, add_own_spinning, origins_of, spin_fragments, table_of};
 use sporadic_model::{TaskId, TaskSet};
 use std::alloc::{AllocError, Global};
 
@@ -88,7 +87,7 @@ fn add_rows<T: RowTaker>(
 {
     add_common(alloc, taker, set, i, bounds, columns)?;
     add_lower_requests(alloc, taker, set, i, bounds, columns)?;
-    add_own_rows(alloc, taker, set, i, bounds, columns)?;
+    add_own_spinning(alloc, taker, set, i, bounds, columns)?;
     add_closer_part(alloc, taker, set, i, bounds, columns)?;
     Ok(())
 }

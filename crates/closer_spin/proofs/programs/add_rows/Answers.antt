@@ -19,5 +19,5 @@ returns g c =
     c.in_ok-add_common.ensures.rows
     (behind c.add_common.new.taker c.add_lower_requests.new.taker end seen (lower_request_row ∷ []) rest bounds
     c.in_ok-add_lower_requests.ensures
-    (behind c.add_lower_requests.new.taker c.add_own_rows.new.taker end seen (own_spinning_rows set i) further bounds
-    c.in_ok-add_own_rows.ensures c.in_ok-add_closer_part.ensures))
+    (behind c.add_lower_requests.new.taker c.add_own_spinning.new.taker end seen (own_spinning_rows set i) further bounds
+    c.in_ok-add_own_spinning.ensures c.in_ok-add_closer_part.ensures))
