@@ -1,20 +1,23 @@
--- A row of requests from a processor has no column if the table doesn't mark it.
-use Rattle.std.proofs.Common.{◌≡◌, ℕ, ◌<◌, ◌==◌, Bool, true, false, List, map, refl, arith, inl, inr, not, ◌&&◌}
+-- A row of requests from a processor has no column if the table doesn't mark it, and one of own spinning none if the task doesn't use the
+-- resource.
+use Rattle.std.proofs.Common.{◌≡◌, ℕ, ◌<◌, ◌==◌, Bool, true, false, List, map, refl, arith, subst, inl, inr, not, ◌&&◌}
 use Rattle.std.specs.Prelude.{slice_index_or}
 use Rattle.std.proofs.lemmas.Bool.{cases_Bool, both_ways, and_parts, eqb-true, not-true}
 use Rattle.std.proofs.lemmas.List.Elements.{All-map}
 use Rattle.number_laws.proofs.CountLaws.{flag-passes}
 use Rattle.sporadic_model.specs.SetDef.{SetDef, task_at}
+use Rattle.sporadic_model.specs.Users.{is_user}
 use Rattle.blocking_columns.specs.declared.columns.Class.{Class}
 use Rattle.blocking_columns.specs.declared.columns.Class.TheVariants as class
 use Rattle.blocking_columns.specs.declared.columns.Fragment.{Fragment}
 use Rattle.blocking_columns.specs.ColumnDef.{ColumnDef, column_seen, is_class}
 use Rattle.fragments.specs.Constraints.{ConstraintDef, holds_some}
+use Rattle.blocking_columns.proofs.KnownColumns.{passing_pass}
 use Rattle.program_laws.proofs.FewRows.{held}
-use Rattle.spin_charging.specs.SpinPrograms.{is_from}
+use Rattle.spin_charging.specs.SpinPrograms.{blocks_by_spinning, is_from, is_spin_column, spin_columns, own_spinning_row}
 use Rattle.spin_protocol.specs.declared.rows.Spinning.{Spinning}
 use Rattle.spin_protocol.specs.declared.rows.Spinning.TheVariants as spinning
-use Rattle.spin_protocol.specs.SpinRows.{row_of_kind}
+use Rattle.spin_protocol.specs.SpinRows.{row_of_kind, is_spun_for}
 use Rattle.spin_protocol.specs.Origins.{origin_place, IsMarked, AreOrigins}
 
 -- Has the row only columns of requests of q by tasks of processor k, and none of preemption?
@@ -54,3 +57,31 @@ spinning_only spinning.Own set i k q c some =
     let both : (is_from set k q c ≡ true) × (is_class class.Direct c.class ≡ true) =
     and_parts _ _ (flag-passes (is_from set k q c && is_class class.Direct c.class) some) in
     (both.0, direct_runs_elsewhere c.class both.1)
+
+-- Only what i requests blocks it directly.
+direct_used : (set : SetDef) (i x r : ℕ) (k : Class) → is_class class.Direct k ≡ true → blocks_by_spinning set i x r k ≡ true
+    → is_user set r i ≡ true
+direct_used set i x r class.Direct d b = (and_parts _ _ b).1
+direct_used set i x r class.Indirect d b = absurd (cc)
+direct_used set i x r class.Preemption d b = absurd (cc)
+
+-- So what it doesn't request has no row of own spinning.
+pub own_missing : (set : SetDef) (i k q : ℕ) → is_user set q i ≡ false → holds_some (spin_columns set i) (own_spinning_row set i k q) ≡ false
+own_missing set i k q unused = elim (cases_Bool (holds_some (spin_columns set i) (own_spinning_row set i k q))) [
+  | inr none ↦ none
+  | inl h ↦
+      let c : (c : ColumnDef) × (is_spin_column set i c ≡ true) × (0 < (own_spinning_row set i k q).coefficient c) =
+      held (λ c. is_spin_column set i c ≡ true) (spin_columns set i) (own_spinning_row set i k q) (passing_pass (is_spin_column set i) set) h in
+      let counted = and_parts _ _ (flag-passes (is_from set k q c.0 && is_class class.Direct c.0.class) c.2) in
+      let same : c.0.resource ≡ q = eqb-true _ _ (and_parts _ _ counted.0).1 in
+      let blocks : blocks_by_spinning set i c.0.task c.0.resource c.0.class ≡ true = (and_parts _ _ c.1).1 in
+      let used : is_user set q i ≡ true =
+      subst (λ r. is_user set r i ≡ true) same (direct_used set i c.0.task c.0.resource c.0.class counted.1 blocks) in
+      absurd (both_ways (is_user set q i) unused used)
+]
+
+-- And a kind of spinning that can't be for the resource has no row of it.
+pub kind_missing : (kind : Spinning) (set : SetDef) (i k q : ℕ) → is_spun_for kind set i q ≡ false
+    → holds_some (spin_columns set i) (row_of_kind kind set i k q) ≡ false
+kind_missing spinning.All set i k q unspun = absurd (cc)
+kind_missing spinning.Own set i k q unspun = own_missing set i k q unspun

@@ -88,7 +88,7 @@ impl ColumnTest for SpinColumns {
     }
 }
 
-/// Adds the rows of this kind, for each processor, behind those that the taker has.
+/// Adds the rows of this kind, for each processor, behind those that the taker has, over the columns of the task's program.
 fn add_spinning_rows<T: RowTaker>(
     alloc: Global,
     taker: &mut T,
@@ -98,7 +98,8 @@ fn add_spinning_rows<T: RowTaker>(
     bounds: &[u64],
     columns: &[Fragment],
 ) -> Result<(), AllocError>
-    requires { AreKnownAt set.now bounds.now i.0 columns.now }
+    requires at { AreKnownAt set.now bounds.now i.0 columns.now }
+    requires columns { map column_seen columns.now ≡ spin_columns set.now i.0 }
     ensures { OnOk result (T.takes taker.old (map column_seen columns.now) (rows_of_kind spinning set.now i.0) bounds.now taker.new) }
 {
     let processors = set.processors();
@@ -110,8 +111,8 @@ fn add_spinning_rows<T: RowTaker>(
     add_per_number(alloc, taker, &rows, set, processors, i, bounds, columns)
 }
 
-/// Adds the rows of own spinning behind those that the taker has: each request of a resource by the analysed task spins for at most one
-/// request of each processor.
+/// Adds the rows of own spinning behind those that the taker has, over the columns of the task's program: each request of a resource by
+/// the analysed task spins for at most one request of each processor.
 pub fn add_own_spinning<T: RowTaker>(
     alloc: Global,
     taker: &mut T,
@@ -120,7 +121,8 @@ pub fn add_own_spinning<T: RowTaker>(
     bounds: &[u64],
     columns: &[Fragment],
 ) -> Result<(), AllocError>
-    requires { AreKnownAt set.now bounds.now i.0 columns.now }
+    requires at { AreKnownAt set.now bounds.now i.0 columns.now }
+    requires columns { map column_seen columns.now ≡ spin_columns set.now i.0 }
     ensures { OnOk result (T.takes taker.old (map column_seen columns.now)
         (per_pair set.now.processors (length set.now.resources) (λ k q. own_spinning_row set.now i.0 (k + 1) q)) bounds.now taker.new) }
 {
@@ -143,7 +145,7 @@ pub fn add_lower_requests<T: RowTaker>(
     add_row(alloc, taker, &LowerRequestRow, set, i, bounds, columns)
 }
 
-/// Adds all rows, in their order, behind those that the taker has.
+/// Adds all rows, in their order, behind those that the taker has, over the columns of the task's program.
 fn add_rows<T: RowTaker>(
     alloc: Global,
     taker: &mut T,
@@ -152,7 +154,8 @@ fn add_rows<T: RowTaker>(
     bounds: &[u64],
     columns: &[Fragment],
 ) -> Result<(), AllocError>
-    requires { AreInOrderAt set.now bounds.now i.0 columns.now }
+    requires ordered { AreInOrderAt set.now bounds.now i.0 columns.now }
+    requires columns { map column_seen columns.now ≡ spin_columns set.now i.0 }
     ensures { OnOk result (T.takes taker.old (map column_seen columns.now) (spin_rows set.now i.0) bounds.now taker.new) }
 {
     add_common(alloc, taker, set, i, bounds, columns)?;

@@ -1,19 +1,19 @@
 //! The code of the rows that only spin locks have.
 
-ghost use Rattle.std.specs.Prelude.{◌≡◌, ◌<◌, ◌≤◌, ◌*◌, ◌+◌, [], ◌∷◌, length, slice_index};
+ghost use Rattle.std.specs.Prelude.{◌≡◌, ◌<◌, ◌≤◌, ◌*◌, ◌+◌, [], ◌∷◌, map, length, slice_index};
 ghost use Rattle.number_laws.specs.Sums.{flag};
 ghost use Rattle.sporadic_model.specs.Users.{count_of};
 ghost use Rattle.blocking_columns.specs.ColumnDef.{column_seen};
 ghost use Rattle.fragments.specs.Constraints.{per};
-ghost use Rattle.spin_charging.specs.SpinPrograms.{lower_request_row, is_from, is_used_below, higher_requests};
-ghost use Rattle.spin_protocol.specs.SpinRows.{row_of_kind};
+ghost use Rattle.spin_charging.specs.SpinPrograms.{spin_columns, lower_request_row, is_from, is_used_below, higher_requests};
+ghost use Rattle.spin_protocol.specs.SpinRows.{row_of_kind, is_spun_for};
 ghost use Rattle.spin_protocol.specs.Origins.{AreOrigins};
 ghost use Rattle.spin_protocol.specs.Given.{AreOfSet};
 
 use crate::origins::is_origin;
 use fragments::{
     Constraint, Fragment, PerNumber, RowKind, RowTaker, add_per_number, add_row, cnt, lower_local,
-    share_processor,
+    share_processor, uses,
 };
 use sporadic_model::{ResourceId, TaskId, TaskSet};
 use std::alloc::{AllocError, Global};
@@ -109,6 +109,18 @@ pub(crate) enum Spinning {
     Own,
 }
 
+/// Can such requests of the resource spin? If they are to be the analysed task's own, it has to use it.
+fn is_spun_for(set: &TaskSet, i: TaskId, spinning: Spinning, q: ResourceId) -> bool
+    requires task { i.0 < length set.now.tasks }
+    requires resource { q.0 < length set.now.resources }
+    ensures { result ≡ is_spun_for spinning set.now i.0 q.0 }
+{
+    match spinning {
+        Spinning::All => true,
+        Spinning::Own => uses(set, i, q),
+    }
+}
+
 /// Of a processor, counted from 1, and a resource: each of these requests of it spins for at most one request from that processor.
 #[derive(Drop)]
 struct SpinningRow {
@@ -151,7 +163,8 @@ struct SpinningFrom<'a> {
 impl<'a> PerNumber for SpinningFrom<'a> {
     ghost rows_of = { λ k set i q. row_of_kind k.spinning set i k.processor q ∷ [] };
 
-    ghost fits = { λ k set i columns q. (q < length set.resources) × AreOrigins set columns k.origins.now };
+    ghost fits = { λ k set i columns q. (q < length set.resources)
+        × (AreOrigins set columns k.origins.now × (map column_seen columns ≡ spin_columns set i)) };
 
     fn add<T: RowTaker>(
         &self,
@@ -166,6 +179,10 @@ impl<'a> PerNumber for SpinningFrom<'a> {
         // the tasks of most processors use few of the resources
         let resource = ResourceId(number);
         if !is_origin(self.origins, self.processor, resource) {
+            return Ok(());
+        }
+        // a task requests few of the resources
+        if !is_spun_for(set, i, self.spinning, resource) {
             return Ok(());
         }
         let row = SpinningRow {
@@ -187,7 +204,8 @@ pub(crate) struct SpinningRows<'a> {
 impl<'a> PerNumber for SpinningRows<'a> {
     ghost rows_of = { λ k set i n. per (length set.resources) (row_of_kind k.spinning set i (n + 1)) };
 
-    ghost fits = { λ k set i columns n. (n < set.processors) × AreOrigins set columns k.origins.now };
+    ghost fits = { λ k set i columns n. (n < set.processors)
+        × (AreOrigins set columns k.origins.now × (map column_seen columns ≡ spin_columns set i)) };
 
     fn add<T: RowTaker>(
         &self,
