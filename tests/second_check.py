@@ -102,12 +102,12 @@ def small_set(draw: random.Random) -> bytes:
 
 
 def wide_set(draw: random.Random) -> dict:
-    """A set of few tasks that request many resources, so that lower tasks may spin for more than eight."""
+    """A set of few tasks that request many resources, so that lower tasks may spin for more than ten, and more than ten of these be used above."""
     processors = draw.randint(2, 3)
-    resources = [resource(f"q{q}", draw.randint(1, processors)) for q in range(draw.randint(9, 13))]
+    resources = [resource(f"q{q}", draw.randint(1, processors)) for q in range(draw.randint(11, 14))]
     tasks = []
     for number in range(draw.randint(3, 6)):
-        chosen = draw.sample(resources, draw.choice([1, 2, draw.randint(8, len(resources))]))
+        chosen = draw.sample(resources, draw.choice([2, draw.randint(10, len(resources)), len(resources)]))
         tasks.append(task(f"t{number}", draw.randint(1, processors), draw.randint(300, 900), 20, *((one["name"], draw.randint(1, 4)) for one in chosen)))
     return set_of(processors, resources, *tasks)
 

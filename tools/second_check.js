@@ -524,7 +524,8 @@ var SecondCheck = (function () {
         // The sets of resources of k that have a row together, each with whom it is for: all; all but one; the lone ones with another one; the lone ones.
         all_spun(k) { const { below, above } = this.groups(k); return above.length > 0 ? [[below, k]] : []; }
         but_one(k) {
-            const { below, above } = this.groups(k), apart = below.filter((q) => below.length <= MANY && (!above.includes(q) || above.length > 1));
+            const { below, above } = this.groups(k), is_above_apart = above.length > 1 && above.length <= MANY, is_lone_apart = below.length <= MANY;
+            const apart = below.filter((q) => (above.includes(q) ? is_above_apart : is_lone_apart));
             return apart.map((q) => [below.filter((r) => r !== q), k, q]);
         }
         lone_with_one(k) { const { above, lone } = this.groups(k); return above.length > 2 ? above.map((q) => [[q, ...lone], k, q]) : []; }
@@ -545,8 +546,9 @@ var SecondCheck = (function () {
     }
 
     const is_open = (column) => column.way !== PREEMPTION;
-    // If lower tasks may spin for more resources, "spin-c" has no rows that leave one out, and lone ones have none of their own.
-    const MANY = 8;
+    // If lower tasks may spin for more resources, "spin-c" has no rows that leave a lone one out, and several lone ones have none of their own. If
+    // more of these are used above, no row leaves out one of those.
+    const MANY = 10;
 
     // Each kind of row: which row a column stands in, if any, or which ones, how often where that isn't once, and the limit of that row.
     const KINDS = {
@@ -612,7 +614,7 @@ var SecondCheck = (function () {
     };
     KINDS_OF["fmlp+-c"] = [...KINDS_OF["fmlp+"], "holders", "other_holders", "lower_tasks", "local_preemption", "local_waits", "local_runners"];
     KINDS_OF["spin-c"] = ["requests", "time", "lower_requests", "own_spinning", "lower_spinning", "other_lower_spinning", "lone_lower_spinning_with"];
-    KINDS_OF["spin-c"].push("closer_spinning", "lone_lower_spinning");
+    KINDS_OF["spin-c"].push("lone_lower_spinning", "closer_spinning");
     KINDS_OF["dpcp-c"] = [...KINDS_OF["dpcp-w"], "home_tasks", "lower_home_tasks", "lower_preemption", "lower_home_waits"];
     KINDS_OF["dflp-c"] = [...KINDS_OF.dflp, "home_tasks", "lower_home_tasks", "lower_preemption"];
     KINDS_OF["mpcp-c"] = ["requests", "time", "lower_holders", "shared_holdings", "holdings_by_resource", "away_holdings", "shared_intervals"];

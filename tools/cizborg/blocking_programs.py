@@ -14,8 +14,9 @@ from .protocols import AT_HOMES, PROTOCOLS
 Bounds = Sequence[int]
 # a row: the columns that it has, each with its coefficient
 Row = list[tuple[int, int]]
-# if lower tasks may spin for more resources, the closer analysis of spin locks has no rows that leave one out, and lone ones have none of their own
-MANY = 8
+# if lower tasks may spin for more resources, the closer analysis of spin locks has no rows that leave a lone one out, and several lone ones have none
+# of their own; and if more of these are used above, it has no rows that leave one of those out
+MANY = 10
 
 
 class Column(NamedTuple):
@@ -414,11 +415,11 @@ class Shape:
                 self.add_together(k, self.spun_below(k))
 
     def add_other_lower_spinning(self) -> None:
-        """Of a processor and a resource: the same of the others of these, if they aren't many. If it is used above, another one has to be."""
+        """Of a processor and a resource: the same of the others of these. If it is used above, two or more of these are, and not many. If it isn't,
+        these aren't many."""
         for k in self.processors:
             spun, above = self.spun_below(k), self.spun_above(k)
-            apart = [q for q in spun if q not in above or len(above) > 1]
-            for q in apart if len(spun) <= MANY else []:
+            for q in [q for q in spun if (1 < len(above) <= MANY if q in above else len(spun) <= MANY)]:
                 self.add_together(k, [r for r in spun if r != q])
 
     def add_lone_lower_spinning_with(self) -> None:
@@ -653,8 +654,8 @@ KINDS["spin-c"] = (
     Shape.add_lower_spinning,
     Shape.add_other_lower_spinning,
     Shape.add_lone_lower_spinning_with,
-    Shape.add_closer_spinning,
     Shape.add_lone_lower_spinning,
+    Shape.add_closer_spinning,
 )
 KINDS["mpcp-c"] = (
     Shape.add_requests,
