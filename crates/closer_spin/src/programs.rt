@@ -7,10 +7,10 @@ ghost use Rattle.spin_charging.specs.SpinPrograms.{spin_columns};
 ghost use Rattle.closer_spin_laws.specs.CloserSpinRows.{together_rows, closer_spinning_rows, lone_spinning_rows, spin_closer_rows};
 ghost use Rattle.closer_spin_laws.proofs.Programs.{spin_closer_is_program};
 ghost use Rattle.blocking_columns.specs.Given.{AreInOrderAt, AreKnownAt};
-ghost use Rattle.closer_spin.specs.Closer.{CanMakeRowsWith};
+ghost use Rattle.closer_spin.specs.Closer.{CanMakeRows};
 
 use crate::groups::{Group, Pairing, spun_everywhere};
-use crate::rows::{Known, add_closer_rows, add_groups, add_pairs};
+use crate::rows::{Analysed, add_closer_rows, add_groups, add_pairs};
 use crate::tables::{UsedAbove, UsedBelow, requests_above};
 use direct_constraints::add_common;
 use fragments::{Fragment, RowTaker};
@@ -23,21 +23,18 @@ use std::alloc::{AllocError, Global};
 fn add_together_rows<T: RowTaker>(
     alloc: Global,
     taker: &mut T,
-    set: &TaskSet,
-    i: TaskId,
-    bounds: &[u64],
-    columns: &[Fragment],
-    known: Known<'_>,
+    task: &Analysed<'_>,
 ) -> Result<(), AllocError>
-    requires { CanMakeRowsWith set.now i.0 bounds.now columns.now known }
-    ensures { OnOk result (T.takes taker.old (map column_seen columns.now) (together_rows set.now i.0) bounds.now taker.new) }
+    requires { CanMakeRows task.now }
+    ensures { OnOk result (T.takes taker.old (map column_seen task.now.columns.now) (together_rows task.now.set.now task.now.i.0)
+        task.now.bounds.now taker.new) }
 {
     let all = Group::All;
-    add_groups(alloc, taker, set, i, bounds, columns, known, all)?;
+    add_groups(alloc, taker, task, all)?;
     let others = Pairing::Others;
-    add_pairs(alloc, taker, set, i, bounds, columns, known, others)?;
+    add_pairs(alloc, taker, task, others)?;
     let lone = Pairing::Lone;
-    add_pairs(alloc, taker, set, i, bounds, columns, known, lone)?;
+    add_pairs(alloc, taker, task, lone)?;
     Ok(())
 }
 
@@ -60,15 +57,19 @@ fn add_closer_part<T: RowTaker>(
     let everywhere = spun_everywhere(alloc, set, i, &below, &above)?;
     let requests = requests_above(alloc, set, i, bounds)?;
     let origins = origins_of(alloc, set, columns)?;
-    let known = Known {
+    let task = Analysed {
+        set,
+        i,
+        bounds,
+        columns,
         everywhere: &everywhere,
         below: &below,
         requests: &requests,
         origins: &origins,
     };
-    add_together_rows(alloc, taker, set, i, bounds, columns, known)?;
-    add_groups(alloc, taker, set, i, bounds, columns, known, Group::Lone)?;
-    add_closer_rows(alloc, taker, set, i, bounds, columns, known)?;
+    add_together_rows(alloc, taker, &task)?;
+    add_groups(alloc, taker, &task, Group::Lone)?;
+    add_closer_rows(alloc, taker, &task)?;
     Ok(())
 }
 

@@ -5,7 +5,7 @@ ghost use Rattle.blocking_columns.specs.ColumnDef.{column_seen};
 ghost use Rattle.fragments.specs.Constraints.{per, per_pair};
 ghost use Rattle.closer_spin_laws.specs.CloserSpinRows.{is_spun_below, is_left_out, closer_spinning_row, closer_spinning_rows};
 ghost use Rattle.closer_spin.specs.Groups.{HasGroup};
-ghost use Rattle.closer_spin.specs.Closer.{CanMakeRowsWith, CanAddThere, CanAddOne, CanAddSeveral};
+ghost use Rattle.closer_spin.specs.Closer.{CanMakeRows, CanAddThere, CanAddOne, CanAddSeveral};
 ghost use Rattle.closer_spin.specs.Together.{row_together, paired, AreTold};
 
 use crate::groups::{Group, InGroup, Pairing, SpunThere, is_paired, least_above, paired};
@@ -44,10 +44,14 @@ impl RowKind for CloserSpinningRow {
     }
 }
 
-/// What the rows are formed from: for which resources lower tasks may spin on each processor, which ones lower tasks use, how many
-/// requests of each `i` and higher tasks make, and where the columns come from.
+/// The columns of task `i` at bounds, and what its rows are formed from: for which resources lower tasks may spin on each processor, which
+/// ones lower tasks use, how many requests of each `i` and higher tasks make, and where the columns come from.
 #[derive(Clone, Copy)]
-pub(crate) struct Known<'a> {
+pub(crate) struct Analysed<'a> {
+    pub(crate) set: &'a TaskSet,
+    pub(crate) i: TaskId,
+    pub(crate) bounds: &'a [u64],
+    pub(crate) columns: &'a [Fragment],
     pub(crate) everywhere: &'a [SpunThere],
     pub(crate) below: &'a [bool],
     pub(crate) requests: &'a [u64],
@@ -58,17 +62,13 @@ pub(crate) struct Known<'a> {
 fn add_closer<T: RowTaker>(
     alloc: Global,
     taker: &mut T,
-    set: &TaskSet,
-    i: TaskId,
-    bounds: &[u64],
-    columns: &[Fragment],
-    known: Known<'_>,
+    task: &Analysed<'_>,
     there: &SpunThere,
     q: u32,
 ) -> Result<(), AllocError>
-    requires { CanAddOne set.now i.0 bounds.now columns.now known there.now q }
-    ensures { OnOk result (T.takes taker.old (map column_seen columns.now)
-        (closer_spinning_row set.now i.0 there.now.processor q ∷ []) bounds.now taker.new) }
+    requires { CanAddOne task.now there.now q }
+    ensures { OnOk result (T.takes taker.old (map column_seen task.now.columns.now)
+        (closer_spinning_row task.now.set.now task.now.i.0 there.now.processor q ∷ []) task.now.bounds.now taker.new) }
 {
     let is_spun_below = there.spun[q as usize];
     if there.leaves_out && there.lone[q as usize] {
@@ -76,7 +76,7 @@ fn add_closer<T: RowTaker>(
     }
     let resource = ResourceId(q);
     // the tasks of most processors use few of the resources
-    if !is_spun_below && !is_origin(known.origins, there.processor, resource) {
+    if !is_spun_below && !is_origin(task.origins, there.processor, resource) {
         return Ok(());
     }
     let row = CloserSpinningRow {
@@ -84,28 +84,35 @@ fn add_closer<T: RowTaker>(
         resource,
         is_spun_below,
     };
-    let limit = known.requests[q as usize] + one_if(known.below[q as usize]);
-    let all = (0, columns.len());
-    add_row_limited(alloc, taker, &row, set, i, bounds, columns, all, limit)
+    let limit = task.requests[q as usize] + one_if(task.below[q as usize]);
+    let all = (0, task.columns.len());
+    add_row_limited(
+        alloc,
+        taker,
+        &row,
+        task.set,
+        task.i,
+        task.bounds,
+        task.columns,
+        all,
+        limit,
+    )
 }
 
 /// The same of each resource.
 fn add_closer_there<T: RowTaker>(
     alloc: Global,
     taker: &mut T,
-    set: &TaskSet,
-    i: TaskId,
-    bounds: &[u64],
-    columns: &[Fragment],
-    known: Known<'_>,
+    task: &Analysed<'_>,
     there: &SpunThere,
 ) -> Result<(), AllocError>
-    requires { CanAddThere set.now i.0 bounds.now columns.now known there.now }
-    ensures { OnOk result (T.takes taker.old (map column_seen columns.now)
-        (per (length set.now.resources) (closer_spinning_row set.now i.0 there.now.processor)) bounds.now taker.new) }
+    requires { CanAddThere task.now there.now }
+    ensures { OnOk result (T.takes taker.old (map column_seen task.now.columns.now)
+        (per (length task.now.set.now.resources) (closer_spinning_row task.now.set.now task.now.i.0 there.now.processor))
+        task.now.bounds.now taker.new) }
 {
-    for q in 0..set.resources() {
-        add_closer(alloc, taker, set, i, bounds, columns, known, there, q)?;
+    for q in 0..task.set.resources() {
+        add_closer(alloc, taker, task, there, q)?;
     }
     Ok(())
 }
@@ -114,17 +121,14 @@ fn add_closer_there<T: RowTaker>(
 pub(crate) fn add_closer_rows<T: RowTaker>(
     alloc: Global,
     taker: &mut T,
-    set: &TaskSet,
-    i: TaskId,
-    bounds: &[u64],
-    columns: &[Fragment],
-    known: Known<'_>,
+    task: &Analysed<'_>,
 ) -> Result<(), AllocError>
-    requires { CanMakeRowsWith set.now i.0 bounds.now columns.now known }
-    ensures { OnOk result (T.takes taker.old (map column_seen columns.now) (closer_spinning_rows set.now i.0) bounds.now taker.new) }
+    requires { CanMakeRows task.now }
+    ensures { OnOk result (T.takes taker.old (map column_seen task.now.columns.now) (closer_spinning_rows task.now.set.now task.now.i.0)
+        task.now.bounds.now taker.new) }
 {
-    for there in known.everywhere {
-        add_closer_there(alloc, taker, set, i, bounds, columns, known, there)?;
+    for there in task.everywhere {
+        add_closer_there(alloc, taker, task, there)?;
     }
     Ok(())
 }
@@ -158,43 +162,45 @@ impl RowKind for TogetherRow {
 fn add_several<T: RowTaker>(
     alloc: Global,
     taker: &mut T,
-    set: &TaskSet,
-    i: TaskId,
-    bounds: &[u64],
-    columns: &[Fragment],
-    requests: &[u64],
+    task: &Analysed<'_>,
     row: &TogetherRow,
 ) -> Result<(), AllocError>
-    requires { CanAddSeveral set.now i.0 bounds.now columns.now requests.now row.now }
-    ensures { OnOk result (T.takes taker.old (map column_seen columns.now)
-        (row_together set.now i.0 row.now.processor row.now.group ∷ []) bounds.now taker.new) }
+    requires { CanAddSeveral task.now row.now }
+    ensures { OnOk result (T.takes taker.old (map column_seen task.now.columns.now)
+        (row_together task.now.set.now task.now.i.0 row.now.processor row.now.group ∷ []) task.now.bounds.now taker.new) }
 {
     // a set has at most 32 resources
-    let _resources = set.resources();
+    let _resources = task.set.resources();
     if how_many(&row.table) <= 1 {
         return Ok(());
     }
-    let limit = LOWER_REQUESTS + sum_passing(&row.table, requests);
-    let all = (0, columns.len());
-    add_row_limited(alloc, taker, row, set, i, bounds, columns, all, limit)
+    let limit = LOWER_REQUESTS + sum_passing(&row.table, task.requests);
+    let all = (0, task.columns.len());
+    add_row_limited(
+        alloc,
+        taker,
+        row,
+        task.set,
+        task.i,
+        task.bounds,
+        task.columns,
+        all,
+        limit,
+    )
 }
 
 /// Adds the row of the group behind those that the taker has, if its resources are several, and enough of them are used above.
 fn add_group<T: RowTaker>(
     alloc: Global,
     taker: &mut T,
-    set: &TaskSet,
-    i: TaskId,
-    bounds: &[u64],
-    columns: &[Fragment],
-    known: Known<'_>,
+    task: &Analysed<'_>,
     there: &SpunThere,
     group: Group,
 ) -> Result<(), AllocError>
-    requires there { CanAddThere set.now i.0 bounds.now columns.now known there.now }
-    requires group { HasGroup set.now group }
-    ensures { OnOk result (T.takes taker.old (map column_seen columns.now)
-        (row_together set.now i.0 there.now.processor group ∷ []) bounds.now taker.new) }
+    requires there { CanAddThere task.now there.now }
+    requires group { HasGroup task.now.set.now group }
+    ensures { OnOk result (T.takes taker.old (map column_seen task.now.columns.now)
+        (row_together task.now.set.now task.now.i.0 there.now.processor group ∷ []) task.now.bounds.now taker.new) }
 {
     if there.above < least_above(group) {
         return Ok(());
@@ -202,29 +208,25 @@ fn add_group<T: RowTaker>(
     let row = TogetherRow {
         processor: there.processor,
         group,
-        table: table_of(alloc, set, i, &InGroup { there, group })?,
+        table: table_of(alloc, task.set, task.i, &InGroup { there, group })?,
     };
-    add_several(alloc, taker, set, i, bounds, columns, known.requests, &row)
+    add_several(alloc, taker, task, &row)
 }
 
 /// Adds the row of each processor of a group that names no resource.
 pub(crate) fn add_groups<T: RowTaker>(
     alloc: Global,
     taker: &mut T,
-    set: &TaskSet,
-    i: TaskId,
-    bounds: &[u64],
-    columns: &[Fragment],
-    known: Known<'_>,
+    task: &Analysed<'_>,
     group: Group,
 ) -> Result<(), AllocError>
-    requires rows { CanMakeRowsWith set.now i.0 bounds.now columns.now known }
-    requires group { HasGroup set.now group }
-    ensures { OnOk result (T.takes taker.old (map column_seen columns.now)
-        (per set.now.processors (λ k. row_together set.now i.0 (k + 1) group)) bounds.now taker.new) }
+    requires rows { CanMakeRows task.now }
+    requires group { HasGroup task.now.set.now group }
+    ensures { OnOk result (T.takes taker.old (map column_seen task.now.columns.now)
+        (per task.now.set.now.processors (λ k. row_together task.now.set.now task.now.i.0 (k + 1) group)) task.now.bounds.now taker.new) }
 {
-    for there in known.everywhere {
-        add_group(alloc, taker, set, i, bounds, columns, known, there, group)?;
+    for there in task.everywhere {
+        add_group(alloc, taker, task, there, group)?;
     }
     Ok(())
 }
@@ -233,48 +235,39 @@ pub(crate) fn add_groups<T: RowTaker>(
 fn add_paired<T: RowTaker>(
     alloc: Global,
     taker: &mut T,
-    set: &TaskSet,
-    i: TaskId,
-    bounds: &[u64],
-    columns: &[Fragment],
-    known: Known<'_>,
+    task: &Analysed<'_>,
     there: &SpunThere,
     pairing: Pairing,
     q: u32,
 ) -> Result<(), AllocError>
-    requires there { CanAddThere set.now i.0 bounds.now columns.now known there.now }
-    requires resource { q < length set.now.resources }
-    ensures { OnOk result (T.takes taker.old (map column_seen columns.now)
-        (row_together set.now i.0 there.now.processor (paired pairing q) ∷ []) bounds.now taker.new) }
+    requires there { CanAddThere task.now there.now }
+    requires resource { q < length task.now.set.now.resources }
+    ensures { OnOk result (T.takes taker.old (map column_seen task.now.columns.now)
+        (row_together task.now.set.now task.now.i.0 there.now.processor (paired pairing q) ∷ []) task.now.bounds.now taker.new) }
 {
     // lower tasks spin for few resources
-    if !is_paired(set, i, there, pairing, q) {
+    if !is_paired(task.set, task.i, there, pairing, q) {
         return Ok(());
     }
     let group = paired(pairing, q);
-    add_group(alloc, taker, set, i, bounds, columns, known, there, group)
+    add_group(alloc, taker, task, there, group)
 }
 
 /// The same of each resource.
 fn add_pairs_there<T: RowTaker>(
     alloc: Global,
     taker: &mut T,
-    set: &TaskSet,
-    i: TaskId,
-    bounds: &[u64],
-    columns: &[Fragment],
-    known: Known<'_>,
+    task: &Analysed<'_>,
     there: &SpunThere,
     pairing: Pairing,
 ) -> Result<(), AllocError>
-    requires { CanAddThere set.now i.0 bounds.now columns.now known there.now }
-    ensures { OnOk result (T.takes taker.old (map column_seen columns.now)
-        (per (length set.now.resources) (λ q. row_together set.now i.0 there.now.processor (paired pairing q))) bounds.now taker.new) }
+    requires { CanAddThere task.now there.now }
+    ensures { OnOk result (T.takes taker.old (map column_seen task.now.columns.now)
+        (per (length task.now.set.now.resources) (λ q. row_together task.now.set.now task.now.i.0 there.now.processor (paired pairing q)))
+        task.now.bounds.now taker.new) }
 {
-    for q in 0..set.resources() {
-        add_paired(
-            alloc, taker, set, i, bounds, columns, known, there, pairing, q,
-        )?;
+    for q in 0..task.set.resources() {
+        add_paired(alloc, taker, task, there, pairing, q)?;
     }
     Ok(())
 }
@@ -283,20 +276,16 @@ fn add_pairs_there<T: RowTaker>(
 pub(crate) fn add_pairs<T: RowTaker>(
     alloc: Global,
     taker: &mut T,
-    set: &TaskSet,
-    i: TaskId,
-    bounds: &[u64],
-    columns: &[Fragment],
-    known: Known<'_>,
+    task: &Analysed<'_>,
     pairing: Pairing,
 ) -> Result<(), AllocError>
-    requires { CanMakeRowsWith set.now i.0 bounds.now columns.now known }
-    ensures { OnOk result (T.takes taker.old (map column_seen columns.now)
-        (per_pair set.now.processors (length set.now.resources) (λ k q. row_together set.now i.0 (k + 1) (paired pairing q)))
-        bounds.now taker.new) }
+    requires { CanMakeRows task.now }
+    ensures { OnOk result (T.takes taker.old (map column_seen task.now.columns.now)
+        (per_pair task.now.set.now.processors (length task.now.set.now.resources)
+        (λ k q. row_together task.now.set.now task.now.i.0 (k + 1) (paired pairing q))) task.now.bounds.now taker.new) }
 {
-    for there in known.everywhere {
-        add_pairs_there(alloc, taker, set, i, bounds, columns, known, there, pairing)?;
+    for there in task.everywhere {
+        add_pairs_there(alloc, taker, task, there, pairing)?;
     }
     Ok(())
 }

@@ -127,8 +127,8 @@ impl<'a> ResourceTest for Lone<'a> {
     }
 }
 
-/// Have all resources for which lower tasks may spin but it a row? The tables tell which of them are used above and which are lone. The other
-/// two say whether several but not many are used above, and whether they are many in all.
+/// Have all resources for which lower tasks may spin but it a row? The tables tell which of them are used above and which are lone. The
+/// other two say whether several but not many are used above, and whether they are many in all.
 #[derive(Drop)]
 pub(crate) struct SetApart<'a> {
     pub(crate) processor: u32,

@@ -6,11 +6,11 @@ use Rattle.closer_spin.proofs.programs.add_together_rows.Goals as goal
 
 pub returns : goal.returns
 returns g c =
-    let set = c.args.set.now in
-    let i = c.args.i.0 in
+    let set = c.args.task.now.set.now in
+    let i = c.args.task.now.i.0 in
     let m = length set.resources in
-    let bounds = c.args.bounds.now in
-    let seen = map column_seen c.args.columns.now in
+    let bounds = c.args.task.now.bounds.now in
+    let seen = map column_seen c.args.task.now.columns.now in
     let end = c.add_pairs-2.new.taker in
     let behind = g.met.T.RowTaker.behind in
     let all = per set.processors (λ k. lower_spinning_row set i (k + 1)) in

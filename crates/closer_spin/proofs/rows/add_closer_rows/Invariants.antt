@@ -5,5 +5,6 @@ use Rattle.closer_spin_laws.specs.CloserSpinRows.{closer_spinning_row}
 use Rattle.closer_spin.proofs.rows.add_closer_rows.Given as goal
 
 abbrev pub invariant-loop-there : goal.invariant-loop-there
-invariant-loop-there g l = g.T.RowTaker.takes l.initial.taker (map column_seen l.columns)
-    (per_pair l.there-index (length l.set.resources) (λ k q. closer_spinning_row l.set l.i.0 (k + 1) q)) l.bounds l.taker
+invariant-loop-there g l = g.T.RowTaker.takes l.initial.taker (map column_seen l.task.columns.now)
+    (per_pair l.there-index (length l.task.set.now.resources) (λ k q. closer_spinning_row l.task.set.now l.task.i.0 (k + 1) q))
+    l.task.bounds.now l.taker

@@ -5,5 +5,5 @@ use Rattle.closer_spin_laws.specs.CloserSpinRows.{closer_spinning_row}
 use Rattle.closer_spin.proofs.rows.add_closer_there.Given as goal
 
 abbrev pub invariant-loop-q : goal.invariant-loop-q
-invariant-loop-q g l = g.T.RowTaker.takes l.initial.taker (map column_seen l.columns)
-    (per l.q (closer_spinning_row l.set l.i.0 l.there.processor)) l.bounds l.taker
+invariant-loop-q g l = g.T.RowTaker.takes l.initial.taker (map column_seen l.task.columns.now)
+    (per l.q (closer_spinning_row l.task.set.now l.task.i.0 l.there.processor)) l.task.bounds.now l.taker

@@ -9,11 +9,11 @@ use Rattle.closer_spin.proofs.rows.add_group.Goals as goal
 
 pub returns-then-there-least_above : goal.returns-then-there-least_above
 returns-then-there-least_above g c =
-    let set = c.args.set.now in
-    let i = c.args.i.0 in
+    let set = c.args.task.now.set.now in
+    let i = c.args.task.now.i.0 in
     let k = c.args.there.now.processor in
     let group = c.args.group in
-    let cs = map column_seen c.args.columns.now in
+    let cs = map column_seen c.args.task.now.columns.now in
     let test = taken_together set i k group in
     let enough : nat_le (least_above group) (used_above set i k) ≡ false =
     elim (cases_Bool (nat_le (least_above group) (used_above set i k))) [
@@ -26,5 +26,5 @@ returns-then-there-least_above g c =
       ))
       | inr few ↦ few
     ] in
-    g.met.T.RowTaker.missing c.args.taker.now cs (row_together set i k group) c.args.bounds.now
+    g.met.T.RowTaker.missing c.args.taker.now cs (row_together set i k group) c.args.task.now.bounds.now
     (together_missing set i k (least_above group) test cs (too_few (nat_lt 1 (count_below (length set.resources) test)) _ enough))

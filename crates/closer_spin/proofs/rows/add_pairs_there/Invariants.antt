@@ -5,5 +5,5 @@ use Rattle.closer_spin.specs.Together.{row_together, paired}
 use Rattle.closer_spin.proofs.rows.add_pairs_there.Given as goal
 
 abbrev pub invariant-loop-q : goal.invariant-loop-q
-invariant-loop-q g l = g.T.RowTaker.takes l.initial.taker (map column_seen l.columns)
-    (per l.q (λ q. row_together l.set l.i.0 l.there.processor (paired l.pairing q))) l.bounds l.taker
+invariant-loop-q g l = g.T.RowTaker.takes l.initial.taker (map column_seen l.task.columns.now)
+    (per l.q (λ q. row_together l.task.set.now l.task.i.0 l.there.processor (paired l.pairing q))) l.task.bounds.now l.taker
