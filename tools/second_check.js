@@ -546,8 +546,8 @@ var SecondCheck = (function () {
     }
 
     const is_open = (column) => column.way !== PREEMPTION;
-    // If lower tasks may spin for more resources, "spin-c" has no rows that leave a lone one out, and several lone ones have none of their own. If
-    // more of these are used above, no row leaves out one of those.
+    // If lower tasks may spin for more resources, "spin-c" has no row that leaves out just a lone one, and several lone ones have no row of closer
+    // spinning each. If more of these are used above, it has no row that leaves out just one of those.
     const MANY = 10;
 
     // Each kind of row: which row a column stands in, if any, or which ones, how often where that isn't once, and the limit of that row.

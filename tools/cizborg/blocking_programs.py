@@ -14,8 +14,8 @@ from .protocols import AT_HOMES, PROTOCOLS
 Bounds = Sequence[int]
 # a row: the columns that it has, each with its coefficient
 Row = list[tuple[int, int]]
-# if lower tasks may spin for more resources, the closer analysis of spin locks has no rows that leave a lone one out, and several lone ones have none
-# of their own; and if more of these are used above, it has no rows that leave one of those out
+# if lower tasks may spin for more resources, the closer analysis of spin locks has no row that leaves out just a lone one, and several lone ones have
+# no row of closer spinning each; and if more of these are used above, it has no row that leaves out just one of those
 MANY = 10
 
 
@@ -418,9 +418,15 @@ class Shape:
         """Of a processor and a resource: the same of the others of these. If it is used above, two or more of these are, and not many. If it isn't,
         these aren't many."""
         for k in self.processors:
-            spun, above = self.spun_below(k), self.spun_above(k)
-            for q in [q for q in spun if (1 < len(above) <= MANY if q in above else len(spun) <= MANY)]:
-                self.add_together(k, [r for r in spun if r != q])
+            spun = self.spun_below(k)
+            for q in spun:
+                if self.is_set_apart(k, q):
+                    self.add_together(k, [r for r in spun if r != q])
+
+    def is_set_apart(self, k: int, q: int) -> bool:
+        """Has a row all that lower local tasks spin for on k but this one of them?"""
+        above = self.spun_above(k)
+        return 1 < len(above) <= MANY if q in above else len(self.spun_below(k)) <= MANY
 
     def add_lone_lower_spinning_with(self) -> None:
         """Of a processor and a resource that is used above: the same of it and of those that aren't, where three or more are used above."""

@@ -15,8 +15,8 @@ def only_below(names):
 
 
 def used_above(number):
-    """A set in which the higher task of processor 1 uses so many resources, and the lower one of these and another one. On the other processor requests
-    of the first resource are short, and there are two of the next two each."""
+    """A set in which the higher task of processor 1 uses so many resources, and the lower one uses these and another one. On the other processor
+    requests of the first resource are short, and there are two of each of the next two."""
     names = [f"q{place}" for place in range(1, number + 2)]
     there = [("q1", 1), ("q2", 10, 2), ("q3", 10, 2), *((name, 10) for name in names[3:])]
     tasks = (task("t1", 1, 900, 2 * number, *((name, 1) for name in names[:-1])), task("t2", 1, 1000, 26, *((name, 1) for name in names)))
